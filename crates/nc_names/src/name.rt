@@ -1,0 +1,55 @@
+//! Qualified names of XML and YANG, prefix bindings, and what a module is known by.
+ghost use Rattle.std.specs.Prelude.{◌≡◌, ◌↔◌, IsTrue, IfOk};
+
+use crate::{Copies, Many, Memory, Text};
+
+/// A qualified name: a namespace and a local name (Namespaces in XML 1.0, 2.1; RFC 7950 5.3). An
+/// empty `space` is no namespace.
+#[derive(PartialEq, Eq, Hash, Debug, Drop)]
+pub struct QName {
+    pub space: Text,
+    pub name: Text,
+}
+
+impl Copies for QName {
+    fn copy(&self) -> Result<QName, Memory> {
+        Ok(QName {
+            space: self.space.copy()?,
+            name: self.name.copy()?,
+        })
+    }
+}
+
+/// Whether two names are the same: the same namespace and the same local name.
+pub fn same_name(a: &QName, b: &QName) -> bool
+    ensures { IsTrue result ↔ (a.now ≡ b.now) }
+{
+    a == b
+}
+
+/// A prefix that stands for a namespace (Namespaces in XML 1.0, 3). An empty prefix is the default
+/// namespace.
+#[derive(PartialEq, Eq, Hash, Debug, Drop)]
+pub struct Bound {
+    pub prefix: Text,
+    pub space: Text,
+}
+
+impl Copies for Bound {
+    fn copy(&self) -> Result<Bound, Memory> {
+        Ok(Bound {
+            prefix: self.prefix.copy()?,
+            space: self.space.copy()?,
+        })
+    }
+}
+
+/// What the hello says of a module (RFC 6020 5.6.4): its name, its namespace, its revision date, or
+/// an empty text where it has none, and the names of its features that are on.
+#[derive(PartialEq, Eq, Debug, Drop)]
+pub struct Module {
+    pub name: Text,
+    pub space: Text,
+    pub revision: Text,
+    pub features: Many<Text>,
+}

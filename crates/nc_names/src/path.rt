@@ -1,0 +1,73 @@
+//! Paths to data nodes, rows of a configuration, rights, and places among siblings.
+use crate::{Copies, Many, Memory, Text};
+
+/// One step of a path: the number of a data node, and the canonical keys of a list entry in the
+/// order of the list's `key` statement, or the one canonical value of a leaf-list entry. It has no
+/// keys at every other node, and where a path names a list or leaf-list without an entry.
+#[derive(PartialEq, Eq, Hash, Debug, Drop)]
+pub struct Step {
+    pub node: u32,
+    pub keys: Many<Text>,
+}
+
+impl Copies for Step {
+    fn copy(&self) -> Result<Step, Memory> {
+        Ok(Step {
+            node: self.node,
+            keys: self.keys.copy()?,
+        })
+    }
+}
+
+/// A path to a node of a data tree: one step for each data node from the top, containers included
+/// (RFC 7950 9.13).
+#[derive(PartialEq, Eq, Hash, Debug, Drop)]
+pub struct Path {
+    pub steps: Many<Step>,
+}
+
+impl Copies for Path {
+    fn copy(&self) -> Result<Path, Memory> {
+        Ok(Path {
+            steps: self.steps.copy()?,
+        })
+    }
+}
+
+/// A row of a configuration: a path and, at a leaf or a leaf-list entry, its canonical text.
+#[derive(PartialEq, Eq, Hash, Debug, Drop)]
+pub struct Row {
+    pub path: Path,
+    pub value: Option<Text>,
+}
+
+impl Copies for Row {
+    fn copy(&self) -> Result<Row, Memory> {
+        Ok(Row {
+            path: self.path.copy()?,
+            value: self.value.copy()?,
+        })
+    }
+}
+
+/// An access operation that a rule permits or denies (RFC 8341 3.2.2).
+#[derive(Clone, Copy, PartialEq, Eq, Hash, Debug)]
+pub enum Right {
+    Read,
+    Create,
+    Update,
+    Delete,
+    Exec,
+}
+
+/// Where an edit puts an entry of a list or leaf-list that the user orders (RFC 7950 7.7.9, 7.8.6).
+/// An anchor is named by its canonical keys, or by its one canonical value.
+#[derive(PartialEq, Eq, Debug, Drop)]
+pub enum Place {
+    /// Without `insert`: a new entry goes last, and an existing one keeps its place.
+    Kept,
+    First,
+    Last,
+    Before(Many<Text>),
+    After(Many<Text>),
+}

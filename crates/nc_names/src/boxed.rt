@@ -1,7 +1,7 @@
 //! A value on the heap that contracts see as the value.
 ghost use Rattle.std.specs.Prelude.{◌≡◌, IfOk};
 
-use crate::Memory;
+use crate::{Copies, Memory};
 use std::alloc::Global;
 use std::marker::Model;
 
@@ -28,6 +28,11 @@ impl<T> Boxed<T> {
         &self.inner
     }
 
+    /// The allocator that holds it.
+    pub fn alloc(&self) -> Global {
+        *Box::allocator(&self.inner)
+    }
+
     /// Gives back what it holds.
     pub fn into_inner(self) -> T
         ensures { result ≡ self }
@@ -45,6 +50,12 @@ impl<T: Drop> Boxed<T> {
         Ok(Boxed {
             inner: Box::new(alloc, value)?,
         })
+    }
+}
+
+impl<T: Copies> Copies for Boxed<T> {
+    fn copy(&self) -> Result<Boxed<T>, Memory> {
+        Boxed::new(self.alloc(), self.get().copy()?)
     }
 }
 

@@ -56,6 +56,11 @@ impl Bytes {
         })
     }
 
+    /// The allocator with which the bytes grow.
+    pub fn alloc(&self) -> Global {
+        *self.items.allocator()
+    }
+
     /// How many bytes there are.
     pub fn len(&self) -> usize
         ensures { result ≡ length self.now }

@@ -54,6 +54,11 @@ impl<T> Many<T> {
         items
     }
 
+    /// The allocator with which the list grows.
+    pub fn alloc(&self) -> Global {
+        *self.items.allocator()
+    }
+
     /// How many elements there are.
     pub fn len(&self) -> usize
         ensures { result ≡ length self.now }

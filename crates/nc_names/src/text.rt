@@ -59,6 +59,11 @@ impl Text {
         chars
     }
 
+    /// The allocator with which the text grows.
+    pub fn alloc(&self) -> Global {
+        *self.chars.allocator()
+    }
+
     /// How many bytes the text has.
     pub fn len(&self) -> usize
         ensures { result ≡ length self.now }

@@ -1,0 +1,3 @@
+pub mod Appends
+pub mod Marks
+pub mod Written

@@ -1,0 +1,12 @@
+//! Messages as trees of XML elements, and the one text that the server writes for a tree (XML 1.0,
+//! Namespaces in XML 1.0, RFC 6241 3).
+#![tactic(auto)]
+
+mod escape;
+mod marks;
+mod start;
+mod tree;
+mod writer;
+
+pub use tree::{Attr, Elem, Part, Tree, Why};
+pub use writer::write;

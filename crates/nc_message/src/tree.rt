@@ -1,0 +1,98 @@
+//! A message as a tree of elements.
+ghost use Rattle.std.specs.Prelude.{◌≡◌, IfOk, take};
+
+use nc_names::{Bound, Boxed, Copies, Many, Memory, QName, Text};
+
+/// An attribute (XML 1.0, 3.1): its name, the prefix that it is written with, which is empty where
+/// it has no namespace, and its value.
+#[derive(PartialEq, Eq, Debug, Drop)]
+pub struct Attr {
+    pub name: QName,
+    pub prefix: Text,
+    pub value: Text,
+}
+
+impl Copies for Attr {
+    fn copy(&self) -> Result<Attr, Memory> {
+        Ok(Attr {
+            name: self.name.copy()?,
+            prefix: self.prefix.copy()?,
+            value: self.value.copy()?,
+        })
+    }
+}
+
+/// An element (XML 1.0, 3): its name, the prefix bindings in force in it, the default namespace
+/// among them with an empty prefix, its attributes without namespace declarations, and its content.
+#[cycle(elem)]
+#[derive(PartialEq, Eq, Debug, Drop)]
+pub struct Elem {
+    pub name: QName,
+    pub bounds: Many<Bound>,
+    pub attrs: Many<Attr>,
+    pub parts: Many<Part>,
+}
+
+/// A part of an element's content: a child element, or text.
+#[cycle(elem)]
+#[derive(PartialEq, Eq, Debug, Drop)]
+pub enum Part {
+    Child(Boxed<Elem>),
+    Chars(Text),
+}
+
+/// A whole message: its root element.
+#[derive(PartialEq, Eq, Debug, Drop)]
+pub struct Tree {
+    pub root: Elem,
+}
+
+/// Why bytes are no message.
+#[derive(Clone, Copy, PartialEq, Eq, Debug)]
+pub enum Why {
+    /// The bytes are not UTF-8.
+    NotUtf8,
+    /// The bytes break a rule of XML 1.0 or of Namespaces in XML 1.0.
+    NotWellFormed,
+    /// A prefix stands for no namespace.
+    UnboundPrefix,
+    /// The message has a document type declaration.
+    Doctype,
+    /// More than 64 elements stand inside one another.
+    Depth,
+}
+
+impl Copies for Elem {
+    fn copy(&self) -> Result<Elem, Memory> {
+        copy_elem(self)
+    }
+}
+
+#[cycle(copy)]
+fn copy_elem(elem: &Elem) -> Result<Elem, Memory>
+    ensures { IfOk result (λ it. it ≡ elem.now) }
+{
+    let name = elem.name.copy()?;
+    let bounds = elem.bounds.copy()?;
+    let attrs = elem.attrs.copy()?;
+    let mut parts = Many::new(elem.parts.alloc());
+    for part in elem.parts.as_slice() {
+        parts.push(copy_part(part)?)?;
+    }
+    Ok(Elem {
+        name,
+        bounds,
+        attrs,
+        parts,
+    })
+}
+
+#[cycle(copy)]
+fn copy_part(part: &Part) -> Result<Part, Memory>
+    ensures { IfOk result (λ it. it ≡ part.now) }
+{
+    match part {
+        Part::Child(elem) => Ok(Part::Child(Boxed::new(elem.alloc(), copy_elem(elem.get())?)?)),
+        Part::Chars(text) => Ok(Part::Chars(text.copy()?)),
+    }
+}

@@ -1,0 +1,60 @@
+//! The text of a tree.
+#![tactic(auto, using(crate::proofs::Extending::extends_self, crate::proofs::Extending::extends_more))]
+
+ghost use Rattle.std.specs.Prelude.{◌≡◌, ◌++◌, OnOk, OnErr};
+ghost use Rattle.nc_message.specs.Appends.{Appends};
+ghost use Rattle.nc_message.specs.Written.{end_of, written_part, written_elem, written};
+
+use crate::escape::push_text;
+use crate::start::push_start;
+use crate::{Elem, Part, Tree, marks};
+use nc_names::{Bytes, Memory};
+
+/// Appends the text of a message: with no declaration and no white space added, each element in
+/// its default namespace, and the prefixes that its attributes or its text use declared on it. It
+/// is XML of which the tree is the reading (XML 1.0, 2.1; Namespaces in XML 1.0, 3), where the
+/// tree's names and characters are allowed.
+pub fn write(tree: &Tree, out: &mut Bytes) -> Result<(), Memory>
+    ensures ok { OnOk result (out.new ≡ out.old ++ written tree.now) }
+    ensures err { OnErr result (out.new ≡ out.old) }
+{
+    let before = out.len();
+    let result = write_elem("", &tree.root, out);
+    if result.is_err() {
+        out.truncate(before);
+    }
+    result
+}
+
+#[cycle(write)]
+fn write_elem(above: &str, elem: &Elem, out: &mut Bytes) -> Result<(), Memory>
+    ensures { Appends result out.old out.new (written_elem above.now elem.now) }
+{
+    push_start(above, elem, out)?;
+    if elem.parts.is_empty() {
+        return out.push_slice(marks::empty_end());
+    }
+    out.push(b'>')?;
+    for part in elem.parts.as_slice() {
+        write_part(elem.name.space.as_str(), part, out)?;
+    }
+    push_end(elem, out)
+}
+
+#[cycle(write)]
+fn write_part(space: &str, part: &Part, out: &mut Bytes) -> Result<(), Memory>
+    ensures { Appends result out.old out.new (written_part space.now part.now) }
+{
+    match part {
+        Part::Child(elem) => write_elem(space, elem.get(), out),
+        Part::Chars(text) => push_text(text.as_str(), out),
+    }
+}
+
+fn push_end(elem: &Elem, out: &mut Bytes) -> Result<(), Memory>
+    ensures { Appends result out.old out.new (end_of elem.now.name) }
+{
+    out.push_slice(marks::end_tag())?;
+    out.push_slice(elem.name.name.as_str().as_bytes())?;
+    out.push(b'>')
+}

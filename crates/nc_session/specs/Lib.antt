@@ -1,0 +1,9 @@
+pub mod Asked
+pub mod Hello
+pub mod Reading
+pub mod Reply
+pub mod Searched
+pub mod Sending
+pub mod Session
+pub mod Waiting
+pub mod Words

@@ -1,0 +1,64 @@
+//! Messages, read piece by piece.
+ghost use Rattle.std.specs.Prelude.{◌≡◌, ◌<◌, ◌≤◌, ◌+◌, ◌^◌, ◌-◌, length, take, min, Err};
+ghost use Rattle.nc_outside.specs.Causes.{Rose};
+ghost use Rattle.nc_session.specs.Reading.{ReadsPiece, ReadsMessage, capped};
+ghost use Rattle.nc_session.specs.declared.end.SessionEnd.TheVariants.{ReadFault};
+
+use crate::SessionEnd;
+use crate::inbox::Inbox;
+use crate::limits::MESSAGE_LIMIT;
+use nc_outside::Source;
+
+/// The first bytes of a buffer.
+fn front(bytes: &[u8], len: usize) -> &[u8]
+    requires { len ≤ length bytes.now }
+    ensures { result.now ≡ take len bytes.now }
+{
+    bytes.split_at(len).0
+}
+
+/// Reads one piece into the inbox: at least one byte, or the end of input.
+fn read_piece<S: Source>(source: &mut S, inbox: &mut Inbox, buffer: &mut [u8]) -> Result<(), SessionEnd>
+    requires { 0 < length buffer.old }
+    ensures piece { ReadsPiece inbox.old inbox.new (S.left source.old) (S.left source.new) result }
+    ensures later { S.faults source.old ≤ S.faults source.new }
+    ensures fault { result ≡ Err ReadFault → Rose (S.faults source.old) (S.faults source.new) }
+{
+    let Ok(len) = source.read(buffer) else {
+        return Err(SessionEnd::ReadFault);
+    };
+    if len == 0 {
+        return Err(SessionEnd::InputEnded);
+    }
+    inbox.feed(front(buffer, len))?;
+    Ok(())
+}
+
+fn too_big(inbox: &Inbox) -> SessionEnd
+    ensures { result ≡ SessionEnd.TooBig (capped (inbox.now.place + MESSAGE_LIMIT)) }
+{
+    SessionEnd::TooBig {
+        at: inbox.place().saturating_add(MESSAGE_LIMIT as u64),
+    }
+}
+
+/// Reads until a whole message waits, and gives its length.
+pub(crate) fn next_message<S: Source>(source: &mut S, inbox: &mut Inbox, buffer: &mut [u8]) -> Result<usize, SessionEnd>
+    requires { 0 < length buffer.old }
+    ensures message { ReadsMessage inbox.old inbox.new (S.left source.old) (S.left source.new) result }
+    ensures later { S.faults source.old ≤ S.faults source.new }
+    ensures fault { result ≡ Err ReadFault → Rose (S.faults source.old) (S.faults source.new) }
+{
+    loop {
+        if let Some(len) = inbox.find() {
+            if len > MESSAGE_LIMIT {
+                return Err(too_big(inbox));
+            }
+            return Ok(len);
+        }
+        if inbox.len() >= MESSAGE_LIMIT + 6 {
+            return Err(too_big(inbox));
+        }
+        read_piece(source, inbox, buffer)?;
+    }
+}

@@ -1,0 +1,66 @@
+//! Replies, and how they are sent.
+ghost use Rattle.std.specs.Prelude.{◌≡◌, ◌++◌, ◌≤◌, IfOk, OnOk, IfErr, MatchResult};
+ghost use Rattle.std.specs.Io.KnownBytes.{append_known};
+ghost use Rattle.nc_names.specs.Mark.{with_mark};
+ghost use Rattle.nc_message.specs.Written.{written};
+ghost use Rattle.nc_message.specs.declared.tree.Part.TheVariants.{Child};
+ghost use Rattle.nc_outside.specs.Causes.{TookPart};
+ghost use Rattle.nc_session.specs.Reply.{answer_elem, reply_tree};
+ghost use Rattle.nc_session.specs.Sending.{Sends, IsSendFault};
+
+use crate::SessionEnd;
+use crate::ask::{Asked, Operation};
+use crate::elems::{base_name, base_part, one_part};
+use crate::inbox::MARK;
+use crate::words;
+use nc_message::{Elem, Part, Tree, write};
+use nc_names::{Bytes, Many, Memory};
+use nc_outside::{Sink, write_all};
+use std::alloc::Global;
+
+/// What a reply holds: the data of running, which is empty, or `ok`.
+fn answer_part(alloc: Global, operation: Operation) -> Result<Part, Memory>
+    ensures { IfOk result (λ it. it ≡ Child (answer_elem operation)) }
+{
+    match operation {
+        Operation::GetConfig => base_part(alloc, words::data_name(), Many::new(alloc)),
+        Operation::CloseSession => base_part(alloc, words::ok_name(), Many::new(alloc)),
+    }
+}
+
+/// The reply to a request.
+pub(crate) fn reply_message(alloc: Global, asked: Asked) -> Result<Tree, Memory>
+    ensures { IfOk result (λ it. it ≡ reply_tree asked) }
+{
+    let part = answer_part(alloc, asked.operation)?;
+    Ok(Tree {
+        root: Elem {
+            name: base_name(alloc, words::reply_name())?,
+            bounds: Many::new(alloc),
+            attrs: asked.attributes,
+            parts: one_part(alloc, part)?,
+        },
+    })
+}
+
+/// Puts the text of a message and the mark behind it into `out`, in place of what it held.
+fn frame(tree: &Tree, out: &mut Bytes) -> Result<(), Memory>
+    ensures { OnOk result (out.new ≡ with_mark (written tree.now)) }
+{
+    out.clear();
+    write(tree, out)?;
+    out.push_slice(&MARK)
+}
+
+/// Writes a message and its mark. `out` is a place to work in.
+pub(crate) fn send<K: Sink>(tree: &Tree, out: &mut Bytes, sink: &mut K) -> Result<(), SessionEnd>
+    ensures sent { Sends (K.taken sink.old) (K.taken sink.new) (with_mark (written tree.now)) result }
+    ensures fault { IfErr result (IsSendFault (K.faults sink.old) (K.faults sink.new)) }
+    ensures later { K.faults sink.old ≤ K.faults sink.new }
+{
+    frame(tree, out)?;
+    if write_all(sink, out.as_slice()).is_err() {
+        return Err(SessionEnd::WriteFault);
+    }
+    Ok(())
+}

@@ -1,6 +1,4 @@
 //! Each call once with ample memory, and adapters over std's streams, which tell no bytes.
-ghost use Rattle.std.specs.Prelude.{IfOk, ◌≡◌, length};
-
 use crate::{
     Failed, FileFault, Files, MemFiles, MemSink, MemSource, NamedFile, Sink, Source, write_all,
 };

@@ -1,3 +1,3 @@
 pub mod Known
 pub mod Counts
-mod Listing
+pub mod Listing

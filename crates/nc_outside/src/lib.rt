@@ -19,3 +19,6 @@ pub use fault::{Failed, FileFault};
 pub use files::{Files, MemFiles, NamedFile};
 pub use sink::{MemSink, Sink, write_all};
 pub use source::{MemSource, Source};
+
+#[cfg(test)]
+mod tests;

@@ -1,9 +1,9 @@
 -- Where the mark stands, and what that says of the bytes round it.
-use Rattle.std.proofs.Common.{◌≡◌, ℕ, ◌+◌, ◌-◌, ◌<◌, ◌≤◌, max, List, [], ◌∷◌, ◌++◌, length, take, drop, get_or, refl, sym, ap, subst, ◌∙◌, append_assoc, arith, ⊎_elim, length-append, length-drop, take-append-drop, Option, Some, None}
+use Rattle.std.proofs.Common.{◌≡◌, ℕ, ◌+◌, ◌-◌, ◌<◌, ◌≤◌, max, List, ◌++◌, length, take, drop, get_or, sym, ap, subst, ◌∙◌, append_assoc, arith, ⊎_elim, length-append, length-drop, take-append-drop}
 use Rattle.std.proofs.Common.{get_or-drop}
 use Rattle.std.proofs.lemmas.List.{get_or-append-add, get_or_append_left, length-take-le, nil_from_length}
 use Rattle.std.proofs.lemmas.Bool.{cases_lt}
-use Rattle.memchr.specs.Find.{OccursAt, Nowhere, NoneBefore, IsFirst}
+use Rattle.memchr.specs.Find.{OccursAt, Nowhere, NoneBefore}
 use Rattle.memchr.proofs.lemmas.MatchLemmas.{OccursAt-split}
 use Rattle.nc_names.specs.Mark.{mark, HasNoMark, IsMarked, with_mark}
 
@@ -46,20 +46,21 @@ front_occurs hay more k h = record {
 
 -- the bytes up to the first mark are a message with its mark
 pub first_message : (bytes : List ℕ) (n : ℕ) → OccursAt bytes mark n → Nowhere (OccursAt bytes mark) 0 n
-  → IsMarked (take n bytes) × (bytes ≡ with_mark (take n bytes) ++ drop (n + 6) bytes)
+    → IsMarked (take n bytes) × (bytes ≡ with_mark (take n bytes) ++ drop (n + 6) bytes)
 first_message bytes n here none =
     let message = take n bytes in
     let rest = drop (n + 6) bytes in
     let fits = here.fits in
     let size : length message ≡ n = length-take-le n bytes (omega arith) in
-    let whole : bytes ≡ with_mark message ++ rest = parts_at bytes n here ∙ sym (append_assoc message mark rest) in
-    (λ before after e.
-      let all : length before + (6 + length after) ≡ n + 6 =
-        omega (arith, ap length e, length-append before (mark ++ after), length-append mark after, length-append message mark, size) in
-      let P : List ℕ → Type 0 = λ b. OccursAt b mark (length before) in
-      let there : OccursAt bytes mark (length before) = subst P (sym whole) (front_occurs (with_mark message) rest (length before) (occurs_behind (with_mark message) before after e)) in
-      ⊎_elim (λ early. absurd (none (length before) (omega arith) early there)) (λ late. nil_from_length after (omega arith)) (cases_lt (length before) n),
-    whole)
+    let whole : bytes ≡ with_mark message ++ rest = parts_at bytes n here ∙ sym (append_assoc message mark rest) in (
+      λ before after e.
+          let all : length before + (6 + length after) ≡ n + 6 =
+          omega (arith, ap length e, length-append before (mark ++ after), length-append mark after, length-append message mark, size) in
+          let P : List ℕ → Type 0 = λ b. OccursAt b mark (length before) in
+          let there : OccursAt bytes mark (length before) = subst P (sym whole) (front_occurs (with_mark message) rest (length before) (occurs_behind (with_mark message) before after e)) in
+          ⊎_elim (λ early. absurd (none (length before) (omega arith) early there)) (λ late. nil_from_length after (omega arith)) (cases_lt (length before) n),
+      whole,
+    )
 
 -- no mark stands anywhere in the bytes
 pub no_mark : (bytes : List ℕ) → Nowhere (OccursAt bytes mark) 0 (length bytes + 1) → HasNoMark bytes
@@ -72,27 +73,27 @@ no_mark bytes none before after e =
 -- bytes, of which those from `start` on wait.
 module _ (bytes : List ℕ) (start searched : ℕ) (none : Nowhere (OccursAt bytes mark) start searched) (order : start ≤ searched) where
   pub found : (at n : ℕ) → n ≡ searched + at - start → NoneBefore (OccursAt (drop searched bytes) mark) 0 (length (drop searched bytes) + 1) at
-    → OccursAt (drop searched bytes) mark at
-    → IsMarked (take n (drop start bytes)) × (drop start bytes ≡ with_mark (take n (drop start bytes)) ++ drop (n + 6) (drop start bytes))
+      → OccursAt (drop searched bytes) mark at
+      → IsMarked (take n (drop start bytes)) × (drop start bytes ≡ with_mark (take n (drop start bytes)) ++ drop (n + 6) (drop start bytes))
   found at n e before here =
       let there : OccursAt (drop start bytes) mark n = drop_occurs bytes start n (let P : ℕ → Type 0 = λ i. OccursAt bytes mark i in
-        let same : searched + at ≡ start + n = omega arith in subst P same (occurs_drop bytes searched at here)) in
+      let same : searched + at ≡ start + n = omega arith in subst P same (occurs_drop bytes searched at here)) in
       first_message (drop start bytes) n there (λ k low high occ.
-        let at_k = occurs_drop bytes start k occ in
-        ⊎_elim (λ early. none (start + k) (omega arith) early at_k)
-          (λ late. let same : start + k ≡ searched + (start + k - searched) = omega arith in
-            let P : ℕ → Type 0 = λ i. OccursAt bytes mark i in
-            before.before (start + k - searched) (omega arith) (omega arith) (drop_occurs bytes searched (start + k - searched) (subst P same at_k)))
-          (cases_lt (start + k) searched))
+      let at_k = occurs_drop bytes start k occ in
+      ⊎_elim (λ early. none (start + k) (omega arith) early at_k)
+      (λ late. let same : start + k ≡ searched + (start + k - searched) = omega arith in
+      let P : ℕ → Type 0 = λ i. OccursAt bytes mark i in
+      before.before (start + k - searched) (omega arith) (omega arith) (drop_occurs bytes searched (start + k - searched) (subst P same at_k)))
+      (cases_lt (start + k) searched))
 
   pub missed : Nowhere (OccursAt (drop searched bytes) mark) 0 (length (drop searched bytes) + 1) → Nowhere (OccursAt bytes mark) start (length bytes + 1)
   missed rest k low high occ =
       let fits = occ.fits in
       ⊎_elim (λ early. none k low early occ)
-        (λ late. let same : k ≡ searched + (k - searched) = omega arith in
-          let P : ℕ → Type 0 = λ i. OccursAt bytes mark i in
-          rest (k - searched) (omega arith) (omega (arith, length-drop searched bytes)) (drop_occurs bytes searched (k - searched) (subst P same occ)))
-        (cases_lt k searched)
+      (λ late. let same : k ≡ searched + (k - searched) = omega arith in
+      let P : ℕ → Type 0 = λ i. OccursAt bytes mark i in
+      rest (k - searched) (omega arith) (omega (arith, length-drop searched bytes)) (drop_occurs bytes searched (k - searched) (subst P same occ)))
+      (cases_lt k searched)
 
   pub unfound : Nowhere (OccursAt (drop searched bytes) mark) 0 (length (drop searched bytes) + 1) → HasNoMark (drop start bytes)
   unfound rest = no_mark (drop start bytes) (λ k low high occ.
@@ -102,7 +103,7 @@ module _ (bytes : List ℕ) (start searched : ℕ) (none : Nowhere (OccursAt byt
 
 -- Some bytes in front are dropped, and some are put behind the rest.
 module _ (bytes new : List ℕ) (start searched : ℕ) (none : Nowhere (OccursAt bytes mark) start searched)
-  (settled : searched ≤ max start (length bytes - 5)) (more : List ℕ) (new_is : new ≡ drop start bytes ++ more) where
+    (settled : searched ≤ max start (length bytes - 5)) (more : List ℕ) (new_is : new ≡ drop start bytes ++ more) where
   pub moved : Nowhere (OccursAt new mark) 0 (searched - start)
   moved k low high occ =
       let N : List ℕ → Type 0 = λ b. OccursAt b mark k in

@@ -10,7 +10,7 @@ use Rattle.nc_session.specs.Words.{message_id_name, sample_hello, sample_get, sa
 
 -- a message-id alone, without a namespace
 abbrev pub message_id_only : List ℕ → List Attr
-message_id_only value = record { name = record { space = []; name = message_id_name; }; prefix = []; value = value; } ∷ []
+message_id_only value = record { name = record { space = []; name = message_id_name }; prefix = []; value = value } ∷ []
 
 -- what the first message lacks
 abbrev pub hello_fault : List ℕ → Option HelloFault
@@ -19,6 +19,6 @@ hello_fault message = if bytes_eq message sample_hello then None else Some NotRe
 -- what a later message asks for
 abbrev pub asked : List ℕ → Option Asked
 asked message =
-    if bytes_eq message sample_get then Some (record { attributes = message_id_only (49 ∷ []); operation = GetConfig; })
-    else (if bytes_eq message sample_close then Some (record { attributes = message_id_only (50 ∷ []); operation = CloseSession; })
-      else None)
+    if bytes_eq message sample_get then Some (record { attributes = message_id_only (49 ∷ []); operation = GetConfig })
+    else (if bytes_eq message sample_close then Some (record { attributes = message_id_only (50 ∷ []); operation = CloseSession })
+    else None)

@@ -11,7 +11,7 @@ use Rattle.nc_session.specs.Words.{base_space, base_capability, hello_name, capa
 
 -- an element of NETCONF's own, without attributes
 abbrev pub base_elem : List ℕ → List Part → Elem
-base_elem name parts = record { name = record { space = base_space; name = name; }; bounds = []; attrs = []; parts = parts; }
+base_elem name parts = record { name = record { space = base_space; name = name }; bounds = []; attrs = []; parts = parts }
 
 -- an element around a text
 abbrev pub text_elem : List ℕ → List ℕ → Elem

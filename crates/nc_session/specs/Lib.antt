@@ -4,6 +4,8 @@ pub mod Reading
 pub mod Reply
 pub mod Searched
 pub mod Sending
+pub mod Served
 pub mod Session
+pub mod Turn
 pub mod Waiting
 pub mod Words

@@ -24,7 +24,7 @@ answer_elem CloseSession = base_elem ok_name []
 abbrev pub reply_tree : Asked → Tree
 reply_tree a = record {
   root = record {
-    name = record { space = base_space; name = reply_name; };
+    name = record { space = base_space; name = reply_name };
     bounds = [];
     attrs = a.attributes;
     parts = Child (answer_elem a.operation) ∷ [];
@@ -41,8 +41,8 @@ pub record Answer : Type 0 where
   pub end : Option SessionEnd
 
 abbrev pub answer_to : Option Asked → Answer
-answer_to None = record { text = []; end = Some (Malformed 0 NotWellFormed); }
-answer_to (Some a) = record { text = with_mark (written (reply_tree a)); end = end_after a.operation; }
+answer_to None = record { text = []; end = Some (Malformed 0 NotWellFormed) }
+answer_to (Some a) = record { text = with_mark (written (reply_tree a)); end = end_after a.operation }
 
 abbrev pub answer : List ℕ → Answer
 answer message = answer_to (asked message)

@@ -1,5 +1,5 @@
 -- How far the waiting bytes are searched for a mark.
-use Rattle.std.specs.Prelude.{ℕ, ◌-◌, ◌≤◌, max, length}
+use Rattle.std.specs.Prelude.{◌-◌, ◌≤◌, max, length}
 use Rattle.memchr.specs.Find.{OccursAt, Nowhere}
 use Rattle.nc_names.specs.Mark.{mark}
 use Rattle.nc_session.specs.declared.inbox.Inbox.TheInside.{Inside}

@@ -9,7 +9,7 @@ use Rattle.nc_session.specs.declared.end.SessionEnd.TheVariants.{BadHello, Spent
 use Rattle.nc_session.specs.declared.limits.TheConstants.{REQUESTS}
 use Rattle.nc_session.specs.Asked.{hello_fault}
 use Rattle.nc_session.specs.Hello.{hello_tree}
-use Rattle.nc_session.specs.Reply.{answer}
+use Rattle.nc_session.specs.Reply.{Answer, answer}
 
 -- where a session stands: the client's hello is awaited, so many requests were answered, or it is over
 pub data Phase : Type 0 where
@@ -24,31 +24,29 @@ pub record Progress : Type 0 where
 abbrev pub serving : ℕ → Phase
 serving answered = if answered == REQUESTS then Over (Spent REQUESTS) else Serving answered
 
-abbrev pub greeted : Option HelloFault → Phase
-greeted None = serving 0
-greeted (Some why) = Over (BadHello why)
+-- the hello is not answered; the session goes on where it is taken
+abbrev pub greeting_answer : Option HelloFault → Answer
+greeting_answer None = record { text = []; end = None }
+greeting_answer (Some why) = record { text = []; end = Some (BadHello why) }
 
-abbrev pub answered_more : ℕ → Option SessionEnd → Phase
-answered_more answered None = serving (answered + 1)
-answered_more answered (Some end) = Over end
+abbrev pub answer_in : Phase → List ℕ → Answer
+answer_in Greeting message = greeting_answer (hello_fault message)
+answer_in (Serving answered) message = answer message
+answer_in (Over end) message = record { text = []; end = Some end }
+
+abbrev pub phase_after : Phase → Option SessionEnd → Phase
+phase_after phase (Some end) = Over end
+phase_after Greeting None = serving 0
+phase_after (Serving answered) None = serving (answered + 1)
+phase_after (Over end) None = Over end
 
 -- the first message is the client's hello, and each later one is answered, until one ends the session
-abbrev pub phase_after : Phase → List ℕ → Phase
-phase_after Greeting message = greeted (hello_fault message)
-phase_after (Serving answered) message = answered_more answered (answer message).end
-phase_after (Over end) message = Over end
-
-abbrev pub text_at : Phase → List ℕ → List ℕ
-text_at Greeting message = []
-text_at (Serving answered) message = (answer message).text
-text_at (Over end) message = []
-
 abbrev pub step : Progress → List ℕ → Progress
-step p message = record { phase = phase_after p.phase message; text = p.text ++ text_at p.phase message; }
+step p message = let a = answer_in p.phase message in record { phase = phase_after p.phase a.end; text = p.text ++ a.text }
 
 -- the server's hello comes first, before anything is read
 abbrev pub opening : Module → Progress
-opening m = record { phase = Greeting; text = with_mark (written (hello_tree m 1)); }
+opening m = record { phase = Greeting; text = with_mark (written (hello_tree m 1)) }
 
 -- how far the messages bring a session
 abbrev pub session : Module → List (List ℕ) → Progress

@@ -2,8 +2,7 @@
 ghost use Rattle.std.specs.Prelude.{◌≡◌, IfOk};
 ghost use Rattle.nc_session.specs.Asked.{asked, hello_fault, message_id_only};
 
-use crate::HelloFault;
-use crate::words;
+use crate::{HelloFault, words};
 use nc_message::Attr;
 use nc_names::{Many, Memory, QName, Text};
 use std::alloc::Global;

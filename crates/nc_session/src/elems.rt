@@ -56,7 +56,7 @@ pub(crate) fn base_element(alloc: Global, name: &str, parts: Many<Part>) -> Resu
 
 /// A name of the base namespace.
 pub(crate) fn base_name(alloc: Global, name: &str) -> Result<QName, Memory>
-    ensures { IfOk result (λ it. it ≡ record { space = base_space; name = name.now; }) }
+    ensures { IfOk result (λ it. it ≡ record { space = base_space; name = name.now }) }
 {
     Ok(QName {
         space: Text::from_text(alloc, words::base_space())?,

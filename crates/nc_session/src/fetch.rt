@@ -18,7 +18,11 @@ fn front(bytes: &[u8], len: usize) -> &[u8]
 }
 
 /// Reads one piece into the inbox: at least one byte, or the end of input.
-fn read_piece<S: Source>(source: &mut S, inbox: &mut Inbox, buffer: &mut [u8]) -> Result<(), SessionEnd>
+fn read_piece<S: Source>(
+    source: &mut S,
+    inbox: &mut Inbox,
+    buffer: &mut [u8],
+) -> Result<(), SessionEnd>
     requires { 0 < length buffer.old }
     ensures piece { ReadsPiece inbox.old inbox.new (S.left source.old) (S.left source.new) result }
     ensures later { S.faults source.old ≤ S.faults source.new }
@@ -34,16 +38,19 @@ fn read_piece<S: Source>(source: &mut S, inbox: &mut Inbox, buffer: &mut [u8]) -
     Ok(())
 }
 
-fn too_big(inbox: &Inbox) -> SessionEnd
-    ensures { result ≡ SessionEnd.TooBig (capped (inbox.now.place + MESSAGE_LIMIT)) }
+/// The place at which it shows that the message that waits is too big.
+fn too_big_at(inbox: &Inbox) -> u64
+    ensures { result ≡ capped (inbox.now.place + MESSAGE_LIMIT) }
 {
-    SessionEnd::TooBig {
-        at: inbox.place().saturating_add(MESSAGE_LIMIT as u64),
-    }
+    inbox.place().saturating_add(MESSAGE_LIMIT as u64)
 }
 
 /// Reads until a whole message waits, and gives its length.
-pub(crate) fn next_message<S: Source>(source: &mut S, inbox: &mut Inbox, buffer: &mut [u8]) -> Result<usize, SessionEnd>
+pub(crate) fn next_message<S: Source>(
+    source: &mut S,
+    inbox: &mut Inbox,
+    buffer: &mut [u8],
+) -> Result<usize, SessionEnd>
     requires { 0 < length buffer.old }
     ensures message { ReadsMessage inbox.old inbox.new (S.left source.old) (S.left source.new) result }
     ensures later { S.faults source.old ≤ S.faults source.new }
@@ -52,12 +59,14 @@ pub(crate) fn next_message<S: Source>(source: &mut S, inbox: &mut Inbox, buffer:
     loop {
         if let Some(len) = inbox.find() {
             if len > MESSAGE_LIMIT {
-                return Err(too_big(inbox));
+                let at = too_big_at(inbox);
+                return Err(SessionEnd::TooBig { at });
             }
             return Ok(len);
         }
         if inbox.len() >= MESSAGE_LIMIT + 6 {
-            return Err(too_big(inbox));
+            let at = too_big_at(inbox);
+            return Err(SessionEnd::TooBig { at });
         }
         read_piece(source, inbox, buffer)?;
     }

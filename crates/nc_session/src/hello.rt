@@ -54,8 +54,16 @@ fn capabilities(alloc: Global, module: &Module) -> Result<Part, Memory>
 {
     let base = Text::from_text(alloc, words::base_capability())?;
     let base = text_part(alloc, words::capability_name(), base)?;
-    let own = text_part(alloc, words::capability_name(), capability_of(alloc, module)?)?;
-    base_part(alloc, words::capabilities_name(), two_parts(alloc, base, own)?)
+    let own = text_part(
+        alloc,
+        words::capability_name(),
+        capability_of(alloc, module)?,
+    )?;
+    base_part(
+        alloc,
+        words::capabilities_name(),
+        two_parts(alloc, base, own)?,
+    )
 }
 
 fn session_id(alloc: Global, session: u32) -> Result<Part, Memory>
@@ -72,6 +80,10 @@ pub(crate) fn hello_message(alloc: Global, module: &Module, session: u32) -> Res
 {
     let capabilities = capabilities(alloc, module)?;
     let number = session_id(alloc, session)?;
-    let root = base_element(alloc, words::hello_name(), two_parts(alloc, capabilities, number)?)?;
+    let root = base_element(
+        alloc,
+        words::hello_name(),
+        two_parts(alloc, capabilities, number)?,
+    )?;
     Ok(Tree { root })
 }

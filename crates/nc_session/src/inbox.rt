@@ -28,7 +28,7 @@ impl Model for Inbox {
 
     ghost use Rattle.nc_session.specs.Searched.{IsSearched};
 
-    ghost view = { λ i. record { place = i.place; bytes = drop i.start i.bytes; } };
+    ghost view = { λ i. record { place = i.place; bytes = drop i.start i.bytes } };
 
     ghost invariant = { λ i. IsSearched i };
 }

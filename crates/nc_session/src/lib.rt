@@ -8,7 +8,10 @@ mod fetch;
 mod hello;
 mod inbox;
 mod limits;
+mod plain;
 mod reply;
+mod respond;
 mod words;
 
 pub use end::{HelloFault, SessionEnd};
+pub use plain::serve_plain;

@@ -8,11 +8,10 @@ ghost use Rattle.nc_outside.specs.Causes.{TookPart};
 ghost use Rattle.nc_session.specs.Reply.{answer_elem, reply_tree};
 ghost use Rattle.nc_session.specs.Sending.{Sends, IsSendFault};
 
-use crate::SessionEnd;
 use crate::ask::{Asked, Operation};
 use crate::elems::{base_name, base_part, one_part};
 use crate::inbox::MARK;
-use crate::words;
+use crate::{SessionEnd, words};
 use nc_message::{Elem, Part, Tree, write};
 use nc_names::{Bytes, Many, Memory};
 use nc_outside::{Sink, write_all};

@@ -1,4 +1,4 @@
-use Rattle.std.proofs.Common.{arith, ◌≡◌, [], drop, ap, sym, ◌∙◌, length, length-drop, length-append, append-nil, ◌++◌}
+use Rattle.std.proofs.Common.{arith, [], drop, ap, sym, ◌∙◌, length, length-drop, length-append, append-nil, ◌++◌}
 use Rattle.nc_session.proofs.Occurring.{moved}
 use Rattle.nc_session.proofs.inbox.Inbox.feed.Goals as goal
 

@@ -1,4 +1,4 @@
-use Rattle.std.proofs.Common.{rules, arith, ◌≡◌, ℕ, ◌+◌, ◌-◌, List, ap, subst, ◌∙◌, drop, take, length, ◌++◌, refl}
+use Rattle.std.proofs.Common.{arith, ◌≡◌, ℕ, ◌+◌, ◌-◌, List, ap, subst, ◌∙◌, drop, take, length, ◌++◌, refl}
 use Rattle.memchr.specs.Find.{OccursAt, Nowhere, NoneBefore}
 use Rattle.nc_names.specs.Mark.{mark, HasNoMark, IsMarked, with_mark}
 use Rattle.nc_session.specs.Waiting.{Waiting}
@@ -14,7 +14,7 @@ returns-in-Some-clause-first c =
     let n = i.searched + at - i.start in
     let G : List ℕ → Type 0 = λ w. IsMarked (take n w) × (w ≡ with_mark (take n w) ++ drop (n + 6) w) in
     subst G (ap (λ (w : Waiting). w.bytes) c.self.view_is)
-      (found i.bytes i.start i.searched c.self.invariant.none c.self.invariant.started at n refl here.0 here.1)
+    (found i.bytes i.start i.searched c.self.invariant.none c.self.invariant.started at n refl here.0 here.1)
 
 pub returns-in-None-clause-first : goal.returns-in-None-clause-first
 returns-in-None-clause-first c =

@@ -1,0 +1,318 @@
+-- A session from one message to the next.
+use Rattle.std.proofs.Common.{◌≡◌, ℕ, ◌+◌, ◌<◌, ◌≤◌, List, [], ◌∷◌, ◌++◌, length, take, drop, refl, sym, ap, subst, ◌∙◌, append_assoc, append-nil, arith, length-append, length-drop, Option, Some, None, Ok, Err, Bool, true, false, All, ◌==◌, if◌then◌else◌}
+use Rattle.std.proofs.lemmas.Bool.{ne_eqb}
+use Rattle.std.proofs.lemmas.List.{length-take-le, length-take}
+use Rattle.std.proofs.lemmas.List.Sums.{fold_push}
+use Rattle.std.proofs.lemmas.List.Concat.{flat_map-append}
+use Rattle.std.proofs.lemmas.List.Elements.{All-push}
+use Rattle.std.specs.Io.KnownBytes.{prepend_known, append_known}
+use Rattle.nc_names.specs.Mark.{mark, with_mark}
+use Rattle.nc_names.specs.declared.name.Module.{Module}
+use Rattle.nc_outside.specs.Causes.{TookPart}
+use Rattle.nc_outside.proofs.Known.{prepend_twice, prepend_nothing, append_twice, took_more, took_whole, took_nothing}
+use Rattle.nc_session.specs.Waiting.{Waiting}
+use Rattle.nc_session.specs.Reading.{IsMessage, Reads, ReadsNone, BeginsWith, capped}
+use Rattle.nc_session.specs.Asked.{hello_fault, asked}
+use Rattle.nc_session.specs.Reply.{Answer, answer_to, end_after}
+use Rattle.nc_session.specs.declared.ask.Asked.{Asked}
+use Rattle.nc_session.specs.declared.ask.Operation.{Operation}
+use Rattle.nc_session.specs.declared.ask.Operation.TheVariants.{GetConfig, CloseSession}
+use Rattle.nc_session.specs.declared.end.HelloFault.{HelloFault}
+use Rattle.nc_session.specs.Session.{Phase, Greeting, Serving, Over, Progress, session, step, opening, answer_in, greeting_answer, phase_after, serving}
+use Rattle.nc_session.specs.Sending.{IsSendFault}
+use Rattle.nc_session.specs.Served.{framed, GoesOn, Served}
+use Rattle.nc_session.specs.Turn.{Takes, Turns, Answers, Stops, Underway, Responds, answer_for}
+use Rattle.nc_session.specs.declared.limits.TheConstants.{MESSAGE_LIMIT, REQUESTS}
+use Rattle.nc_session.specs.declared.end.SessionEnd.{SessionEnd}
+use Rattle.nc_session.specs.declared.end.SessionEnd.TheVariants.{InputEnded, ReadFault, TooBig, Memory, Closed, BadHello, BadFrame, Malformed, Killed, WriteFault, Full, Spent}
+
+-- a message at the front with its mark is within the bytes
+front_fits : (bytes : List ℕ) (len : ℕ) → bytes ≡ with_mark (take len bytes) ++ drop (len + 6) bytes → len ≤ length bytes
+front_fits bytes len e =
+    omega (arith, ap length e, length-append (with_mark (take len bytes)) (drop (len + 6) bytes), length-append (take len bytes) mark, length-drop (len + 6) bytes, length-take len bytes)
+
+pub takes_front : (a b c : Waiting) (before now : Option (List ℕ)) (len : ℕ) → Reads a b before now → BeginsWith b.bytes len
+    → c.bytes ≡ drop (len + 6) b.bytes → c.place ≡ capped (b.place + (len + 6)) → Takes a c before now (take len b.bytes)
+takes_front a b c before now len reads begins behind placed =
+    let size : length (take len b.bytes) ≡ len = length-take-le len b.bytes (front_fits b.bytes len begins.whole) in
+    record {
+      is_message = begins.message;
+      bytes = reads.bytes;
+      left = reads.left;
+      whole = sym reads.fed ∙ begins.whole ∙ ap (λ x. with_mark (take len b.bytes) ++ x) (sym behind);
+      place = placed ∙ ap (λ p. capped (p + (len + 6))) reads.place ∙ ap (λ n. capped (a.place + (n + 6))) (sym size);
+    }
+
+-- nothing is read, and the server's hello is written
+pub underway_start : (m : Module) (w : Waiting) (left before now : Option (List ℕ)) → w.bytes ≡ [] → w.place ≡ 0
+    → now ≡ append_known before (opening m).text → Underway m Greeting w left left before now
+underway_start m w left before now none zeroth written = record {
+  messages = [];
+  each = λ k d l. absurd (omega arith);
+  read = sym (prepend_nothing left) ∙ ap (λ b. prepend_known b left) (sym none);
+  place = zeroth;
+  phase_is = refl;
+  written = written;
+}
+
+capped_more : (a b c n : ℕ) → a ≡ capped c → b ≡ capped (a + n) → b ≡ capped (c + n)
+capped_more a b c n first more = omega arith
+
+-- one message more is read
+module _ (m : Module) (phase : Phase) (w w' : Waiting) (l0 l l' t0 t : Option (List ℕ)) (message : List ℕ)
+    (u : Underway m phase w l0 l t0 t) (takes : Takes w w' l l' message) where
+  abbrev ms : List (List ℕ)
+  ms = u.messages ++ message ∷ []
+
+  framed_more : framed ms ≡ framed u.messages ++ with_mark message
+  framed_more = flat_map-append with_mark u.messages (message ∷ []) ∙ ap (λ x. framed u.messages ++ x) (append-nil (with_mark message))
+
+  stepped : session m ms ≡ step (session m u.messages) message
+  stepped = fold_push step (opening m) u.messages message
+
+  each_more : All IsMessage ms
+  each_more = All-push IsMessage u.messages message u.each takes.is_message
+
+  read_more : l0 ≡ prepend_known (framed ms ++ w'.bytes) l'
+  read_more =
+      let all : (framed u.messages ++ w.bytes) ++ takes.bytes ≡ framed ms ++ w'.bytes =
+      append_assoc (framed u.messages) w.bytes takes.bytes ∙ ap (λ x. framed u.messages ++ x) takes.whole
+      ∙ sym (append_assoc (framed u.messages) (with_mark message) w'.bytes) ∙ ap (λ x. x ++ w'.bytes) (sym framed_more) in
+      u.read ∙ ap (prepend_known (framed u.messages ++ w.bytes)) takes.left ∙ prepend_twice l' (framed u.messages ++ w.bytes) takes.bytes
+      ∙ ap (λ b. prepend_known b l') all
+
+  text_more : (session m ms).text ≡ (session m u.messages).text ++ (answer_in phase message).text
+  text_more = ap (λ (p : Progress). p.text) stepped ∙ ap (λ p. (session m u.messages).text ++ (answer_in p message).text) u.phase_is
+
+  pub underway_more : (t' : Option (List ℕ)) → t' ≡ append_known t (answer_in phase message).text
+      → Underway m (phase_after phase (answer_in phase message).end) w' l0 l' t0 t'
+  underway_more t' written =
+      let size : length (framed ms) ≡ length (framed u.messages) + (length message + 6) =
+      ap length framed_more ∙ length-append (framed u.messages) (with_mark message) ∙ ap (λ n. length (framed u.messages) + n) (length-append message mark) in
+      record {
+        messages = ms;
+        each = each_more;
+        read = read_more;
+        place = capped_more w.place w'.place (length (framed u.messages)) (length message + 6) u.place takes.place ∙ ap capped (sym size);
+        phase_is = ap (λ (p : Progress). p.phase) stepped ∙ ap (λ p. phase_after p (answer_in p message).end) u.phase_is;
+        written = written ∙ ap (λ k. append_known k (answer_in phase message).text) u.written
+            ∙ append_twice t0 (session m u.messages).text (answer_in phase message).text ∙ ap (append_known t0) (sym text_more);
+      }
+
+  part_more : (t' : Option (List ℕ)) → TookPart t t' (answer_in phase message).text → TookPart t0 t' (session m ms).text
+  part_more t' part = let P : List ℕ → Type 0 = λ x. TookPart t0 t' x in subst P (sym text_more) (took_more (session m u.messages).text u.written part)
+
+  -- the answer was written in part
+  pub cut_at_write : (t' : Option (List ℕ)) → TookPart t t' (answer_in phase message).text → Served m l0 l' t0 t' WriteFault
+  cut_at_write t' part = record { messages = ms; rest = w'.bytes; each = each_more; read = read_more; ends = part_more t' part }
+
+  pub cut_for_memory : (t' : Option (List ℕ)) → TookPart t t' (answer_in phase message).text → Served m l0 l' t0 t' Memory
+  cut_for_memory t' part = record { messages = ms; rest = w'.bytes; each = each_more; read = read_more; ends = part_more t' part }
+
+-- the ends that a message shows
+abbrev pub IsShown : SessionEnd → Type 0
+IsShown Closed = Unit {0}
+IsShown (BadHello why) = Unit {0}
+IsShown (Malformed at why) = Unit {0}
+IsShown (Spent ticket) = Unit {0}
+IsShown _ = ⊥
+
+-- a session that is over, with all that is written until then
+pub over_served : (m : Module) (end : SessionEnd) (w : Waiting) (l0 l t0 t : Option (List ℕ)) → IsShown end
+    → Underway m (Over end) w l0 l t0 t → Served m l0 l t0 t end
+over_served m Closed w l0 l t0 t shown u = record { messages = u.messages; rest = w.bytes; each = u.each; read = u.read; ends = (u.phase_is, u.written) }
+over_served m (BadHello why) w l0 l t0 t shown u = record { messages = u.messages; rest = w.bytes; each = u.each; read = u.read; ends = (u.phase_is, u.written) }
+over_served m (Malformed at why) w l0 l t0 t shown u = record { messages = u.messages; rest = w.bytes; each = u.each; read = u.read; ends = (u.phase_is, u.written) }
+over_served m (Spent ticket) w l0 l t0 t shown u = record { messages = u.messages; rest = w.bytes; each = u.each; read = u.read; ends = (u.phase_is, u.written) }
+over_served m InputEnded w l0 l t0 t shown u = absurd shown
+over_served m ReadFault w l0 l t0 t shown u = absurd shown
+over_served m WriteFault w l0 l t0 t shown u = absurd shown
+over_served m Memory w l0 l t0 t shown u = absurd shown
+over_served m Killed w l0 l t0 t shown u = absurd shown
+over_served m (TooBig at) w l0 l t0 t shown u = absurd shown
+over_served m (BadFrame at) w l0 l t0 t shown u = absurd shown
+over_served m (Full live last) w l0 l t0 t shown u = absurd shown
+
+-- an answer ends a session in one of these ways
+abbrev ShownOf : Option SessionEnd → Type 0
+ShownOf None = Unit {0}
+ShownOf (Some end) = IsShown end
+
+shown_after : (o : Operation) → ShownOf (end_after o)
+shown_after GetConfig = tt
+shown_after CloseSession = tt
+
+shown_to : (a : Option Asked) → ShownOf (answer_to a).end
+shown_to None = tt
+shown_to (Some a) = shown_after a.operation
+
+shown_greeting : (f : Option HelloFault) → ShownOf (greeting_answer f).end
+shown_greeting None = tt
+shown_greeting (Some why) = tt
+
+shown_for : (first : Bool) (message : List ℕ) → ShownOf (answer_for first message).end
+shown_for true message = shown_greeting (hello_fault message)
+shown_for false message = shown_to (asked message)
+
+shown : (first : Bool) (message : List ℕ) (end : SessionEnd) → (answer_for first message).end ≡ Some end → IsShown end
+shown first message end e = subst ShownOf e (shown_for first message)
+
+-- Whether the client's hello is awaited, in a session that goes on.
+abbrev pub IsAt : Bool → Phase → Type 0
+IsAt true Greeting = Unit {0}
+IsAt false (Serving answered) = Unit {0}
+IsAt first phase = ⊥
+
+answers_same : (first : Bool) (phase : Phase) (message : List ℕ) → IsAt first phase → answer_for first message ≡ answer_in phase message
+answers_same true Greeting message at = refl
+answers_same true (Serving n) message at = absurd at
+answers_same true (Over e) message at = absurd at
+answers_same false Greeting message at = absurd at
+answers_same false (Serving n) message at = refl
+answers_same false (Over e) message at = absurd at
+
+goes_on : (first : Bool) (phase : Phase) → IsAt first phase → GoesOn phase
+goes_on true Greeting at = tt
+goes_on true (Serving n) at = absurd at
+goes_on true (Over e) at = absurd at
+goes_on false Greeting at = absurd at
+goes_on false (Serving n) at = tt
+goes_on false (Over e) at = absurd at
+
+module _ (m : Module) (first : Bool) (phase : Phase) (w w' : Waiting) (l0 l l' t0 t t' : Option (List ℕ)) (at : IsAt first phase)
+    (u : Underway m phase w l0 l t0 t) where
+  -- a message is answered and the session goes on
+  pub turned : Turns first w w' l l' t t' (Ok tt) → Underway m (phase_after phase None) w' l0 l' t0 t'
+  turned (Answers message (Ok x) takes responds) =
+      let same = answers_same first phase message at in
+      let P : Option SessionEnd → Type 0 = λ e. Underway m (phase_after phase e) w' l0 l' t0 t' in
+      subst P (ap (λ (a : Answer). a.end) (sym same) ∙ responds.0)
+      (underway_more m phase w w' l0 l l' t0 t message u takes t' (responds.1 ∙ ap (λ (a : Answer). append_known t a.text) same))
+
+  over : (end : SessionEnd) (message : List ℕ) → Takes w w' l l' message → (answer_for first message).end ≡ Some end
+      → t' ≡ append_known t (answer_for first message).text → Served m l0 l' t0 t' end
+  over end message takes ended written =
+      let same = answers_same first phase message at in
+      let P : Option SessionEnd → Type 0 = λ e. Underway m (phase_after phase e) w' l0 l' t0 t' in
+      over_served m end w' l0 l' t0 t' (shown first message end ended)
+      (subst P (ap (λ (a : Answer). a.end) (sym same) ∙ ended)
+      (underway_more m phase w w' l0 l l' t0 t message u takes t' (written ∙ ap (λ (a : Answer). append_known t a.text) same)))
+
+  part_of : (message : List ℕ) → TookPart t t' (answer_for first message).text → TookPart t t' (answer_in phase message).text
+  part_of message part = let P : Answer → Type 0 = λ a. TookPart t t' a.text in subst P (answers_same first phase message at) part
+
+  answered_end : (end : SessionEnd) (message : List ℕ) → Takes w w' l l' message → Responds (answer_for first message) t t' (Err end) → Served m l0 l' t0 t' end
+  answered_end WriteFault message takes responds = cut_at_write m phase w w' l0 l l' t0 t message u takes t' (part_of message responds)
+  answered_end Memory message takes responds = cut_for_memory m phase w w' l0 l l' t0 t message u takes t' (part_of message responds)
+  answered_end Closed message takes responds = over Closed message takes responds.0 responds.1
+  answered_end InputEnded message takes responds = over InputEnded message takes responds.0 responds.1
+  answered_end (BadHello why) message takes responds = over (BadHello why) message takes responds.0 responds.1
+  answered_end (BadFrame place) message takes responds = over (BadFrame place) message takes responds.0 responds.1
+  answered_end (Malformed place why) message takes responds = over (Malformed place why) message takes responds.0 responds.1
+  answered_end (TooBig place) message takes responds = over (TooBig place) message takes responds.0 responds.1
+  answered_end Killed message takes responds = over Killed message takes responds.0 responds.1
+  answered_end ReadFault message takes responds = over ReadFault message takes responds.0 responds.1
+  answered_end (Full live last) message takes responds = over (Full live last) message takes responds.0 responds.1
+  answered_end (Spent ticket) message takes responds = over (Spent ticket) message takes responds.0 responds.1
+
+  still : GoesOn (session m u.messages).phase
+  still = let P : Phase → Type 0 = λ p. GoesOn p in subst P (sym u.phase_is) (goes_on first phase at)
+
+  read_on : (bytes : List ℕ) → l ≡ prepend_known bytes l' → l0 ≡ prepend_known (framed u.messages ++ (w.bytes ++ bytes)) l'
+  read_on bytes more =
+      u.read ∙ ap (prepend_known (framed u.messages ++ w.bytes)) more ∙ prepend_twice l' (framed u.messages ++ w.bytes) bytes
+      ∙ ap (λ b. prepend_known b l') (append_assoc (framed u.messages) w.bytes bytes)
+
+  read_to : Reads w w' l l' → l0 ≡ prepend_known (framed u.messages ++ w'.bytes) l'
+  read_to reads = read_on reads.bytes reads.left ∙ ap (λ b. prepend_known (framed u.messages ++ b) l') (sym reads.fed)
+
+  stopped : (end : SessionEnd) → ReadsNone w w' l l' end → t' ≡ t → Served m l0 l' t0 t' end
+  stopped InputEnded none same = record {
+    messages = u.messages;
+    rest = w'.bytes;
+    each = u.each;
+    read = read_to none.0;
+    ends = (still, none.1, none.2, same ∙ u.written);
+  }
+  stopped ReadFault none same = record {
+    messages = u.messages;
+    rest = w'.bytes;
+    each = u.each;
+    read = read_to none.0;
+    ends = (still, none.1, same ∙ u.written);
+  }
+  stopped (TooBig place) none same =
+      let here = none.0 in
+      record {
+        messages = u.messages;
+        rest = w'.bytes;
+        each = u.each;
+        read = read_to here;
+        ends = (still, none.1, none.2 ∙ capped_more w.place _ (length (framed u.messages)) MESSAGE_LIMIT u.place (ap (λ p. capped (p + MESSAGE_LIMIT)) here.place), same ∙ u.written);
+      }
+  stopped Memory none same = record {
+    messages = u.messages;
+    rest = w.bytes ++ none.bytes;
+    each = u.each;
+    read = read_on none.bytes none.left;
+    ends = took_whole (same ∙ u.written);
+  }
+  stopped Closed none same = absurd none
+  stopped (BadHello why) none same = absurd none
+  stopped (BadFrame place) none same = absurd none
+  stopped (Malformed place why) none same = absurd none
+  stopped Killed none same = absurd none
+  stopped WriteFault none same = absurd none
+  stopped (Full live last) none same = absurd none
+  stopped (Spent ticket) none same = absurd none
+
+  -- a turn at which the session ends
+  pub ended : (end : SessionEnd) → Turns first w w' l l' t t' (Err end) → Served m l0 l' t0 t' end
+  ended end (Answers message (Err e) takes responds) = answered_end end message takes responds
+  ended end (Stops e none same) = stopped end none same
+
+-- no memory before anything was written
+pub unbegun : (m : Module) (left taken : Option (List ℕ)) → Served m left left taken taken Memory
+unbegun m left taken = record {
+  messages = [];
+  rest = [];
+  each = λ k d l. absurd (omega arith);
+  read = sym (prepend_nothing left);
+  ends = took_nothing taken (opening m).text;
+}
+
+-- the server's hello was written in part
+pub ungreeted : (m : Module) (left before now : Option (List ℕ)) (end : SessionEnd) (f g : ℕ) → IsSendFault f g end
+    → TookPart before now (opening m).text → Served m left left before now end
+ungreeted m left before now WriteFault f g fault part = record {
+  messages = [];
+  rest = [];
+  each = λ k d l. absurd (omega arith);
+  read = sym (prepend_nothing left);
+  ends = part;
+}
+ungreeted m left before now Memory f g fault part = record {
+  messages = [];
+  rest = [];
+  each = λ k d l. absurd (omega arith);
+  read = sym (prepend_nothing left);
+  ends = part;
+}
+ungreeted m left before now Closed f g fault part = absurd fault
+ungreeted m left before now InputEnded f g fault part = absurd fault
+ungreeted m left before now (BadHello why) f g fault part = absurd fault
+ungreeted m left before now (BadFrame at) f g fault part = absurd fault
+ungreeted m left before now (Malformed at why) f g fault part = absurd fault
+ungreeted m left before now (TooBig at) f g fault part = absurd fault
+ungreeted m left before now Killed f g fault part = absurd fault
+ungreeted m left before now ReadFault f g fault part = absurd fault
+ungreeted m left before now (Full live last) f g fault part = absurd fault
+ungreeted m left before now (Spent ticket) f g fault part = absurd fault
+
+-- below the limit a session serves on
+pub serving_below : (n : ℕ) → n < REQUESTS → serving n ≡ Serving n
+serving_below n below = let apart : n == REQUESTS ≡ false = ne_eqb n REQUESTS (λ e. absurd (omega arith)) in ap (λ b. if b then Over (Spent REQUESTS) else Serving n) apart
+
+-- so many requests were answered that no more are
+pub spent : (m : Module) (w : Waiting) (l0 l t0 t : Option (List ℕ)) → Underway m (serving REQUESTS) w l0 l t0 t → Served m l0 l t0 t (Spent REQUESTS)
+spent m w l0 l t0 t u = over_served m (Spent REQUESTS) w l0 l t0 t tt u

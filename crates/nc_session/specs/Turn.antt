@@ -1,0 +1,56 @@
+-- One message after another: what is read and written for one.
+use Rattle.std.specs.Prelude.{◌≡◌, ℕ, ◌+◌, List, ◌++◌, All, length, Option, Some, None, Result, Ok, Err, Bool, true, false}
+use Rattle.std.specs.Io.KnownBytes.{append_known, prepend_known}
+use Rattle.nc_names.specs.Mark.{with_mark}
+use Rattle.nc_names.specs.declared.name.Module.{Module}
+use Rattle.nc_outside.specs.Causes.{TookPart}
+use Rattle.nc_session.specs.declared.end.HelloFault.{HelloFault}
+use Rattle.nc_session.specs.declared.end.SessionEnd.{SessionEnd}
+use Rattle.nc_session.specs.declared.end.SessionEnd.TheVariants.{WriteFault, Memory, BadHello}
+use Rattle.nc_session.specs.Waiting.{Waiting}
+use Rattle.nc_session.specs.Asked.{hello_fault}
+use Rattle.nc_session.specs.Reply.{Answer, answer}
+use Rattle.nc_session.specs.Reading.{IsMessage, ReadsNone, capped}
+use Rattle.nc_session.specs.Session.{Phase, greeting_answer, session}
+use Rattle.nc_session.specs.Served.{framed}
+
+-- the first message is the hello
+abbrev pub answer_for : Bool → List ℕ → Answer
+answer_for true message = greeting_answer (hello_fault message)
+answer_for false message = answer message
+
+-- whether a session goes on behind the client's hello
+abbrev pub met : Option HelloFault → Result (Unit {0}) SessionEnd
+met None = Ok tt
+met (Some why) = Err (BadHello why)
+
+-- the answer is written, and the session ends where the answer says so
+abbrev pub Responds : Answer → Option (List ℕ) → Option (List ℕ) → Result (Unit {0}) SessionEnd → Type 0
+Responds a before now (Ok u) = (a.end ≡ None) × (now ≡ append_known before a.text)
+Responds a before now (Err WriteFault) = TookPart before now a.text
+Responds a before now (Err Memory) = TookPart before now a.text
+Responds a before now (Err end) = (a.end ≡ Some end) × (now ≡ append_known before a.text)
+
+-- one message was read, and what waits now stood behind it
+pub record Takes (before now : Waiting) (left_before left_now : Option (List ℕ)) (message : List ℕ) : Type 0 where
+  pub is_message : IsMessage message
+  pub bytes : List ℕ
+  pub left : left_before ≡ prepend_known bytes left_now
+  pub whole : before.bytes ++ bytes ≡ with_mark message ++ now.bytes
+  pub place : now.place ≡ capped (before.place + (length message + 6))
+
+-- a message was read and responded to, or none was read
+pub data Turns (first : Bool) (before now : Waiting) (left_before left_now taken_before taken_now : Option (List ℕ)) : Result (Unit {0}) SessionEnd → Type 0 where
+  Answers : (message : List ℕ) (result : Result (Unit {0}) SessionEnd) → Takes before now left_before left_now message
+      → Responds (answer_for first message) taken_before taken_now result → Turns first before now left_before left_now taken_before taken_now result
+  Stops : (end : SessionEnd) → ReadsNone before now left_before left_now end → taken_now ≡ taken_before
+      → Turns first before now left_before left_now taken_before taken_now (Err end)
+
+-- a session that goes on: the messages read, what waits behind them, and all that they are answered
+pub record Underway (m : Module) (phase : Phase) (now : Waiting) (left_before left_now taken_before taken_now : Option (List ℕ)) : Type 0 where
+  pub messages : List (List ℕ)
+  pub each : All IsMessage messages
+  pub read : left_before ≡ prepend_known (framed messages ++ now.bytes) left_now
+  pub place : now.place ≡ capped (length (framed messages))
+  pub phase_is : (session m messages).phase ≡ phase
+  pub written : taken_now ≡ append_known taken_before (session m messages).text

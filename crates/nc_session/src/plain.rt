@@ -1,0 +1,122 @@
+//! A whole session on a source and a sink.
+ghost use Rattle.std.specs.Prelude.{◌≡◌, ◌≤◌, ◌<◌, [], Err, IfOk, IfErr, OnOk, length};
+ghost use Rattle.std.specs.Io.KnownBytes.{append_known};
+ghost use Rattle.nc_outside.specs.Causes.{Rose};
+ghost use Rattle.nc_message.specs.Written.{written};
+ghost use Rattle.nc_names.specs.Mark.{with_mark};
+ghost use Rattle.nc_session.specs.Hello.{hello_tree};
+ghost use Rattle.nc_session.specs.Sending.{Sends, IsSendFault};
+ghost use Rattle.nc_session.specs.Served.{Served};
+ghost use Rattle.nc_session.specs.Turn.{Turns};
+ghost use Rattle.nc_session.specs.declared.end.SessionEnd.TheVariants.{ReadFault, WriteFault};
+
+use crate::SessionEnd;
+use crate::fetch::next_message;
+use crate::hello::hello_message;
+use crate::inbox::Inbox;
+use crate::limits::{PIECE, REQUESTS};
+use crate::reply::send;
+use crate::respond::respond;
+use nc_names::{Bytes, Memory, Module};
+use nc_outside::{Sink, Source};
+use std::alloc::Global;
+
+/// What a session keeps between messages: the bytes that wait, and room to read and to write in.
+#[derive(Drop)]
+struct Talk {
+    alloc: Global,
+    inbox: Inbox,
+    buffer: Vec<u8>,
+    out: Bytes,
+    ghost some: { 0 < length buffer.items },
+}
+
+fn buffer(alloc: Global, len: usize) -> Result<Vec<u8>, Memory>
+    ensures { IfOk result (λ it. length it.items ≡ len) }
+{
+    Ok(vec![in alloc; 0u8; len]?)
+}
+
+impl Talk {
+    fn new(alloc: Global) -> Result<Talk, Memory>
+        ensures bytes { IfOk result (λ it. it.inbox.bytes ≡ []) }
+        ensures place { IfOk result (λ it. it.inbox.place ≡ 0) }
+    {
+        Ok(Talk {
+            alloc,
+            inbox: Inbox::new(alloc),
+            buffer: buffer(alloc, PIECE)?,
+            out: Bytes::new(alloc),
+        })
+    }
+
+    /// Sends the server's hello.
+    fn greet<K: Sink>(&mut self, module: &Module, sink: &mut K) -> Result<(), SessionEnd>
+        ensures sent { Sends (K.taken sink.old) (K.taken sink.new) (with_mark (written (hello_tree module.now 1))) result }
+        ensures fault { IfErr result (IsSendFault (K.faults sink.old) (K.faults sink.new)) }
+        ensures later { K.faults sink.old ≤ K.faults sink.new }
+        ensures inbox { self.new.inbox ≡ self.old.inbox }
+    {
+        let hello = hello_message(self.alloc, module, 1)?;
+        send(&hello, &mut self.out, sink)
+    }
+
+    /// Reads the next message and answers it.
+    fn turn<S: Source, K: Sink>(
+        &mut self,
+        first: bool,
+        source: &mut S,
+        sink: &mut K,
+    ) -> Result<(), SessionEnd>
+        ensures turn { Turns first self.old.inbox self.new.inbox (S.left source.old) (S.left source.new) (K.taken sink.old) (K.taken sink.new) result }
+        ensures read_later { S.faults source.old ≤ S.faults source.new }
+        ensures write_later { K.faults sink.old ≤ K.faults sink.new }
+        ensures read_fault { result ≡ Err ReadFault → Rose (S.faults source.old) (S.faults source.new) }
+        ensures write_fault { result ≡ Err WriteFault → Rose (K.faults sink.old) (K.faults sink.new) }
+    {
+        let len = match next_message(source, &mut self.inbox, self.buffer.as_mut_slice()) {
+            Ok(len) => len,
+            Err(end) => return Err(end),
+        };
+        let message = self.inbox.front(len);
+        let result = respond(self.alloc, first, message, &mut self.out, sink);
+        self.inbox.skip(len);
+        result
+    }
+}
+
+/// Serves one session that reads running, which is empty, in end-of-message framing (RFC 6242 4.3):
+/// writes the server's hello, reads the client's, and answers each request in order, until the
+/// session ends.
+///
+/// What was read and written is what the messages of the session show, whole; at `WriteFault` and at
+/// `Memory` a part of the last answer may be missing. `ReadFault` and `WriteFault` come only where
+/// that object's count of faults rose in this call.
+pub fn serve_plain<S: Source, K: Sink>(
+    alloc: Global,
+    module: &Module,
+    source: &mut S,
+    sink: &mut K,
+) -> SessionEnd
+    ensures served { Served module.now (S.left source.old) (S.left source.new) (K.taken sink.old) (K.taken sink.new) result }
+    ensures read_fault { result ≡ ReadFault → Rose (S.faults source.old) (S.faults source.new) }
+    ensures write_fault { result ≡ WriteFault → Rose (K.faults sink.old) (K.faults sink.new) }
+    ensures read_later { S.faults source.old ≤ S.faults source.new }
+    ensures write_later { K.faults sink.old ≤ K.faults sink.new }
+{
+    let Ok(mut talk) = Talk::new(alloc) else {
+        return SessionEnd::Memory;
+    };
+    if let Err(end) = talk.greet(module, sink) {
+        return end;
+    }
+    if let Err(end) = talk.turn(true, source, sink) {
+        return end;
+    }
+    for _answered in 0..REQUESTS {
+        if let Err(end) = talk.turn(false, source, sink) {
+            return end;
+        }
+    }
+    SessionEnd::Spent { ticket: REQUESTS }
+}

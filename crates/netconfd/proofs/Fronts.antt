@@ -6,8 +6,8 @@ use Rattle.std.proofs.lemmas.List.Elements.{All-cons, All-head, All-tail, All-ni
 use Rattle.std.proofs.lemmas.List.Folds.{length-prefix_len}
 use Rattle.std.proofs.lemmas.Bool.Decides.{Decides-eqb}
 use Rattle.std.proofs.lemmas.Slice.Eq.{starts_is}
-use Rattle.netconfd.specs.NarrowModule.{is_blank, begins_name, continues_name, is_plain, is_date_byte, IsName, IsSpace, IsDate}
-use Rattle.netconfd.specs.Readings.{after_blanks, gap, after, piece, split, first_passes, name, plain, quoted, is_date_from, date}
+use Rattle.netconfd.specs.NarrowModule.{is_blank}
+use Rattle.netconfd.specs.Readings.{after_blanks, gap, after, piece, split, first_passes}
 
 -- a choice, and a step that may fail, gave something
 pub cond_some : {A : Type 0} (b : Bool) (o : Option A) (v : A) → cond b o None ≡ Some v → (b ≡ true) × (o ≡ Some v)

@@ -1,2 +1,4 @@
-mod Fronts
 mod Lists
+mod Fronts
+mod Arguments
+mod Statements

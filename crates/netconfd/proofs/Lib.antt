@@ -2,3 +2,4 @@ mod Lists
 mod Fronts
 mod Arguments
 mod Statements
+mod Setups

@@ -1,0 +1,5 @@
+mod Lists
+mod Fronts
+mod Arguments
+mod Statements
+mod Setups

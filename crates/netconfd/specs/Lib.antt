@@ -1,0 +1,4 @@
+pub mod Words
+pub mod NarrowModule
+pub mod Readings
+pub mod Setup

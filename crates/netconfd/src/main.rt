@@ -1,49 +1,40 @@
-//! The server `netconfd`.
+//! The server `netconfd`: a NETCONF server (RFC 6241, 6242) on standard input and standard output.
+//!
+//! `netconfd stdio DIR USER` serves one session. All that it does is the call of `run`, over the
+//! world that `main` hands in.
 #![tactic(auto)]
 
 mod adapters;
 mod narrow;
 mod reader;
+mod run;
 mod setup;
 #[cfg(test)]
 mod tests;
 mod words;
 
 use adapters::{SetupFiles, StandardInput, StandardOutput};
-use nc_outside::{Sink, Source, write_all};
-use setup::{SetupFault, read_setup};
+use run::{World, run};
 use std::env;
 use std::process::ExitCode;
-use words::read_words;
 
-/// Writes what the setup says of the module, and the first bytes of standard input.
-fn show(rt: HostRuntime, folder: &str) -> Result<(), SetupFault> {
-    let mut files = SetupFiles::new(rt);
-    let found = read_setup(rt.alloc(), &mut files, folder)?;
-    let mut output = StandardOutput::new(rt);
-    let mut input = StandardInput::new(rt);
-    let mut bytes = [0u8; 64];
-    let count = input.read(&mut bytes).unwrap_or(0);
-    let _ = write_all(&mut output, found.name.as_str().as_bytes());
-    let _ = write_all(&mut output, b"\n");
-    let _ = output.write(&bytes[..count]);
-    Ok(())
+/// The words behind the program's name. An error is the exit status.
+fn command_words(rt: HostRuntime) -> Result<Vec<String>, u8> {
+    let Ok(all) = env::args(&rt) else {
+        return Err(2);
+    };
+    all.skip(1).collect(rt.alloc()).map_err(|_| 9)
 }
 
 fn main(rt: HostRuntime) -> ExitCode {
-    let Ok(all) = env::args(&rt) else {
-        return ExitCode::from(2);
+    let words = match command_words(rt) {
+        Ok(words) => words,
+        Err(status) => return ExitCode::from(status),
     };
-    let Ok(words): Result<Vec<String>, _> = all.skip(1).collect(rt.alloc()) else {
-        return ExitCode::from(9);
+    let world = World {
+        files: SetupFiles::new(rt),
+        source: StandardInput::new(rt),
+        sink: StandardOutput::new(rt),
     };
-    let Some(stdio) = read_words(words.as_slice()) else {
-        return ExitCode::from(2);
-    };
-    match show(rt, stdio.folder) {
-        Ok(()) => ExitCode::from(0),
-        Err(SetupFault::Modules) => ExitCode::from(3),
-        Err(SetupFault::Failed) => ExitCode::from(13),
-        Err(SetupFault::Memory) => ExitCode::from(9),
-    }
+    ExitCode::from(run(rt.alloc(), words.as_slice(), world).status)
 }

@@ -1,3 +1,5 @@
 pub mod Children
 pub mod Declaring
+pub mod Example
 pub mod Extending
+pub mod Tags

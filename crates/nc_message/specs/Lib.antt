@@ -1,3 +1,4 @@
 pub mod Appends
 pub mod Marks
+pub mod Unmarked
 pub mod Written

@@ -9,4 +9,4 @@ mod tree;
 mod writer;
 
 pub use tree::{Attr, Elem, Part, Tree, Why};
-pub use writer::write;
+pub use writer::{write, written_holds_no_mark};

@@ -3,6 +3,7 @@
 
 ghost use Rattle.std.specs.Prelude.{◌≡◌, ◌++◌, OnOk, OnErr};
 ghost use Rattle.nc_message.specs.Appends.{Appends};
+ghost use Rattle.nc_message.specs.Unmarked.{HoldsNoMark};
 ghost use Rattle.nc_message.specs.Written.{end_of, written_part, written_elem, written};
 
 use crate::escape::push_text;
@@ -58,3 +59,9 @@ fn push_end(elem: &Elem, out: &mut Bytes) -> Result<(), Memory>
     out.push_slice(elem.name.name.as_str().as_bytes())?;
     out.push(b'>')
 }
+
+/// A law: where its names have neither `<` nor `>`, as no name of XML has, the text of a message
+/// never holds the end-of-message mark `]]>]]>` (RFC 6242 4.3).
+pub fn written_holds_no_mark()
+    ensures { HoldsNoMark }
+{}

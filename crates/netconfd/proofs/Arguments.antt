@@ -96,8 +96,8 @@ date_from-is (c ∷ cs) k h =
     let here : is_date_byte k c ≡ true = subst (λ n. is_date_byte n c ≡ true) (let e : k + 0 ≡ k = omega arith in e) (h.1 0 (omega arith)) in
     let size : (k + 1) + length cs ≡ 10 = omega (arith, h.0) in
     let more : (j : ℕ) → j < length cs → is_date_byte ((k + 1) + j) (get_or cs j 0) ≡ true = λ j less.
-        let place : k + suc j ≡ (k + 1) + j = omega arith in
-        subst (λ n. is_date_byte n (get_or cs j 0) ≡ true) place (h.1 (suc j) (omega (arith, less))) in
+    let place : k + suc j ≡ (k + 1) + j = omega arith in
+    subst (λ n. is_date_byte n (get_or cs j 0) ≡ true) place (h.1 (suc j) (omega (arith, less))) in
     ap (λ b. b && is_date_from (k + 1) cs) here ∙ date_from-is cs (k + 1) (size, more)
 
 date_place : (k c : ℕ) (cs : List ℕ) → is_date_byte k c ≡ true → ((j : ℕ) → j < length cs → is_date_byte ((k + 1) + j) (get_or cs j 0) ≡ true)
@@ -124,8 +124,8 @@ date-is v rest text e shape =
     let parts : split 10 text ≡ (v, rest) = ap (λ n. split n text) size ∙ ap (split (length v)) e ∙ split_seam v rest in
     let front : take 10 text ≡ v = ap (λ p. p.0) parts in
     let bytes : (j : ℕ) → j < length v → is_date_byte (0 + j) (get_or v j 0) ≡ true = λ j less.
-        let place : j ≡ 0 + j = omega arith in
-        subst (λ n. is_date_byte n (get_or v j 0) ≡ true) place (shape.1 j (omega (arith, less, shape.0))) in
+    let place : j ≡ 0 + j = omega arith in
+    subst (λ n. is_date_byte n (get_or v j 0) ≡ true) place (shape.1 j (omega (arith, less, shape.0))) in
     let test : is_date_from 0 (take 10 text) ≡ true = ap (is_date_from 0) front ∙ date_from-is v 0 (omega (arith, shape.0), bytes) in
     ap (λ b. cond b (Some (split 10 text)) None) test ∙ ap Some parts
 
@@ -137,6 +137,6 @@ date-gives v rest text e =
     let bytes = date_from-gives v 0 (subst (λ l. is_date_from 0 l ≡ true) parts.0 both.0) in
     let size : length v ≡ 10 = omega (arith, bytes.0) in
     let each : (j : ℕ) → j < 10 → is_date_byte j (get_or v j 0) ≡ true = λ j less.
-        let place : 0 + j ≡ j = omega arith in
-        subst (λ n. is_date_byte n (get_or v j 0) ≡ true) place (bytes.1 j (omega (arith, less, size))) in
+    let place : 0 + j ≡ j = omega arith in
+    subst (λ n. is_date_byte n (get_or v j 0) ≡ true) place (bytes.1 j (omega (arith, less, size))) in
     ((size, each), parts.1)

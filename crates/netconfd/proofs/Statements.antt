@@ -82,9 +82,21 @@ statement_spaced keyword kind sign v rest more text r1 r2 r3 e1 e2 e3 e4 spaced 
     let blanks = gap-gives r1 r2 e2 in
     let second : r1 ≡ blanks_of r1 ++ (spelled kind v ++ r3) = blanks.0 ∙ ap (λ l. blanks_of r1 ++ l) value.1 in (
       value.0,
-      (blanks_of text, r1, piece-gives keyword text r1 e1, blanks_pass text, λ after. absurd (cc after),
-        (blanks_of r1, r3, second, blanks_pass r1, λ after. blanks.1,
-          (blanks_of r3, rest, piece-gives (sign ∷ []) r3 rest e4, blanks_pass r3, spaced))),
+      (
+        blanks_of text,
+        r1,
+        piece-gives keyword text r1 e1,
+        blanks_pass text,
+        λ after. absurd (cc after),
+        (
+          blanks_of r1,
+          r3,
+          second,
+          blanks_pass r1,
+          λ after. blanks.1,
+          (blanks_of r3, rest, piece-gives (sign ∷ []) r3 rest e4, blanks_pass r3, spaced),
+        ),
+      ),
     )
 
 statement_last : (kind : Argument) (sign : ℕ) (v rest r2 : List ℕ) (value : List ℕ × List ℕ) (r4 : List ℕ)
@@ -215,7 +227,7 @@ pub parts-gives : (text : List ℕ) (m : Module) → length text ≤ 4194304 →
 parts-gives text m short features e =
     let steps = parts_steps text _ e in
     let closes : IsSpaced false (Sign 125 ∷ []) steps.r4 =
-        (blanks_of steps.r4, steps.rest, piece-gives (125 ∷ []) steps.r4 steps.rest steps.last, blanks_pass steps.r4, end-gives steps.rest steps.ends) in
+    (blanks_of steps.r4, steps.rest, piece-gives (125 ∷ []) steps.r4 steps.rest steps.last, blanks_pass steps.r4, end-gives steps.rest steps.ends) in
     let s4 = statement-gives (codes "revision") Date 59 m.revision steps.r4 closing steps.r3 steps.fourth closes in
     let s3 = statement-gives (codes "prefix") Name 59 steps.prefix steps.r3 (from_revision m.revision) steps.r2 steps.third s4.1 in
     let s2 = statement-gives (codes "namespace") Quoted 59 m.space steps.r2 (from_prefix steps.prefix m.revision) steps.r1 steps.second s3.1 in

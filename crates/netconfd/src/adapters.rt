@@ -127,7 +127,11 @@ fn out_of_memory(_: Memory) -> io::Error {
 
 /// The name of an entry of a folder. `None` stands for what is no file, or is gone meanwhile, and for
 /// a name that is not UTF-8.
-fn file_name(alloc: Global, rt: &HostRuntime, entry: io::Result<DirEntry>) -> io::Result<Option<Text>> {
+fn file_name(
+    alloc: Global,
+    rt: &HostRuntime,
+    entry: io::Result<DirEntry>,
+) -> io::Result<Option<Text>> {
     let entry = match entry {
         Ok(entry) => entry,
         Err(error) if error.kind() == ErrorKind::InvalidFilename => return Ok(None),

@@ -26,9 +26,9 @@ fn read_parts(text: &[u8]) -> Option<Parts<'_>>
     ensures { MatchOption result
         (readings.parts text.now ≡ None)
         (λ parts. readings.parts text.now ≡ Some (record {
-            name = parts.name.now;
-            space = parts.space.now;
-            revision = parts.revision.now;
+          name = parts.name.now;
+          space = parts.space.now;
+          revision = parts.revision.now;
         })) }
 {
     let mut reader = Reader::new(text);

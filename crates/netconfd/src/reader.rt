@@ -238,7 +238,7 @@ impl<'a> Reader<'a> {
         ensures { MatchOption result
             (readings.statement keyword.now kind sign self.old.left.now ≡ None)
             (λ value. readings.statement keyword.now kind sign self.old.left.now
-                ≡ Some (value.now, self.new.left.now)) }
+            ≡ Some (value.now, self.new.left.now)) }
     {
         self.piece(keyword.as_bytes())?;
         self.gap()?;

@@ -77,7 +77,11 @@ fn only_module(names: &[Text]) -> Option<&str>
 
 /// Reads the setup folder: `modules` in it has to hold exactly one file ending in `.yang`, a narrow
 /// module. A folder that is not there is an empty one, and so is a file.
-pub fn read_setup<F: Files>(alloc: Global, files: &mut F, folder: &str) -> Result<Module, SetupFault>
+pub fn read_setup<F: Files>(
+    alloc: Global,
+    files: &mut F,
+    folder: &str,
+) -> Result<Module, SetupFault>
     ensures ok { IfOk result (λ m. IfSome (F.files files.old) (λ fs. setups.IsSetup fs folder.now m)) }
     ensures modules { IsErrOf result SetupFault.Modules →
         IfSome (F.files files.old) (λ fs. (m : Module) → ¬ setups.IsSetup fs folder.now m) }

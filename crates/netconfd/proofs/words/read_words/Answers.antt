@@ -11,7 +11,7 @@ returns c =
     let size : length words ≡ 3 = omega arith in
     let items = three_items words _ _ _ size c.command-item.is c.folder-item.is c.user-item.is in
     let command : c.as_str.result.now ≡ codes "stdio" =
-        (bytes_eq-Decides _ _).0 (not-false _ (cc (c.ne.ensures, c.if-ne.false))) in
+    (bytes_eq-Decides _ _).0 (not-false _ (cc (c.ne.ensures, c.if-ne.false))) in
     record {
       three = ap (map string_bytes) items ∙ cc (command, c.as_str.ensures.value, c.as_str-2.ensures.value, c.as_str-3.ensures.value);
       folder_is_plain = search rules;

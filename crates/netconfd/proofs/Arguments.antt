@@ -1,10 +1,10 @@
 -- The arguments of statements: the readings give exactly what has the argument's shape.
-use Rattle.std.proofs.Common.{◌≡◌, ◌≢◌, ℕ, zero, suc, ◌+◌, ◌<◌, Bool, true, false, cond, ◌&&◌, List, [], ◌∷◌, ◌++◌, length, get_or, take, drop, Option, None, Some, option_and_then, refl, sym, ap, subst, ◌∙◌, append_assoc, take-append-drop, length-take, arith}
+use Rattle.std.proofs.Common.{◌≡◌, ◌≢◌, ℕ, zero, suc, ◌+◌, ◌<◌, Bool, true, false, cond, ◌&&◌, List, [], ◌∷◌, ◌++◌, length, get_or, take, drop, None, Some, option_and_then, refl, sym, ap, subst, ◌∙◌, append_assoc, take-append-drop, arith}
 use Rattle.std.proofs.Math.Seq.{drop-append_seam, take-append_seam}
 use Rattle.std.specs.List.{prefix_len, AllPass}
-use Rattle.std.proofs.lemmas.List.Elements.{All-cons, All-head, All-tail, All-nil}
+use Rattle.std.proofs.lemmas.List.Elements.{All-cons, All-head}
 use Rattle.std.proofs.lemmas.Bool.Decides.{nat_tests}
-use Rattle.netconfd.specs.NarrowModule.{is_blank, begins_name, continues_name, is_plain, is_date_byte, IsName, IsSpace, IsDate}
+use Rattle.netconfd.specs.NarrowModule.{begins_name, continues_name, is_plain, is_date_byte, IsName, IsSpace, IsDate}
 use Rattle.netconfd.specs.Readings.{after, split, first_passes, name, plain, quoted, is_date_from, date}
 use Rattle.netconfd.proofs.Fronts.{cond_some, bind_some, bind_is, passes_all, prefix_passes, split_seam, after-is, after-gives}
 

@@ -1,5 +1,5 @@
 -- Setup folders without a narrow module.
-use Rattle.std.proofs.Common.{◌≡◌, ◌≢◌, ℕ, List, [], ◌∷◌, ◌++◌, Option, None, Some, IfSome, unwrap_or, sym, ap, subst, ◌∙◌}
+use Rattle.std.proofs.Common.{◌≡◌, ℕ, List, [], ◌∷◌, ◌++◌, Option, None, Some, IfSome, unwrap_or, sym, ap, subst, ◌∙◌}
 use Rattle.std.specs.List.{filter}
 use Rattle.nc_names.specs.declared.name.Module.{Module}
 use Rattle.nc_outside.specs.declared.files.NamedFile.{NamedFile}

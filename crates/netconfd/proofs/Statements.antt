@@ -1,12 +1,12 @@
 -- Statements and whole texts: the readings give exactly what is spaced so.
-use Rattle.std.proofs.Common.{◌≡◌, ◌≢◌, ℕ, ◌<◌, ◌≤◌, Bool, true, false, List, [], ◌∷◌, ◌++◌, length, Option, None, Some, refl, sym, ap, subst, ◌∙◌, append-nil, codes, cond, get_or, length-drop, arith}
-use Rattle.std.specs.List.{prefix_len, AllPass, All}
+use Rattle.std.proofs.Common.{◌≡◌, ℕ, ◌<◌, ◌≤◌, Bool, true, false, List, [], ◌∷◌, ◌++◌, length, Option, None, Some, refl, sym, ap, subst, ◌∙◌, append-nil, codes, cond, get_or, length-drop, arith}
+use Rattle.std.specs.List.{prefix_len, AllPass}
 use Rattle.std.specs.Str.{IsAscii}
 use Rattle.std.proofs.lemmas.Bool.Decides.{nat_tests, Decides-eqb}
-use Rattle.std.proofs.lemmas.List.Elements.{All-head, All-nil}
+use Rattle.std.proofs.lemmas.List.Elements.{All-head}
 use Rattle.std.proofs.lemmas.Str.Ascii.{IsAscii-from_all, IsAscii-cons, IsAscii-from_reads}
 use Rattle.nc_names.specs.declared.name.Module.{Module}
-use Rattle.netconfd.specs.NarrowModule.{is_blank, begins_name, continues_name, is_plain, is_date_byte, IsName, IsSpace, IsDate, Piece, Word, Sign, IsSpaced, pieces, IsNarrowModule}
+use Rattle.netconfd.specs.NarrowModule.{is_blank, begins_name, continues_name, is_plain, is_date_byte, IsName, IsSpace, IsDate, Piece, Word, Sign, IsSpaced, IsNarrowModule}
 use Rattle.netconfd.specs.Readings.{after_blanks, gap, piece, first_passes, argument, statement, parts, is_end, Parts}
 use Rattle.netconfd.specs.declared.reader.Argument.{Argument}
 use Rattle.netconfd.specs.declared.reader.Argument.TheVariants.{Name, Quoted, Date}
@@ -160,9 +160,17 @@ from_prefix prefix revision = Word (codes "prefix") ∷ Word (spelled Name prefi
 abbrev from_space : (space prefix revision : List ℕ) → List Piece
 from_space space prefix revision = Word (codes "namespace") ∷ Word (spelled Quoted space) ∷ Sign 59 ∷ from_prefix prefix revision
 
+-- the steps that a text takes when it is read
+parts_made : (text r1 r2 r3 r4 rest : List ℕ) (p : Parts) (prefix : List ℕ)
+    → statement (codes "module") Name 123 text ≡ Some (p.name, r1) → statement (codes "namespace") Quoted 59 r1 ≡ Some (p.space, r2)
+    → statement (codes "prefix") Name 59 r2 ≡ Some (prefix, r3) → statement (codes "revision") Date 59 r3 ≡ Some (p.revision, r4)
+    → piece (125 ∷ []) r4 ≡ Some rest → is_end rest ≡ true → parts text ≡ Some p
+unfolding parts
+parts_made text r1 r2 r3 r4 rest p prefix e1 e2 e3 e4 e5 ends =
+    bind_is _ _ _ _ e1 (bind_is _ _ _ _ e2 (bind_is _ _ _ _ e3 (bind_is _ _ _ _ e4 (bind_is _ _ _ _ e5 (ap (λ b. cond b (Some p) None) ends)))))
+
 -- what is read of a narrow module's text
 pub parts-is : (text : List ℕ) (m : Module) → IsNarrowModule text m → parts text ≡ Some (record { name = m.name; space = m.space; revision = m.revision })
-unfolding parts
 parts-is text m narrow =
     let s1 = statement-is (codes "module") Name 123 m.name (from_space m.space narrow.prefix m.revision) text (λ r. refl) refl refl narrow.name_shape narrow.spaced in
     let s2 = statement-is (codes "namespace") Quoted 59 m.space (from_prefix narrow.prefix m.revision) s1.0 (λ r. refl) refl refl narrow.space_shape s1.1.1 in
@@ -170,9 +178,8 @@ parts-is text m narrow =
     let s4 = statement-is (codes "revision") Date 59 m.revision closing s3.0 (λ r. refl) refl refl narrow.revision_shape s3.1.1 in
     let last = s4.1.1 in
     let s5 = piece-is (125 ∷ []) last.0 last.1 s4.0 last.2 last.3 refl in
-    let ends = end-is last.1 last.4 in
-    bind_is _ _ _ _ s1.1.0 (bind_is _ _ _ _ s2.1.0 (bind_is _ _ _ _ s3.1.0 (bind_is _ _ _ _ s4.1.0 (bind_is _ _ _ _ s5
-    (ap (λ b. cond b (Some (record { name = m.name; space = m.space; revision = m.revision })) None) ends)))))
+    parts_made text s1.0 s2.0 s3.0 s4.0 last.1 (record { name = m.name; space = m.space; revision = m.revision }) narrow.prefix
+    s1.1.0 s2.1.0 s3.1.0 s4.1.0 s5 (end-is last.1 last.4)
 
 -- the steps of a text that is read
 pub record Steps (text : List ℕ) (p : Parts) : Type 0 where

@@ -1,5 +1,5 @@
 -- How a narrow module text is read from its front: each reading gives what it read and what is left.
-use Rattle.std.specs.Prelude.{◌≡◌, ℕ, ◌+◌, ◌<◌, ◌==◌, ◌&&◌, Bool, true, false, nat_eq, List, [], ◌∷◌, ◌++◌, length, take, drop, Option, None, Some, option_and_then, codes, if◌then◌else◌}
+use Rattle.std.specs.Prelude.{ℕ, ◌+◌, ◌==◌, ◌&&◌, Bool, false, nat_eq, List, [], ◌∷◌, length, take, drop, Option, None, Some, option_and_then, codes, if◌then◌else◌}
 use Rattle.std.specs.List.{prefix_len, starts_with}
 use Rattle.netconfd.specs.NarrowModule.{is_blank, begins_name, continues_name, is_plain, is_date_byte}
 use Rattle.netconfd.specs.declared.reader.Argument.{Argument}

@@ -1,5 +1,4 @@
-use Rattle.std.proofs.Common.{rules, ◌≡◌, ◌≤◌, ◌∷◌, [], Option, None, Some, length, sym, ap, ◌∙◌, arith}
-use Rattle.netconfd.specs.Readings.{Parts, parts}
+use Rattle.std.proofs.Common.{◌≡◌, ◌≤◌, None, Some, length, sym, ◌∙◌, arith}
 use Rattle.netconfd.proofs.Statements.{parts-is, parts-gives, parts_ascii}
 use Rattle.netconfd.proofs.narrow.read_module.Goals as goal
 

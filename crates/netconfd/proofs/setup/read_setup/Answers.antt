@@ -1,4 +1,4 @@
-use Rattle.std.proofs.Common.{rules, ◌≡◌, ◌∷◌, [], ◌++◌, codes, sym, ap, ◌∙◌, append_assoc}
+use Rattle.std.proofs.Common.{rules, ◌≡◌, ◌∷◌, ◌++◌, codes, append_assoc}
 use Rattle.netconfd.proofs.Setups.{no_setup}
 use Rattle.netconfd.proofs.setup.read_setup.Goals as goal
 

@@ -8,6 +8,8 @@ mod adapters;
 mod narrow;
 mod reader;
 mod run;
+#[cfg(test)]
+mod session_tests;
 mod setup;
 #[cfg(test)]
 mod tests;

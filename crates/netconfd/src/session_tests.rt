@@ -1,0 +1,214 @@
+//! The top call over a world in memory: the sample session, and each exit status.
+use crate::run::{World, run};
+use nc_names::{Bytes, Many, Memory, Text};
+use nc_outside::{MemFiles, MemSink, MemSource, NamedFile};
+use std::alloc::Global;
+use std::test::Fail;
+
+const HELLO: &str =
+    "<hello xmlns=\"urn:ietf:params:xml:ns:netconf:base:1.0\"><capabilities><capability>urn:ietf:params:netconf:base:1.0</capability></capabilities></hello>]]>]]>";
+
+const GET: &str =
+    "<rpc xmlns=\"urn:ietf:params:xml:ns:netconf:base:1.0\" message-id=\"1\"><get-config><source><running/></source></get-config></rpc>]]>]]>";
+
+const CLOSE: &str =
+    "<rpc xmlns=\"urn:ietf:params:xml:ns:netconf:base:1.0\" message-id=\"2\"><close-session/></rpc>]]>]]>";
+
+const SERVER_HELLO: &str =
+    "<hello xmlns=\"urn:ietf:params:xml:ns:netconf:base:1.0\"><capabilities><capability>urn:ietf:params:netconf:base:1.0</capability><capability>urn:ex?module=ex&amp;revision=2024-01-01</capability></capabilities><session-id>1</session-id></hello>]]>]]>";
+
+const DATA: &str =
+    "<rpc-reply xmlns=\"urn:ietf:params:xml:ns:netconf:base:1.0\" message-id=\"1\"><data/></rpc-reply>]]>]]>";
+
+const OK: &str =
+    "<rpc-reply xmlns=\"urn:ietf:params:xml:ns:netconf:base:1.0\" message-id=\"2\"><ok/></rpc-reply>]]>]]>";
+
+const MODULE: &str =
+    "module ex {\n  namespace \"urn:ex\";\n  prefix ex;\n  revision 2024-01-01;\n}\n";
+
+/// What one run is given: its words, its input and the size of a piece of it, and the number of the
+/// call that fails, or 0, at the source, the sink and the files.
+#[derive(Clone, Copy)]
+struct Case<'a> {
+    words: &'a str,
+    input: &'a str,
+    piece: usize,
+    bad_read: u64,
+    bad_write: u64,
+    bad_file: u64,
+}
+
+const SAMPLE: Case<'static> = Case {
+    words: "stdio setup alice",
+    input: "",
+    piece: 16_384,
+    bad_read: 0,
+    bad_write: 0,
+    bad_file: 0,
+};
+
+/// What a run gave: its exit status, and what the sink took.
+#[derive(Drop)]
+struct Outcome {
+    status: u8,
+    taken: Bytes,
+}
+
+fn words_of(alloc: Global, line: &str) -> Result<Vec<String>, Memory> {
+    let mut words = Vec::new(alloc);
+    for word in line.split(' ') {
+        words.push(String::from_str(alloc, word)?)?;
+    }
+    Ok(words)
+}
+
+fn one(alloc: Global, call: u64) -> Result<Many<u64>, Memory> {
+    let mut calls = Many::new(alloc);
+    calls.push(call)?;
+    Ok(calls)
+}
+
+fn setup_files(alloc: Global, failing: Many<u64>) -> Result<MemFiles, Memory> {
+    let mut files = Many::new(alloc);
+    files.push(NamedFile {
+        name: Text::from_text(alloc, "setup/modules/ex.yang")?,
+        bytes: Bytes::from_slice(alloc, MODULE.as_bytes())?,
+    })?;
+    Ok(MemFiles::new(files, failing))
+}
+
+fn outcome_of(alloc: Global, case: &Case) -> Result<Outcome, Memory> {
+    let words = words_of(alloc, case.words)?;
+    let input = Bytes::from_slice(alloc, case.input.as_bytes())?;
+    let world = World {
+        files: setup_files(alloc, one(alloc, case.bad_file)?)?,
+        source: MemSource::new(input, case.piece.max(1), one(alloc, case.bad_read)?),
+        sink: MemSink::new(alloc, one(alloc, case.bad_write)?),
+    };
+    let ran = run(alloc, words.as_slice(), world);
+    Ok(Outcome {
+        status: ran.status,
+        taken: Bytes::from_slice(alloc, ran.world.sink.taken())?,
+    })
+}
+
+fn joined(alloc: Global, texts: &[&str]) -> Result<Text, Memory> {
+    let mut all = Text::new(alloc);
+    for text in texts {
+        all.push_str(text)?;
+    }
+    Ok(all)
+}
+
+/// Whether a run of the case ends with the status and takes just these texts.
+fn ends_with(alloc: Global, case: &Case, status: u8, texts: &[&str]) -> Result<bool, Memory> {
+    let got = outcome_of(alloc, case)?;
+    let wanted = joined(alloc, texts)?;
+    Ok(got.status == status && got.taken.as_slice() == wanted.as_str().as_bytes())
+}
+
+#[test]
+fn the_sample_session_is_served(rt: HostRuntime) -> Result<(), Fail> {
+    let alloc = rt.alloc();
+    let input = joined(alloc, &[HELLO, GET, CLOSE])?;
+    for piece in [16_384, 7, 1] {
+        let case = Case {
+            input: input.as_str(),
+            piece,
+            ..SAMPLE
+        };
+        assert!(rt;
+            ends_with(alloc, &case, 0, &[SERVER_HELLO, DATA, OK])?,
+            "in pieces of {piece}"
+        );
+    }
+    Ok(())
+}
+
+#[test]
+fn requests_come_in_any_number_and_order(rt: HostRuntime) -> Result<(), Fail> {
+    let alloc = rt.alloc();
+    let input = joined(alloc, &[HELLO, GET, GET, CLOSE, GET])?;
+    let case = Case {
+        input: input.as_str(),
+        ..SAMPLE
+    };
+    assert!(rt; ends_with(alloc, &case, 0, &[SERVER_HELLO, DATA, DATA, OK])?);
+    Ok(())
+}
+
+#[test]
+fn each_end_of_input_has_its_status(rt: HostRuntime) -> Result<(), Fail> {
+    let alloc = rt.alloc();
+    let table = [
+        ("", 0, &[SERVER_HELLO][..]),
+        ("<hello", 0, &[SERVER_HELLO]),
+        ("<hello/>]]>]]>", 10, &[SERVER_HELLO]),
+        ("]]>]]>", 10, &[SERVER_HELLO]),
+    ];
+    for (input, status, texts) in table {
+        let case = Case { input, ..SAMPLE };
+        assert!(rt; ends_with(alloc, &case, status, texts)?, "{input}");
+    }
+    Ok(())
+}
+
+#[test]
+fn a_later_message_without_a_reading_ends_the_session(rt: HostRuntime) -> Result<(), Fail> {
+    let alloc = rt.alloc();
+    let input = joined(alloc, &[HELLO, GET, "<a]]>]]>", CLOSE])?;
+    let case = Case {
+        input: input.as_str(),
+        ..SAMPLE
+    };
+    assert!(rt; ends_with(alloc, &case, 10, &[SERVER_HELLO, DATA])?);
+    Ok(())
+}
+
+#[test]
+fn faults_of_the_outside_have_their_status(rt: HostRuntime) -> Result<(), Fail> {
+    let alloc = rt.alloc();
+    let input = joined(alloc, &[HELLO, GET, CLOSE])?;
+    let sample = Case {
+        input: input.as_str(),
+        piece: 200,
+        ..SAMPLE
+    };
+    let read = Case {
+        bad_read: 2,
+        ..sample
+    };
+    assert!(rt; ends_with(alloc, &read, 6, &[SERVER_HELLO])?);
+    let write = Case {
+        bad_write: 1,
+        ..sample
+    };
+    assert!(rt; ends_with(alloc, &write, 7, &[])?);
+    let third = Case {
+        bad_write: 3,
+        ..sample
+    };
+    assert!(rt; ends_with(alloc, &third, 7, &[SERVER_HELLO, DATA])?);
+    let file = Case {
+        bad_file: 2,
+        ..sample
+    };
+    assert!(rt; ends_with(alloc, &file, 13, &[])?);
+    Ok(())
+}
+
+#[test]
+fn faulty_words_and_setups_have_their_status(rt: HostRuntime) -> Result<(), Fail> {
+    let alloc = rt.alloc();
+    let words = Case {
+        words: "stdio setup",
+        ..SAMPLE
+    };
+    assert!(rt; ends_with(alloc, &words, 2, &[])?);
+    let folder = Case {
+        words: "stdio elsewhere alice",
+        ..SAMPLE
+    };
+    assert!(rt; ends_with(alloc, &folder, 3, &[])?);
+    Ok(())
+}

@@ -4,6 +4,8 @@
 //! A collection here is equal to another where they hold the same, whatever their capacity, so `≡`
 //! on a struct of them is equality of meaning. What makes a new collection takes the allocator
 //! first; what grows one uses the allocator that the collection holds.
+//!
+//! The crates above test it: each of their tests makes and compares these values.
 #![tactic(auto)]
 
 mod boxed;

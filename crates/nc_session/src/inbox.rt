@@ -42,6 +42,7 @@ fn tail(bytes: &[u8], at: usize) -> &[u8]
 }
 
 impl Inbox {
+    /// No bytes, before the stream's first.
     pub(crate) fn new(alloc: Global) -> Inbox
         ensures bytes { result.bytes ≡ [] }
         ensures place { result.place ≡ 0 }

@@ -1,4 +1,7 @@
-//! A session from bytes to bytes.
+//! A session from bytes to bytes: the server's hello, the client's, and the reply to each request, in
+//! end-of-message framing (RFC 6241 4, 8.1; RFC 6242 4.3).
+//!
+//! The tests of the program above serve whole sessions.
 #![tactic(auto)]
 
 mod ask;

@@ -8,6 +8,7 @@ mod fetch;
 mod hello;
 mod inbox;
 mod limits;
+mod narrow;
 mod plain;
 mod reply;
 mod respond;

@@ -1,5 +1,6 @@
 pub mod Fetching
 pub mod NarrowCode
+pub mod NarrowContent
 pub mod NarrowFronts
 pub mod NarrowTags
 pub mod NarrowTrees

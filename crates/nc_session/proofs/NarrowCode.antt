@@ -114,9 +114,6 @@ attributes_more text behind next a blanks named parted read n =
     ap (λ b. cond b (cond (first_passes is_blank text) (option_and_then more (attribute (after_blanks text))) None) (Some ([], after_blanks text))) one
     ∙ ap (λ b. cond b (option_and_then more (attribute (after_blanks text))) None) parted ∙ ap (option_and_then more) two
 
--- the reading of content
-abbrev pub reads : ℕ → List ℕ → ℕ → List ℕ → Option (List Part × List ℕ)
-reads depth space n text = content n depth space text
 
 abbrev pub Going : (depth : ℕ) (space begin : List ℕ) → List Part → List ℕ → Type 0
 Going depth space begin items text = (most : ℕ) → length begin < most → Goes (λ n t. content n depth space t) most begin items text
@@ -126,15 +123,15 @@ content_begin depth space begin items none most less =
     subst (λ l. Goes (λ n t. content n depth space t) most begin l begin) (sym none) (goes_begin (λ n t. content n depth space t) most begin less)
 
 -- how content is read on behind text
-abbrev behind_run : ℕ → ℕ → List ℕ → List ℕ × List ℕ → Option (List Part × List ℕ)
+abbrev pub behind_run : ℕ → ℕ → List ℕ → List ℕ × List ℕ → Option (List Part × List ℕ)
 behind_run n depth space r =
     cond (starts_with eqb r.1 (60 ∷ 47 ∷ [])) (Some (chars_of r.0, r.1))
     (option_and_then (λ child. prepend (chars_of r.0 ++ Child child.0 ∷ []) (content n depth space child.1)) (element (content n) depth space r.1))
 
-run_read : (n depth : ℕ) (space text t r : List ℕ) → run text ≡ Some (t, r) → content (suc n) depth space text ≡ behind_run n depth space (t, r)
+pub run_read : (n depth : ℕ) (space text t r : List ℕ) → run text ≡ Some (t, r) → content (suc n) depth space text ≡ behind_run n depth space (t, r)
 run_read n depth space text t r e = ap (option_and_then (behind_run n depth space)) e
 
-no_tag : (n depth : ℕ) (space t r : List ℕ) → starts_with eqb r (60 ∷ 47 ∷ []) ≡ false
+pub no_tag : (n depth : ℕ) (space t r : List ℕ) → starts_with eqb r (60 ∷ 47 ∷ []) ≡ false
     → behind_run n depth space (t, r) ≡ option_and_then (λ child. prepend (chars_of t ++ Child child.0 ∷ []) (content n depth space child.1)) (element (content n) depth space r)
 no_tag n depth space t r e = ap (λ b. cond b (Some (chars_of t, r)) (option_and_then (λ child. prepend (chars_of t ++ Child child.0 ∷ []) (content n depth space child.1)) (element (content n) depth space r))) e
 

@@ -60,7 +60,7 @@ after-gives bytes text rest e =
     (starts_is Decides-eqb text bytes _ refl).0 both.0 ∙ ap (λ l. bytes ++ l) behind
 
 -- blanks
-pub blanks_of : List ℕ → List ℕ
+unfoldable pub blanks_of : List ℕ → List ℕ
 blanks_of text = take (prefix_len is_blank text) text
 
 pub blanks_pass : (text : List ℕ) → AllPass is_blank (blanks_of text)

@@ -1,7 +1,8 @@
 -- Names, attributes and tags: the readings give exactly what is spelled so.
 use Rattle.std.proofs.Common.{◌≡◌, ◌≢◌, ℕ, zero, suc, ◌+◌, ◌<◌, ◌≤◌, ◌||◌, ◌⊎◌, inl, inr, Bool, true, false, cond, eqb, List, [], ◌∷◌, ◌++◌, map, length, get_or, take, drop, Option, None, Some, option_and_then, refl, sym, ap, subst, ◌∙◌, take-append-drop, length-append, arith}
 use Rattle.std.proofs.Math.Seq.{drop-append_seam, take-append_seam}
-use Rattle.std.specs.List.{prefix_len, AllPass}
+use Rattle.std.specs.List.{prefix_len, starts_with, AllPass}
+use Rattle.std.proofs.lemmas.Slice.Eq.{starts_is}
 use Rattle.std.proofs.lemmas.List.Elements.{All-cons, All-head, All-tail, All-nil}
 use Rattle.std.proofs.lemmas.Bool.Decides.{nat_tests, Decides-eqb}
 use Rattle.nc_message.specs.declared.tree.Attr.{Attr}
@@ -280,3 +281,87 @@ closing_no_blank false rest = refl
 closing_no_name : (alone : Bool) (rest : List ℕ) → first_passes begins_name (closing alone rest) ≡ false
 closing_no_name true rest = refl
 closing_no_name false rest = refl
+
+-- a choice between two ways to give something
+pub choice : {A : Type 0} (b : Bool) (x : A) (o : Option A) (v : A) → cond b (Some x) o ≡ Some v → ((b ≡ true) × (x ≡ v)) ⊎ ((b ≡ false) × (o ≡ Some v))
+choice true x o v e = inl (refl, (cc e))
+choice false x o v e = inr (refl, e)
+
+close-gives : (text : List ℕ) (alone : Bool) (rest : List ℕ) → close text ≡ Some (alone, rest) → text ≡ closing alone rest
+unfolding close
+close-gives text alone rest e =
+    elim (choice (starts_with eqb text (47 ∷ 62 ∷ [])) (true, drop 2 text) (option_and_then (λ r. Some (false, r)) (after (62 ∷ []) text)) (alone, rest) e) [
+      inl h ↦ (starts_is Decides-eqb text (47 ∷ 62 ∷ []) _ refl).0 h.0 ∙ ap (λ p. closing p.0 p.1) h.1
+      | inr h ↦ let step = bind_some (after (62 ∷ []) text) (λ r. Some (false, r)) (alone, rest) h.1 in
+        let pair : ◌≡◌ {A = Bool × List ℕ} (false, step.0) (alone, rest) = cc step.1.1 in
+        after-gives (62 ∷ []) text step.0 step.1.0 ∙ ap (λ p. closing p.0 p.1) pair
+    ]
+
+-- a start tag
+tag_stops : (all : List Attribute) (blanks : List ℕ) (alone : Bool) (rest : List ℕ) → AreAttributes all → AllPass is_blank blanks
+    → first_passes continues_name (spelled_attributes all (blanks ++ closing alone rest)) ≡ false
+tag_stops [] blanks true rest are pass = name_stops blanks 47 (62 ∷ rest) pass refl
+tag_stops [] blanks false rest are pass = name_stops blanks 62 rest pass refl
+tag_stops (a ∷ more) blanks alone rest are pass = blank_ends a.before _ are.0.before are.0.apart
+
+abbrev pub started : Tag → Bool → Started
+started tag alone = record { name = tag.name; attrs = map attr_of tag.attributes; alone = alone }
+
+pub start-is : (tag : Tag) (alone : Bool) (rest : List ℕ) → IsTag tag → start (spelled_tag tag (closing alone rest)) ≡ Some (started tag alone, rest)
+unfolding start
+start-is tag alone rest is =
+    let behind = closing alone rest in
+    let text = spelled_attributes tag.attributes (tag.blanks ++ behind) in
+    let step2 = name-is tag.name text is.name (tag_stops tag.attributes tag.blanks alone rest is.attributes is.blanks) in
+    let step3 = attributes-is tag.attributes tag.blanks behind (suc (length text)) is.attributes is.blanks (closing_no_blank alone rest) (closing_no_name alone rest) (omega arith) in
+    let last : cond (all_differ (map attr_of tag.attributes)) (Some (started tag alone, rest)) None ≡ Some (started tag alone, rest) =
+    ap (λ b. cond b (Some (started tag alone, rest)) None) is.differ in
+    bind_is _ _ _ _ step2 (bind_is _ _ _ _ step3 (bind_is _ _ _ _ (close-is alone rest) last))
+
+pub record StartRead (text : List ℕ) (s : Started) (rest : List ℕ) : Type 0 where
+  pub tag : Tag
+  pub is : IsTag tag
+  pub same : started tag s.alone ≡ s
+  pub whole : text ≡ spelled_tag tag (closing s.alone rest)
+
+start_of : (text r1 r2 r3 n : List ℕ) (xs : List Attr) (alone : Bool) (rest : List ℕ) → after (60 ∷ []) text ≡ Some r1 → name r1 ≡ Some (n, r2)
+    → Attributed r2 xs r3 → close r3 ≡ Some (alone, rest) → all_differ xs ≡ true → StartRead text (record { name = n; attrs = xs; alone = alone }) rest
+start_of text r1 r2 r3 n xs alone rest e1 e2 found e4 differ =
+    let named = name-gives n r2 r1 e2 in
+    let closed = close-gives r3 alone rest e4 in
+    let tag : Tag = record { name = n; attributes = found.all; blanks = found.blanks } in
+    record {
+      tag = tag;
+      is = record { name = named.0; attributes = found.are; blanks = found.pass; differ = ap all_differ found.same ∙ differ };
+      same = ap (λ l. record { name = n; attrs = l; alone = alone }) found.same;
+      whole = after-gives (60 ∷ []) text r1 e1 ∙ ap (λ l. 60 ∷ l) (named.1 ∙ ap (λ l. n ++ l) (found.whole ∙ ap (λ l. spelled_attributes found.all (found.blanks ++ l)) closed));
+    }
+
+pub start-gives : (text : List ℕ) (s : Started) (rest : List ℕ) → start text ≡ Some (s, rest) → StartRead text s rest
+unfolding start
+start-gives text s rest e =
+    let s1 = bind_some (after (60 ∷ []) text) _ (s, rest) e in
+    let s2 = bind_some (name s1.0) _ (s, rest) s1.1.1 in
+    let s3 = bind_some (attributes (suc (length s2.0.1)) s2.0.1) _ (s, rest) s2.1.1 in
+    let s4 = bind_some (close s3.0.1) _ (s, rest) s3.1.1 in
+    let it : Started = record { name = s2.0.0; attrs = s3.0.0; alone = s4.0.0 } in
+    let last = cond_some (all_differ s3.0.0) (Some (it, s4.0.1)) (s, rest) s4.1.1 in
+    let pair : ◌≡◌ {A = Started × List ℕ} (it, s4.0.1) (s, rest) = cc last.1 in
+    let found = attributes-gives (suc (length s2.0.1)) s2.0.1 s3.0.0 s3.0.1 s3.1.0 in
+    let made = start_of text s1.0 s2.0.1 s3.0.1 s2.0.0 s3.0.0 s4.0.0 s4.0.1 s1.1.0 s2.1.0 found s4.1.0 last.0 in
+    subst (λ (p : Started × List ℕ). StartRead text p.0 p.1) pair made
+
+-- spelled pieces are longer than what follows them
+pub attributes_longer : (all : List Attribute) (rest : List ℕ) → length rest ≤ length (spelled_attributes all rest)
+attributes_longer [] rest = omega arith
+attributes_longer (a ∷ more) rest =
+    let below = attributes_longer more rest in
+    let here : length (spelled_attributes more rest) ≤ length (spelled_attribute a (spelled_attributes more rest)) = simp length-append (omega arith) in
+    omega (arith, below, here)
+
+pub tag_longer : (tag : Tag) (rest : List ℕ) → length rest < length (spelled_tag tag rest)
+tag_longer tag rest =
+    let below = attributes_longer tag.attributes (tag.blanks ++ rest) in
+    let sum : length (tag.blanks ++ rest) ≡ length tag.blanks + length rest = length-append tag.blanks rest in
+    let whole : length (tag.name ++ spelled_attributes tag.attributes (tag.blanks ++ rest)) ≡ length tag.name + length (spelled_attributes tag.attributes (tag.blanks ++ rest)) = length-append tag.name _ in
+    omega (arith, below, sum, whole)

@@ -197,4 +197,4 @@ pub record SpellsNarrow (bytes : List ℕ) (tree : Tree) : Type 0 where
   pub blank_before : AllPass is_blank before
   pub blank_behind : AllPass is_blank behind
   pub well_formed : IsContent 64 false (Element tag ending inner Nothing)
-  pub meaning : parts_of [] (Element tag ending inner Nothing) ≡ Child tree.root ∷ []
+  pub meaning : tree.root ≡ elem_of [] tag.name (map attr_of tag.attributes) (parts_of (space_in [] (map attr_of tag.attributes)) inner)

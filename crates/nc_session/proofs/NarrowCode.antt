@@ -1,6 +1,6 @@
 -- What the reader of narrow messages has read so far, and single steps of its loops.
-use Rattle.std.proofs.Common.{◌≡◌, ℕ, zero, suc, ◌+◌, ◌<◌, ◌≤◌, ◌||◌, Bool, true, false, cond, eqb, List, [], ◌∷◌, ◌++◌, length, get_or, take, drop, Option, None, Some, option_and_then, refl, sym, ap, subst, ◌∙◌, append_assoc, add-one, drop-cons, take-suc, arith}
-use Rattle.std.specs.List.{prefix_len, starts_with, AllPass, remove, slice_get}
+use Rattle.std.proofs.Common.{◌≡◌, ℕ, zero, suc, ◌+◌, ◌<◌, ◌≤◌, ◌||◌, Bool, true, false, cond, eqb, List, [], ◌∷◌, ◌++◌, length, get_or, take, drop, Option, None, Some, option_and_then, refl, sym, ap, subst, ◌∙◌, append_assoc, drop-cons, arith}
+use Rattle.std.specs.List.{prefix_len, starts_with, slice_get}
 use Rattle.std.specs.Str.{IsAscii}
 use Rattle.std.proofs.lemmas.Bool.Decides.{nat_tests}
 use Rattle.std.proofs.lemmas.Str.Ascii.{IsAscii-from_all}
@@ -11,7 +11,7 @@ use Rattle.nc_message.specs.declared.tree.Part.{Part}
 use Rattle.nc_message.specs.declared.tree.Part.TheVariants.{Child}
 use Rattle.nc_session.specs.Narrow.{is_blank, begins_name, continues_name, is_value_byte, is_text_byte, has_section_end, is_declaration, space_in, attrs_in}
 use Rattle.nc_session.specs.NarrowReadings.{after_blanks, first_passes, prepend, attribute, attributes, run, chars_of, element, content}
-use Rattle.nc_session.proofs.NarrowFronts.{prefix_passes, bind_is}
+use Rattle.nc_session.proofs.NarrowFronts.{prefix_passes}
 
 -- what passes these tests is ASCII
 prefix_ascii : (p : ℕ → Bool) (xs : List ℕ) → ((c : ℕ) → p c ≡ true → c < 128) → IsAscii (take (prefix_len p xs) xs)

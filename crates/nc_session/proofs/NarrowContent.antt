@@ -1,7 +1,7 @@
 -- Elements and content: the readings give exactly what is spelled so.
-use Rattle.std.proofs.Common.{◌≡◌, ◌≢◌, ℕ, zero, suc, ◌+◌, ◌-◌, ◌<◌, ◌≤◌, ◌⊎◌, inl, inr, Bool, true, false, cond, eqb, List, [], ◌∷◌, ◌++◌, map, length, take, drop, Option, None, Some, option_and_then, refl, sym, ap, subst, ◌∙◌, append_assoc, append-nil, take-append-drop, length-append, arith}
+use Rattle.std.proofs.Common.{◌≡◌, ◌≢◌, ℕ, zero, suc, ◌+◌, ◌-◌, ◌<◌, ◌≤◌, inl, inr, Bool, true, false, cond, eqb, List, [], ◌∷◌, ◌++◌, map, length, take, drop, Option, None, Some, option_and_then, refl, sym, ap, subst, ◌∙◌, append_assoc, append-nil, take-append-drop, length-append, arith}
 use Rattle.std.specs.List.{prefix_len, starts_with, AllPass}
-use Rattle.std.proofs.lemmas.List.Elements.{All-cons, All-head, All-tail, All-nil}
+use Rattle.std.proofs.lemmas.List.Elements.{All-nil}
 use Rattle.std.proofs.lemmas.Bool.Decides.{nat_tests, Decides-eqb}
 use Rattle.std.proofs.lemmas.Slice.Eq.{starts_is}
 use Rattle.nc_message.specs.declared.tree.Attr.{Attr}
@@ -10,7 +10,7 @@ use Rattle.nc_message.specs.declared.tree.Part.{Part}
 use Rattle.nc_message.specs.declared.tree.Part.TheVariants.{Child, Chars}
 use Rattle.nc_session.specs.Narrow.{is_blank, begins_name, is_text_byte, has_section_end, IsName, IsText, Tag, Ending, Alone, Closed, Content, Nothing, Run, Element, IsTag, IsEnding, IsContent, attr_of, spelled_tag, spelled_end, spelled, space_in, elem_of, parts_of}
 use Rattle.nc_session.specs.NarrowReadings.{after, piece, split, first_passes, prepend, start, Started, inside, element, chars_of, run, content}
-use Rattle.nc_session.proofs.NarrowFronts.{cond_some, bind_some, bind_is, passes_all, prefix_passes, split_seam, after-is, after-gives, blanks_of, blanks_pass, piece-is, piece-gives}
+use Rattle.nc_session.proofs.NarrowFronts.{bind_some, bind_is, passes_all, prefix_passes, split_seam, after-is, after-gives, blanks_of, blanks_pass, piece-is, piece-gives}
 use Rattle.nc_session.proofs.NarrowCode.{behind_run, run_read, no_tag}
 use Rattle.nc_session.proofs.NarrowTags.{prepend_some, choice, closing, started, start-is, StartRead, start-gives, tag_longer}
 
@@ -280,3 +280,106 @@ content-gives (suc n) depth space text parts rest e =
         let el = element-gives (content n) (λ d s x p y h. content-gives n d s x p y h) depth space r step.0.0 step.0.1 step.1.0 in
         more_read depth space text t r step.0.1 rest step.0.0 split.0 parts got.0 got.1 el (content-gives n depth space step.0.1 split.0 rest split.1) split.2
     ]
+
+-- what is spelled is longer than what follows it
+end_longer : (name blanks rest : List ℕ) → length rest < length (spelled_end name blanks rest)
+end_longer name blanks rest =
+    let inner : length (blanks ++ 62 ∷ rest) ≡ length blanks + suc (length rest) = length-append blanks (62 ∷ rest) in
+    let whole : length (name ++ (blanks ++ 62 ∷ rest)) ≡ length name + length (blanks ++ 62 ∷ rest) = length-append name (blanks ++ 62 ∷ rest) in
+    omega (arith, inner, whole)
+
+pub content_longer : (c : Content) (rest : List ℕ) → length rest ≤ length (spelled c rest)
+content_longer Nothing rest = omega arith
+content_longer (Run t more) rest =
+    let below = content_longer more rest in
+    let whole : length (t ++ spelled more rest) ≡ length t + length (spelled more rest) = length-append t (spelled more rest) in
+    omega (arith, below, whole)
+content_longer (Element tag Alone inner more) rest =
+    let below = content_longer more rest in
+    let whole = tag_longer tag (47 ∷ 62 ∷ spelled more rest) in
+    omega (arith, below, whole)
+content_longer (Element tag (Closed blanks) inner more) rest =
+    let below = content_longer more rest in
+    let last = end_longer tag.name blanks (spelled more rest) in
+    let mid = content_longer inner (spelled_end tag.name blanks (spelled more rest)) in
+    let whole = tag_longer tag (62 ∷ spelled inner (spelled_end tag.name blanks (spelled more rest))) in
+    omega (arith, below, last, mid, whole)
+
+element_longer : (tag : Tag) (ending : Ending) (inner more : Content) (rest : List ℕ) → length (spelled more rest) < length (spelled (Element tag ending inner more) rest)
+element_longer tag Alone inner more rest =
+    let whole = tag_longer tag (47 ∷ 62 ∷ spelled more rest) in omega (arith, whole)
+element_longer tag (Closed blanks) inner more rest =
+    let last = end_longer tag.name blanks (spelled more rest) in
+    let mid = content_longer inner (spelled_end tag.name blanks (spelled more rest)) in
+    let whole = tag_longer tag (62 ∷ spelled inner (spelled_end tag.name blanks (spelled more rest))) in
+    omega (arith, last, mid, whole)
+
+inner_longer : (tag : Tag) (ending : Ending) (inner : Content) (blanks rest : List ℕ) → ending ≡ Closed blanks
+    → length (spelled inner (spelled_end tag.name blanks rest)) < length (spelled (Element tag ending inner Nothing) rest)
+inner_longer tag ending inner blanks rest e =
+    let whole = tag_longer tag (62 ∷ spelled inner (spelled_end tag.name blanks rest)) in
+    let less : length (spelled inner (spelled_end tag.name blanks rest)) < length (spelled (Element tag (Closed blanks) inner Nothing) rest) = omega (arith, whole) in
+    subst (λ x. length (spelled inner (spelled_end tag.name blanks rest)) < length (spelled (Element tag x inner Nothing) rest)) (sym e) less
+
+chars_some : (t : List ℕ) → t ≢ [] → chars_of t ≡ Chars t ∷ []
+chars_some [] some = absurd (some refl)
+chars_some (c ∷ cs) some = refl
+
+no_text : IsText []
+no_text = record { bytes = All-nil (λ c. is_text_byte c ≡ true); no_end = refl }
+
+-- an end tag stands next
+abbrev pub ended : List ℕ → List ℕ
+ended more = 60 ∷ 47 ∷ more
+
+-- text and an element are read, and content behind them
+element_then : (m depth : ℕ) (space t rest : List ℕ) (tag : Tag) (ending : Ending) (inner more : Content) → IsText t → IsTag tag
+    → element (content m) depth space (spelled (Element tag ending inner Nothing) (spelled more rest)) ≡ Some (written space tag inner, spelled more rest)
+    → content m depth space (spelled more rest) ≡ Some (parts_of space more, rest)
+    → content (suc m) depth space (t ++ spelled (Element tag ending inner more) rest) ≡ Some (chars_of t ++ parts_of space (Element tag ending inner more), rest)
+element_then m depth space t rest tag ending inner more text is first behind =
+    let whole = spelled (Element tag ending inner more) rest in
+    let go = λ (child : Elem × List ℕ). prepend (chars_of t ++ Child child.0 ∷ []) (content m depth space child.1) in
+    let read : element (content m) depth space whole ≡ Some (written space tag inner, spelled more rest) = ap (element (content m) depth space) (element_split tag ending inner more rest) ∙ first in
+    run_read m depth space (t ++ whole) t whole (run-is t whole text (element_no_text tag ending inner more rest))
+    ∙ no_tag m depth space t whole (element_no_end tag ending inner more rest is)
+    ∙ ap (option_and_then go) read
+    ∙ ap (prepend (chars_of t ++ Child (written space tag inner) ∷ [])) behind
+    ∙ ap (λ l. Some (l, rest)) (append_assoc (chars_of t) (Child (written space tag inner) ∷ []) (parts_of space more))
+
+-- content that is spelled behind text, and an end tag, is read
+pub content-is : (c : Content) (t : List ℕ) (in_run : Bool) (n depth : ℕ) (space more : List ℕ) → IsText t → (in_run ≡ false → t ≡ []) → IsContent depth in_run c
+    → length (t ++ spelled c (ended more)) < n → content n depth space (t ++ spelled c (ended more)) ≡ Some (chars_of t ++ parts_of space c, ended more)
+content-is Nothing t in_run zero depth space more text starts well less = absurd (omega (arith, less))
+content-is Nothing t in_run (suc m) depth space more text starts well less =
+    run_read m depth space (t ++ ended more) t (ended more) (run-is t (ended more) text refl)
+    ∙ ap (λ l. Some (l, ended more)) (sym (append-nil (chars_of t)))
+content-is (Run run next) t in_run n depth space more text starts well less =
+    let none : t ≡ [] = starts well.0 in
+    let size : length (run ++ spelled next (ended more)) < n = subst (λ l. length (l ++ (run ++ spelled next (ended more))) < n) none less in
+    let below = content-is next run true n depth space more well.2 (λ h. absurd (let f : true ≡ false = h in cc f)) well.3 size in
+    let joined : chars_of run ++ parts_of space next ≡ Chars run ∷ parts_of space next = ap (λ l. l ++ parts_of space next) (chars_some run well.1) in
+    subst (λ l. content n depth space (l ++ (run ++ spelled next (ended more))) ≡ Some (chars_of l ++ (Chars run ∷ parts_of space next), ended more)) (sym none)
+    (below ∙ ap (λ l. Some (l, ended more)) joined)
+content-is (Element tag ending inner next) t in_run zero depth space more text starts well less = absurd (omega (arith, less))
+content-is (Element tag ending inner next) t in_run (suc m) depth space more text starts well less =
+    let whole : length (t ++ spelled (Element tag ending inner next) (ended more)) ≡ length t + length (spelled (Element tag ending inner next) (ended more)) = length-append t _ in
+    let split : length (spelled (Element tag ending inner next) (ended more)) ≡ length (spelled (Element tag ending inner Nothing) (spelled next (ended more))) = ap length (element_split tag ending inner next (ended more)) in
+    let shorter = element_longer tag ending inner next (ended more) in
+    let size : length (spelled next (ended more)) < m = omega (arith, whole, shorter, less) in
+    let behind = content-is next [] false m depth space more no_text (λ h. refl) well.4 size in
+    let first = element-is (content m) depth space tag ending inner (spelled next (ended more)) well.0 well.1 well.2 (λ blanks e.
+    let within = inner_longer tag ending inner blanks (spelled next (ended more)) e in
+    let fits : length (spelled inner (spelled_end tag.name blanks (spelled next (ended more)))) < m = omega (arith, whole, split, within, less) in
+    content-is inner [] false m (depth - 1) (space_in space (attrs tag)) (tag.name ++ (blanks ++ 62 ∷ spelled next (ended more))) no_text (λ h. refl) well.3 fits) in
+    element_then m depth space t (ended more) tag ending inner next text well.1 first behind
+
+-- an element that is spelled is read
+pub element_reads : (n depth : ℕ) (above : List ℕ) (tag : Tag) (ending : Ending) (inner : Content) (rest : List ℕ) → IsContent depth false (Element tag ending inner Nothing)
+    → length (spelled (Element tag ending inner Nothing) rest) ≤ n
+    → element (content n) depth above (spelled (Element tag ending inner Nothing) rest) ≡ Some (written above tag inner, rest)
+element_reads n depth above tag ending inner rest well less =
+    element-is (content n) depth above tag ending inner rest well.0 well.1 well.2 (λ blanks e.
+    let within = inner_longer tag ending inner blanks rest e in
+    let fits : length (spelled inner (spelled_end tag.name blanks rest)) < n = omega (arith, within, less) in
+    content-is inner [] false n (depth - 1) (space_in above (attrs tag)) (tag.name ++ (blanks ++ 62 ∷ rest)) no_text (λ h. refl) well.3 fits)

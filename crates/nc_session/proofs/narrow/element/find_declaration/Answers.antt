@@ -1,4 +1,4 @@
-use Rattle.std.proofs.Common.{◌<◌, ◌≡◌, length, true, ◌∙◌, sym, arith}
+use Rattle.std.proofs.Common.{◌<◌, ◌≡◌, length, true, arith}
 use Rattle.nc_session.specs.Narrow.{is_declaration}
 use Rattle.nc_session.proofs.NarrowCode.{declared_space}
 use Rattle.nc_session.proofs.narrow.element.find_declaration.Goals as goal

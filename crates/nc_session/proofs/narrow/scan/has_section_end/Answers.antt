@@ -1,4 +1,4 @@
-use Rattle.std.proofs.Common.{◌∙◌, ◌≡◌, ◌<◌, ◌∷◌, [], false, eqb, sym, ap, drop, length, arith}
+use Rattle.std.proofs.Common.{◌∙◌, ◌≡◌, ◌<◌, ◌∷◌, [], false, eqb, drop, length, arith}
 use Rattle.std.specs.List.{starts_with}
 use Rattle.nc_session.proofs.NarrowCode.{section_step}
 use Rattle.nc_session.proofs.narrow.scan.has_section_end.Goals as goal

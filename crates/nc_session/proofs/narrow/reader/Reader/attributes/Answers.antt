@@ -1,4 +1,4 @@
-use Rattle.std.proofs.Common.{◌≡◌, ◌<◌, ◌≤◌, ◌++◌, ◌∷◌, [], suc, length, true, Some, subst, sym, arith}
+use Rattle.std.proofs.Common.{◌≡◌, ◌<◌, ◌∷◌, [], suc, length, true, Some, subst, sym, arith}
 use Rattle.nc_session.specs.Narrow.{is_blank, begins_name}
 use Rattle.nc_session.specs.NarrowReadings.{first_passes, attribute, attributes}
 use Rattle.nc_session.proofs.NarrowCode.{Goes, goes_more, attributes_more}

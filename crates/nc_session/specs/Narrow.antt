@@ -198,3 +198,7 @@ pub record SpellsNarrow (bytes : List ℕ) (tree : Tree) : Type 0 where
   pub blank_behind : AllPass is_blank behind
   pub well_formed : IsContent 64 false (Element tag ending inner Nothing)
   pub meaning : tree.root ≡ elem_of [] tag.name (map attr_of tag.attributes) (parts_of (space_in [] (map attr_of tag.attributes)) inner)
+
+-- a message has at most one tree
+abbrev pub OneTree : Type 0
+OneTree = (message : List ℕ) (s t : Tree) → SpellsNarrow message s → SpellsNarrow message t → s ≡ t

@@ -2,13 +2,15 @@
 //! with elements, attributes, default namespaces and text alone.
 ghost use Rattle.std.specs.Prelude.{◌≡◌, IfOk, MatchOption, None, Some};
 ghost use Rattle.nc_message.specs.declared.tree.Tree.{Tree};
-ghost use Rattle.nc_session.specs.Narrow.{SpellsNarrow};
+ghost use Rattle.nc_session.specs.Narrow.{SpellsNarrow, OneTree};
 ghost use Rattle.nc_session.specs.NarrowReadings as readings;
 
 mod element;
 mod reader;
 mod scan;
 mod tag;
+#[cfg(test)]
+mod tests;
 
 use element::MOST_OPEN;
 use nc_message::Tree;
@@ -41,4 +43,10 @@ pub(crate) fn read_tree(alloc: Global, message: &[u8]) -> Result<Option<Tree>, M
         (λ tree. SpellsNarrow message.now tree)) }
 {
     read_whole(alloc, message)
+}
+
+/// A law: a narrow message has one tree.
+pub(crate) fn one_tree()
+    ensures { OneTree }
+{
 }

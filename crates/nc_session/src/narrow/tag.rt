@@ -1,5 +1,5 @@
 //! Start tags of a narrow message, and their attributes (XML 1.0, 3.1).
-ghost use Rattle.std.specs.Prelude.{◌≡◌, ◌<◌, ◌≤◌, ◌+◌, ℕ, suc, List, [], ◌∷◌, length, drop, None, Some, IfOk, MatchOption, IfSome, OnSome};
+ghost use Rattle.std.specs.Prelude.{◌≡◌, ◌<◌, ◌≤◌, ◌+◌, ℕ, suc, [], ◌∷◌, length, drop, None, Some, IfOk, MatchOption, OnSome, OnOk, ◌++◌};
 ghost use Rattle.std.specs.List.{list_any};
 ghost use Rattle.std.specs.Str.{bytes_eq};
 ghost use Rattle.nc_session.specs.Narrow as shapes;
@@ -57,6 +57,13 @@ fn all_differ(attrs: &[Attr]) -> bool
     true
 }
 
+/// Puts an attribute behind those before it.
+fn add_attr(attrs: &mut Many<Attr>, attr: Attr) -> Result<(), Memory>
+    ensures { OnOk result (attrs.new ≡ attrs.old ++ attr ∷ []) }
+{
+    attrs.push(attr)
+}
+
 impl<'a> Reader<'a> {
     /// Reads an attribute (XML 1.0, 3.1).
     #[tactic(auto, unfolding(crate::specs::NarrowReadings::attribute))]
@@ -107,7 +114,7 @@ impl<'a> Reader<'a> {
             let Some(attr) = self.attribute()? else {
                 return Ok(None);
             };
-            attrs.push(attr)?;
+            add_attr(&mut attrs, attr)?;
         }
     }
 

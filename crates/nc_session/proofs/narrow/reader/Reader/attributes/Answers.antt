@@ -18,6 +18,6 @@ loop-attrs-preserved c =
     let less : length next < length text = omega (arith, shorter, c.blanks.ensures.within) in
     let g = goes_more attributes (suc (length begin)) begin c.loop-attrs.attrs (a ∷ []) text next c.loop-attrs.invariant.0
     (λ n fits. attributes_more text behind next a c.blanks.ensures.read named parted read n) less in (
-      subst (λ l. Goes attributes (suc (length begin)) begin l next) (sym c.in_ok-push.ensures.ok) g,
+      subst (λ l. Goes attributes (suc (length begin)) begin l next) (sym c.in_ok-add_attr.ensures) g,
       omega (arith, less, c.loop-attrs.invariant.1),
     )

@@ -1,5 +1,7 @@
 pub mod Asked
 pub mod Hello
+pub mod Narrow
+pub mod NarrowReadings
 pub mod Reading
 pub mod Reply
 pub mod Searched

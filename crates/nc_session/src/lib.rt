@@ -11,6 +11,7 @@ mod fetch;
 mod hello;
 mod inbox;
 mod limits;
+mod narrow;
 mod plain;
 mod reply;
 mod respond;

@@ -114,7 +114,6 @@ attributes_more text behind next a blanks named parted read n =
     ap (λ b. cond b (cond (first_passes is_blank text) (option_and_then more (attribute (after_blanks text))) None) (Some ([], after_blanks text))) one
     ∙ ap (λ b. cond b (option_and_then more (attribute (after_blanks text))) None) parted ∙ ap (option_and_then more) two
 
-
 abbrev pub Going : (depth : ℕ) (space begin : List ℕ) → List Part → List ℕ → Type 0
 Going depth space begin items text = (most : ℕ) → length begin < most → Goes (λ n t. content n depth space t) most begin items text
 

@@ -199,8 +199,8 @@ closed_read read sound depth above text behind rest rest2 s parts e some st alon
       well = inner.well;
       same = elem_named above st.tag s inner.inner st.same ∙ ap (elem_of above s.name s.attrs) inner.same ∙ one;
       whole =
-        st.whole ∙ ap (λ b. spelled_tag st.tag (closing b behind)) alone
-        ∙ ap (λ l. spelled_tag st.tag (62 ∷ l)) (inner.whole ∙ ap (λ n. spelled inner.inner (spelled_end n got.0 rest2)) named ∙ ap (λ l. spelled inner.inner (spelled_end st.tag.name got.0 l)) last);
+          st.whole ∙ ap (λ b. spelled_tag st.tag (closing b behind)) alone
+          ∙ ap (λ l. spelled_tag st.tag (62 ∷ l)) (inner.whole ∙ ap (λ n. spelled inner.inner (spelled_end n got.0 rest2)) named ∙ ap (λ l. spelled inner.inner (spelled_end st.tag.name got.0 l)) last);
     }
 
 pub element-gives : (read : ℕ → List ℕ → List ℕ → Option (List Part × List ℕ)) → ((d : ℕ) (space text : List ℕ) (parts : List Part) (rest : List ℕ) → read d space text ≡ Some (parts, rest) → ContentRead d space text parts rest)
@@ -214,9 +214,9 @@ element-gives read sound depth above text e rest h =
     let behind = first.0.1 in
     let st = start-gives text s behind first.1.0 in
     elim (choice s.alone (elem_of above s.name s.attrs [], behind) (option_and_then (λ p. Some (elem_of above s.name s.attrs p.0, p.1)) (inside read (depth - 1) (space_in above s.attrs) s.name behind)) (e, rest) first.1.1) [
-      inl w ↦ alone_read depth above text behind rest s e some st w.0 w.1
+      | inl w ↦ alone_read depth above text behind rest s e some st w.0 w.1
       | inr w ↦ let step = bind_some (inside read (depth - 1) (space_in above s.attrs) s.name behind) (λ p. Some (elem_of above s.name s.attrs p.0, p.1)) (e, rest) w.1 in
-        closed_read read sound depth above text behind rest step.0.1 s step.0.0 e some st w.0 step.1.0 (let pair : ◌≡◌ {A = Elem × List ℕ} (elem_of above s.name s.attrs step.0.0, step.0.1) (e, rest) = cc step.1.1 in pair)
+          closed_read read sound depth above text behind rest step.0.1 s step.0.0 e some st w.0 step.1.0 (let pair : ◌≡◌ {A = Elem × List ℕ} (elem_of above s.name s.attrs step.0.0, step.0.1) (e, rest) = cc step.1.1 in pair)
     ]
 
 -- text before content
@@ -274,11 +274,11 @@ content-gives (suc n) depth space text parts rest e =
     let got = run-gives t r text first.1.0 in
     let go = λ (child : Elem × List ℕ). prepend (chars_of t ++ Child child.0 ∷ []) (content n depth space child.1) in
     elim (choice (starts_with eqb r (60 ∷ 47 ∷ [])) (chars_of t, r) (option_and_then go (element (content n) depth space r)) (parts, rest) first.1.1) [
-      inl w ↦ last_read depth space text t r rest parts got.0 got.1 w.1
+      | inl w ↦ last_read depth space text t r rest parts got.0 got.1 w.1
       | inr w ↦ let step = bind_some (element (content n) depth space r) go (parts, rest) w.1 in
-        let split = prepend_some (chars_of t ++ Child step.0.0 ∷ []) parts rest (content n depth space step.0.1) step.1.1 in
-        let el = element-gives (content n) (λ d s x p y h. content-gives n d s x p y h) depth space r step.0.0 step.0.1 step.1.0 in
-        more_read depth space text t r step.0.1 rest step.0.0 split.0 parts got.0 got.1 el (content-gives n depth space step.0.1 split.0 rest split.1) split.2
+          let split = prepend_some (chars_of t ++ Child step.0.0 ∷ []) parts rest (content n depth space step.0.1) step.1.1 in
+          let el = element-gives (content n) (λ d s x p y h. content-gives n d s x p y h) depth space r step.0.0 step.0.1 step.1.0 in
+          more_read depth space text t r step.0.1 rest step.0.0 split.0 parts got.0 got.1 el (content-gives n depth space step.0.1 split.0 rest split.1) split.2
     ]
 
 -- what is spelled is longer than what follows it

@@ -258,9 +258,9 @@ attributes-gives zero text xs rest e = absurd (let f : None ≡ Some (xs, rest) 
 attributes-gives (suc m) text xs rest e =
     let more = λ (x : Attr × List ℕ). prepend (x.0 ∷ []) (attributes m x.1) in
     elim (way (first_passes begins_name (after_blanks text)) (first_passes is_blank text) (option_and_then more (attribute (after_blanks text))) (Some ([], after_blanks text)) (xs, rest) e) [
-      inl h ↦ let step = bind_some (attribute (after_blanks text)) more (xs, rest) h.1 in
-        let split = prepend_some (step.0.0 ∷ []) xs rest (attributes m step.0.1) step.1.1 in
-        one_more text step.0.1 rest step.0.0 split.0 xs h.0 step.1.0 split.2 (attributes-gives m step.0.1 split.0 rest split.1)
+      | inl h ↦ let step = bind_some (attribute (after_blanks text)) more (xs, rest) h.1 in
+          let split = prepend_some (step.0.0 ∷ []) xs rest (attributes m step.0.1) step.1.1 in
+          one_more text step.0.1 rest step.0.0 split.0 xs h.0 step.1.0 split.2 (attributes-gives m step.0.1 split.0 rest split.1)
       | inr h ↦ none_more text xs rest h
     ]
 
@@ -291,10 +291,10 @@ close-gives : (text : List ℕ) (alone : Bool) (rest : List ℕ) → close text 
 unfolding close
 close-gives text alone rest e =
     elim (choice (starts_with eqb text (47 ∷ 62 ∷ [])) (true, drop 2 text) (option_and_then (λ r. Some (false, r)) (after (62 ∷ []) text)) (alone, rest) e) [
-      inl h ↦ (starts_is Decides-eqb text (47 ∷ 62 ∷ []) _ refl).0 h.0 ∙ ap (λ p. closing p.0 p.1) h.1
+      | inl h ↦ (starts_is Decides-eqb text (47 ∷ 62 ∷ []) _ refl).0 h.0 ∙ ap (λ p. closing p.0 p.1) h.1
       | inr h ↦ let step = bind_some (after (62 ∷ []) text) (λ r. Some (false, r)) (alone, rest) h.1 in
-        let pair : ◌≡◌ {A = Bool × List ℕ} (false, step.0) (alone, rest) = cc step.1.1 in
-        after-gives (62 ∷ []) text step.0 step.1.0 ∙ ap (λ p. closing p.0 p.1) pair
+          let pair : ◌≡◌ {A = Bool × List ℕ} (false, step.0) (alone, rest) = cc step.1.1 in
+          after-gives (62 ∷ []) text step.0 step.1.0 ∙ ap (λ p. closing p.0 p.1) pair
     ]
 
 -- a start tag

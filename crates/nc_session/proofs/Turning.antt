@@ -8,15 +8,16 @@ use Rattle.std.proofs.lemmas.List.Elements.{All-push}
 use Rattle.std.specs.Io.KnownBytes.{prepend_known, append_known}
 use Rattle.nc_names.specs.Mark.{mark, with_mark}
 use Rattle.nc_names.specs.declared.name.Module.{Module}
+use Rattle.nc_message.specs.declared.tree.Tree.{Tree}
 use Rattle.nc_outside.specs.Causes.{TookPart}
 use Rattle.nc_outside.proofs.Known.{prepend_twice, prepend_nothing, append_twice, took_more, took_whole, took_nothing}
 use Rattle.nc_session.specs.Waiting.{Waiting}
-use Rattle.nc_session.specs.Reading.{IsMessage, Reads, ReadsNone, BeginsWith, capped}
+use Rattle.nc_session.specs.Reading.{Message, IsReading, IsRead, Reads, ReadsNone, BeginsWith, capped}
 use Rattle.nc_session.specs.Asked.{hello_fault, asked}
 use Rattle.nc_session.specs.Reply.{Answer, answer_to, end_after}
 use Rattle.nc_session.specs.declared.ask.Asked.{Asked}
 use Rattle.nc_session.specs.declared.ask.Operation.{Operation}
-use Rattle.nc_session.specs.declared.ask.Operation.TheVariants.{GetConfig, CloseSession}
+use Rattle.nc_session.specs.declared.ask.Operation.TheVariants.{GetConfig, CloseSession, Unknown}
 use Rattle.nc_session.specs.declared.end.HelloFault.{HelloFault}
 use Rattle.nc_session.specs.Session.{Phase, Greeting, Serving, Over, Progress, session, step, opening, answer_in, greeting_answer, phase_after, serving}
 use Rattle.nc_session.specs.Sending.{IsSendFault}
@@ -59,54 +60,54 @@ capped_more : (a b c n : ℕ) → a ≡ capped c → b ≡ capped (a + n) → b 
 capped_more a b c n first more = omega arith
 
 -- one message more is read
-module _ (m : Module) (phase : Phase) (w w' : Waiting) (l0 l l' t0 t : Option (List ℕ)) (message : List ℕ)
-    (u : Underway m phase w l0 l t0 t) (takes : Takes w w' l l' message) where
-  abbrev ms : List (List ℕ)
+module _ (m : Module) (phase : Phase) (w w' : Waiting) (l0 l l' t0 t : Option (List ℕ)) (message : Message)
+    (u : Underway m phase w l0 l t0 t) (takes : Takes w w' l l' message.bytes) (reading : IsReading message.bytes message.tree) where
+  abbrev ms : List Message
   ms = u.messages ++ message ∷ []
 
-  framed_more : framed ms ≡ framed u.messages ++ with_mark message
-  framed_more = flat_map-append with_mark u.messages (message ∷ []) ∙ ap (λ x. framed u.messages ++ x) (append-nil (with_mark message))
+  framed_more : framed ms ≡ framed u.messages ++ with_mark message.bytes
+  framed_more = flat_map-append (λ (x : Message). with_mark x.bytes) u.messages (message ∷ []) ∙ ap (λ x. framed u.messages ++ x) (append-nil (with_mark message.bytes))
 
   stepped : session m ms ≡ step (session m u.messages) message
   stepped = fold_push step (opening m) u.messages message
 
-  each_more : All IsMessage ms
-  each_more = All-push IsMessage u.messages message u.each takes.is_message
+  each_more : All IsRead ms
+  each_more = All-push IsRead u.messages message u.each (record { is_message = takes.is_message; reading = reading })
 
   read_more : l0 ≡ prepend_known (framed ms ++ w'.bytes) l'
   read_more =
       let all : (framed u.messages ++ w.bytes) ++ takes.bytes ≡ framed ms ++ w'.bytes =
       append_assoc (framed u.messages) w.bytes takes.bytes ∙ ap (λ x. framed u.messages ++ x) takes.whole
-      ∙ sym (append_assoc (framed u.messages) (with_mark message) w'.bytes) ∙ ap (λ x. x ++ w'.bytes) (sym framed_more) in
+      ∙ sym (append_assoc (framed u.messages) (with_mark message.bytes) w'.bytes) ∙ ap (λ x. x ++ w'.bytes) (sym framed_more) in
       u.read ∙ ap (prepend_known (framed u.messages ++ w.bytes)) takes.left ∙ prepend_twice l' (framed u.messages ++ w.bytes) takes.bytes
       ∙ ap (λ b. prepend_known b l') all
 
-  text_more : (session m ms).text ≡ (session m u.messages).text ++ (answer_in phase message).text
-  text_more = ap (λ (p : Progress). p.text) stepped ∙ ap (λ p. (session m u.messages).text ++ (answer_in p message).text) u.phase_is
+  text_more : (session m ms).text ≡ (session m u.messages).text ++ (answer_in phase message.tree).text
+  text_more = ap (λ (p : Progress). p.text) stepped ∙ ap (λ p. (session m u.messages).text ++ (answer_in p message.tree).text) u.phase_is
 
-  pub underway_more : (t' : Option (List ℕ)) → t' ≡ append_known t (answer_in phase message).text
-      → Underway m (phase_after phase (answer_in phase message).end) w' l0 l' t0 t'
+  pub underway_more : (t' : Option (List ℕ)) → t' ≡ append_known t (answer_in phase message.tree).text
+      → Underway m (phase_after phase (answer_in phase message.tree).end) w' l0 l' t0 t'
   underway_more t' written =
-      let size : length (framed ms) ≡ length (framed u.messages) + (length message + 6) =
-      ap length framed_more ∙ length-append (framed u.messages) (with_mark message) ∙ ap (λ n. length (framed u.messages) + n) (length-append message mark) in
+      let size : length (framed ms) ≡ length (framed u.messages) + (length message.bytes + 6) =
+      ap length framed_more ∙ length-append (framed u.messages) (with_mark message.bytes) ∙ ap (λ n. length (framed u.messages) + n) (length-append message.bytes mark) in
       record {
         messages = ms;
         each = each_more;
         read = read_more;
-        place = capped_more w.place w'.place (length (framed u.messages)) (length message + 6) u.place takes.place ∙ ap capped (sym size);
-        phase_is = ap (λ (p : Progress). p.phase) stepped ∙ ap (λ p. phase_after p (answer_in p message).end) u.phase_is;
-        written = written ∙ ap (λ k. append_known k (answer_in phase message).text) u.written
-            ∙ append_twice t0 (session m u.messages).text (answer_in phase message).text ∙ ap (append_known t0) (sym text_more);
+        place = capped_more w.place w'.place (length (framed u.messages)) (length message.bytes + 6) u.place takes.place ∙ ap capped (sym size);
+        phase_is = ap (λ (p : Progress). p.phase) stepped ∙ ap (λ p. phase_after p (answer_in p message.tree).end) u.phase_is;
+        written = written ∙ ap (λ k. append_known k (answer_in phase message.tree).text) u.written
+            ∙ append_twice t0 (session m u.messages).text (answer_in phase message.tree).text ∙ ap (append_known t0) (sym text_more);
       }
 
-  part_more : (t' : Option (List ℕ)) → TookPart t t' (answer_in phase message).text → TookPart t0 t' (session m ms).text
+  part_more : (t' : Option (List ℕ)) → TookPart t t' (answer_in phase message.tree).text → TookPart t0 t' (session m ms).text
   part_more t' part = let P : List ℕ → Type 0 = λ x. TookPart t0 t' x in subst P (sym text_more) (took_more (session m u.messages).text u.written part)
 
   -- the answer was written in part
-  pub cut_at_write : (t' : Option (List ℕ)) → TookPart t t' (answer_in phase message).text → Served m l0 l' t0 t' WriteFault
+  pub cut_at_write : (t' : Option (List ℕ)) → TookPart t t' (answer_in phase message.tree).text → Served m l0 l' t0 t' WriteFault
   cut_at_write t' part = record { messages = ms; rest = w'.bytes; each = each_more; read = read_more; ends = part_more t' part }
 
-  pub cut_for_memory : (t' : Option (List ℕ)) → TookPart t t' (answer_in phase message).text → Served m l0 l' t0 t' Memory
+  pub cut_for_memory : (t' : Option (List ℕ)) → TookPart t t' (answer_in phase message.tree).text → Served m l0 l' t0 t' Memory
   cut_for_memory t' part = record { messages = ms; rest = w'.bytes; each = each_more; read = read_more; ends = part_more t' part }
 
 -- the ends that a message shows
@@ -141,6 +142,7 @@ ShownOf (Some end) = IsShown end
 shown_after : (o : Operation) → ShownOf (end_after o)
 shown_after GetConfig = tt
 shown_after CloseSession = tt
+shown_after Unknown = tt
 
 shown_to : (a : Option Asked) → ShownOf (answer_to a).end
 shown_to None = tt
@@ -150,12 +152,12 @@ shown_greeting : (f : Option HelloFault) → ShownOf (greeting_answer f).end
 shown_greeting None = tt
 shown_greeting (Some why) = tt
 
-shown_for : (first : Bool) (message : List ℕ) → ShownOf (answer_for first message).end
-shown_for true message = shown_greeting (hello_fault message)
-shown_for false message = shown_to (asked message)
+shown_for : (first : Bool) (found : Option Tree) → ShownOf (answer_for first found).end
+shown_for true found = shown_greeting (hello_fault found)
+shown_for false found = shown_to (asked found)
 
-shown : (first : Bool) (message : List ℕ) (end : SessionEnd) → (answer_for first message).end ≡ Some end → IsShown end
-shown first message end e = subst ShownOf e (shown_for first message)
+shown : (first : Bool) (found : Option Tree) (end : SessionEnd) → (answer_for first found).end ≡ Some end → IsShown end
+shown first found end e = subst ShownOf e (shown_for first found)
 
 -- Whether the client's hello is awaited, in a session that goes on.
 abbrev pub IsAt : Bool → Phase → Type 0
@@ -163,7 +165,7 @@ IsAt true Greeting = Unit {0}
 IsAt false (Serving answered) = Unit {0}
 IsAt first phase = ⊥
 
-answers_same : (first : Bool) (phase : Phase) (message : List ℕ) → IsAt first phase → answer_for first message ≡ answer_in phase message
+answers_same : (first : Bool) (phase : Phase) (found : Option Tree) → IsAt first phase → answer_for first found ≡ answer_in phase found
 answers_same true Greeting message at = refl
 answers_same true (Serving n) message at = absurd at
 answers_same true (Over e) message at = absurd at
@@ -183,37 +185,37 @@ module _ (m : Module) (first : Bool) (phase : Phase) (w w' : Waiting) (l0 l l' t
     (u : Underway m phase w l0 l t0 t) where
   -- a message is answered and the session goes on
   pub turned : Turns first w w' l l' t t' (Ok tt) → Underway m (phase_after phase None) w' l0 l' t0 t'
-  turned (Answers message (Ok x) takes responds) =
-      let same = answers_same first phase message at in
+  turned (Answers message (Ok x) takes reading responds) =
+      let same = answers_same first phase message.tree at in
       let P : Option SessionEnd → Type 0 = λ e. Underway m (phase_after phase e) w' l0 l' t0 t' in
       subst P (ap (λ (a : Answer). a.end) (sym same) ∙ responds.0)
-      (underway_more m phase w w' l0 l l' t0 t message u takes t' (responds.1 ∙ ap (λ (a : Answer). append_known t a.text) same))
+      (underway_more m phase w w' l0 l l' t0 t message u takes reading t' (responds.1 ∙ ap (λ (a : Answer). append_known t a.text) same))
 
-  over : (end : SessionEnd) (message : List ℕ) → Takes w w' l l' message → (answer_for first message).end ≡ Some end
-      → t' ≡ append_known t (answer_for first message).text → Served m l0 l' t0 t' end
-  over end message takes ended written =
-      let same = answers_same first phase message at in
+  over : (end : SessionEnd) (message : Message) → Takes w w' l l' message.bytes → IsReading message.bytes message.tree → (answer_for first message.tree).end ≡ Some end
+      → t' ≡ append_known t (answer_for first message.tree).text → Served m l0 l' t0 t' end
+  over end message takes reading ended written =
+      let same = answers_same first phase message.tree at in
       let P : Option SessionEnd → Type 0 = λ e. Underway m (phase_after phase e) w' l0 l' t0 t' in
-      over_served m end w' l0 l' t0 t' (shown first message end ended)
+      over_served m end w' l0 l' t0 t' (shown first message.tree end ended)
       (subst P (ap (λ (a : Answer). a.end) (sym same) ∙ ended)
-      (underway_more m phase w w' l0 l l' t0 t message u takes t' (written ∙ ap (λ (a : Answer). append_known t a.text) same)))
+      (underway_more m phase w w' l0 l l' t0 t message u takes reading t' (written ∙ ap (λ (a : Answer). append_known t a.text) same)))
 
-  part_of : (message : List ℕ) → TookPart t t' (answer_for first message).text → TookPart t t' (answer_in phase message).text
-  part_of message part = let P : Answer → Type 0 = λ a. TookPart t t' a.text in subst P (answers_same first phase message at) part
+  part_of : (found : Option Tree) → TookPart t t' (answer_for first found).text → TookPart t t' (answer_in phase found).text
+  part_of found part = let P : Answer → Type 0 = λ a. TookPart t t' a.text in subst P (answers_same first phase found at) part
 
-  answered_end : (end : SessionEnd) (message : List ℕ) → Takes w w' l l' message → Responds (answer_for first message) t t' (Err end) → Served m l0 l' t0 t' end
-  answered_end WriteFault message takes responds = cut_at_write m phase w w' l0 l l' t0 t message u takes t' (part_of message responds)
-  answered_end Memory message takes responds = cut_for_memory m phase w w' l0 l l' t0 t message u takes t' (part_of message responds)
-  answered_end Closed message takes responds = over Closed message takes responds.0 responds.1
-  answered_end InputEnded message takes responds = over InputEnded message takes responds.0 responds.1
-  answered_end (BadHello why) message takes responds = over (BadHello why) message takes responds.0 responds.1
-  answered_end (BadFrame place) message takes responds = over (BadFrame place) message takes responds.0 responds.1
-  answered_end (Malformed place why) message takes responds = over (Malformed place why) message takes responds.0 responds.1
-  answered_end (TooBig place) message takes responds = over (TooBig place) message takes responds.0 responds.1
-  answered_end Killed message takes responds = over Killed message takes responds.0 responds.1
-  answered_end ReadFault message takes responds = over ReadFault message takes responds.0 responds.1
-  answered_end (Full live last) message takes responds = over (Full live last) message takes responds.0 responds.1
-  answered_end (Spent ticket) message takes responds = over (Spent ticket) message takes responds.0 responds.1
+  answered_end : (end : SessionEnd) (message : Message) → Takes w w' l l' message.bytes → IsReading message.bytes message.tree → Responds (answer_for first message.tree) t t' (Err end) → Served m l0 l' t0 t' end
+  answered_end WriteFault message takes reading responds = cut_at_write m phase w w' l0 l l' t0 t message u takes reading t' (part_of message.tree responds)
+  answered_end Memory message takes reading responds = cut_for_memory m phase w w' l0 l l' t0 t message u takes reading t' (part_of message.tree responds)
+  answered_end Closed message takes reading responds = over Closed message takes reading responds.0 responds.1
+  answered_end InputEnded message takes reading responds = over InputEnded message takes reading responds.0 responds.1
+  answered_end (BadHello why) message takes reading responds = over (BadHello why) message takes reading responds.0 responds.1
+  answered_end (BadFrame place) message takes reading responds = over (BadFrame place) message takes reading responds.0 responds.1
+  answered_end (Malformed place why) message takes reading responds = over (Malformed place why) message takes reading responds.0 responds.1
+  answered_end (TooBig place) message takes reading responds = over (TooBig place) message takes reading responds.0 responds.1
+  answered_end Killed message takes reading responds = over Killed message takes reading responds.0 responds.1
+  answered_end ReadFault message takes reading responds = over ReadFault message takes reading responds.0 responds.1
+  answered_end (Full live last) message takes reading responds = over (Full live last) message takes reading responds.0 responds.1
+  answered_end (Spent ticket) message takes reading responds = over (Spent ticket) message takes reading responds.0 responds.1
 
   still : GoesOn (session m u.messages).phase
   still = let P : Phase → Type 0 = λ p. GoesOn p in subst P (sym u.phase_is) (goes_on first phase at)
@@ -268,7 +270,7 @@ module _ (m : Module) (first : Bool) (phase : Phase) (w w' : Waiting) (l0 l l' t
 
   -- a turn at which the session ends
   pub ended : (end : SessionEnd) → Turns first w w' l l' t t' (Err end) → Served m l0 l' t0 t' end
-  ended end (Answers message (Err e) takes responds) = answered_end end message takes responds
+  ended end (Answers message (Err e) takes reading responds) = answered_end end message takes reading responds
   ended end (Stops e none same) = stopped end none same
 
 -- no memory before anything was written

@@ -8,6 +8,7 @@ pub mod Searched
 pub mod Sending
 pub mod Served
 pub mod Session
+pub mod Shape
 pub mod Turn
 pub mod Waiting
 pub mod Words

@@ -1,7 +1,9 @@
 -- How the messages of a stream are read, piece by piece.
-use Rattle.std.specs.Prelude.{◌≡◌, ℕ, ◌+◌, ◌-◌, ◌^◌, ◌<◌, ◌≤◌, min, List, ◌++◌, length, take, drop, Option, Result, Ok, Err}
+use Rattle.std.specs.Prelude.{◌≡◌, ℕ, ◌+◌, ◌-◌, ◌^◌, ◌<◌, ◌≤◌, min, List, ◌++◌, length, take, drop, Option, MatchOption, Result, Ok, Err}
 use Rattle.std.specs.Io.KnownBytes.{prepend_known, IsAtEnd}
 use Rattle.nc_names.specs.Mark.{HasNoMark, IsMarked, with_mark}
+use Rattle.nc_message.specs.declared.tree.Tree.{Tree}
+use Rattle.nc_session.specs.Narrow.{SpellsNarrow}
 use Rattle.nc_session.specs.Waiting.{Waiting}
 use Rattle.nc_session.specs.declared.end.SessionEnd.{SessionEnd}
 use Rattle.nc_session.specs.declared.end.SessionEnd.TheVariants.{InputEnded, ReadFault, TooBig, Memory}
@@ -15,6 +17,19 @@ capped place = min place (2 ^ 64 - 1)
 pub record IsMessage (message : List ℕ) : Type 0 where
   pub marked : IsMarked message
   pub small : length message ≤ MESSAGE_LIMIT
+
+-- a message as it came, and the tree that it spells, if it spells one
+pub record Message : Type 0 where
+  pub bytes : List ℕ
+  pub tree : Option Tree
+
+-- what is found of a message: the tree that it spells, or nothing where it spells none
+abbrev pub IsReading : List ℕ → Option Tree → Type 0
+IsReading bytes found = MatchOption found ((tree : Tree) → ¬ SpellsNarrow bytes tree) (λ tree. SpellsNarrow bytes tree)
+
+pub record IsRead (message : Message) : Type 0 where
+  pub is_message : IsMessage message.bytes
+  pub reading : IsReading message.bytes message.tree
 
 -- the bytes hold no mark, and are not too many
 pub record IsUnfinished (bytes : List ℕ) : Type 0 where

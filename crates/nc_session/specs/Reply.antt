@@ -8,19 +8,27 @@ use Rattle.nc_message.specs.declared.tree.Why.TheVariants.{NotWellFormed}
 use Rattle.nc_message.specs.Written.{written}
 use Rattle.nc_session.specs.declared.ask.Asked.{Asked}
 use Rattle.nc_session.specs.declared.ask.Operation.{Operation}
-use Rattle.nc_session.specs.declared.ask.Operation.TheVariants.{GetConfig, CloseSession}
+use Rattle.nc_session.specs.declared.ask.Operation.TheVariants.{GetConfig, CloseSession, Unknown}
 use Rattle.nc_session.specs.declared.end.SessionEnd.{SessionEnd}
 use Rattle.nc_session.specs.declared.end.SessionEnd.TheVariants.{Closed, Malformed}
-use Rattle.nc_session.specs.Hello.{base_elem}
-use Rattle.nc_session.specs.Words.{base_space, reply_name, ok_name, data_name}
+use Rattle.nc_session.specs.Hello.{base_elem, text_elem}
+use Rattle.nc_session.specs.Words.{base_space, reply_name, ok_name, data_name, rpc_error_name, error_type_name, error_tag_name, error_severity_name, protocol_word, not_supported_word, error_word}
 use Rattle.nc_session.specs.Asked.{asked}
+
+-- the error of an operation that this server lacks (RFC 6241 4.3, appendix A)
+abbrev pub not_supported_elem : Elem
+not_supported_elem =
+    base_elem rpc_error_name (
+    Child (text_elem error_type_name protocol_word) ∷ Child (text_elem error_tag_name not_supported_word)
+    ∷ Child (text_elem error_severity_name error_word) ∷ [])
 
 -- running is empty
 abbrev pub answer_elem : Operation → Elem
 answer_elem GetConfig = base_elem data_name []
 answer_elem CloseSession = base_elem ok_name []
+answer_elem Unknown = not_supported_elem
 
--- the attributes of `rpc` come back on its reply
+-- The attributes of `rpc` come back on its reply
 abbrev pub reply_tree : Asked → Tree
 reply_tree a = record {
   root = record {
@@ -34,6 +42,7 @@ reply_tree a = record {
 abbrev pub end_after : Operation → Option SessionEnd
 end_after GetConfig = None
 end_after CloseSession = Some Closed
+end_after Unknown = None
 
 -- what a message behind the hello is answered with, and whether the session ends with it
 pub record Answer : Type 0 where
@@ -44,5 +53,5 @@ abbrev pub answer_to : Option Asked → Answer
 answer_to None = record { text = []; end = Some (Malformed 0 NotWellFormed) }
 answer_to (Some a) = record { text = with_mark (written (reply_tree a)); end = end_after a.operation }
 
-abbrev pub answer : List ℕ → Answer
-answer message = answer_to (asked message)
+abbrev pub answer : Option Tree → Answer
+answer found = answer_to (asked found)

@@ -3,6 +3,7 @@ use Rattle.std.specs.Prelude.{◌≡◌, ℕ, ◌+◌, List, ◌++◌, All, leng
 use Rattle.std.specs.Io.KnownBytes.{append_known, prepend_known}
 use Rattle.nc_names.specs.Mark.{with_mark}
 use Rattle.nc_names.specs.declared.name.Module.{Module}
+use Rattle.nc_message.specs.declared.tree.Tree.{Tree}
 use Rattle.nc_outside.specs.Causes.{TookPart}
 use Rattle.nc_session.specs.declared.end.HelloFault.{HelloFault}
 use Rattle.nc_session.specs.declared.end.SessionEnd.{SessionEnd}
@@ -10,14 +11,14 @@ use Rattle.nc_session.specs.declared.end.SessionEnd.TheVariants.{WriteFault, Mem
 use Rattle.nc_session.specs.Waiting.{Waiting}
 use Rattle.nc_session.specs.Asked.{hello_fault}
 use Rattle.nc_session.specs.Reply.{Answer, answer}
-use Rattle.nc_session.specs.Reading.{IsMessage, ReadsNone, capped}
+use Rattle.nc_session.specs.Reading.{Message, IsMessage, IsReading, IsRead, ReadsNone, capped}
 use Rattle.nc_session.specs.Session.{Phase, greeting_answer, session}
 use Rattle.nc_session.specs.Served.{framed}
 
 -- the first message is the hello
-abbrev pub answer_for : Bool → List ℕ → Answer
-answer_for true message = greeting_answer (hello_fault message)
-answer_for false message = answer message
+abbrev pub answer_for : Bool → Option Tree → Answer
+answer_for true found = greeting_answer (hello_fault found)
+answer_for false found = answer found
 
 -- whether a session goes on behind the client's hello
 abbrev pub met : Option HelloFault → Result (Unit {0}) SessionEnd
@@ -41,15 +42,15 @@ pub record Takes (before now : Waiting) (left_before left_now : Option (List ℕ
 
 -- a message was read and responded to, or none was read
 pub data Turns (first : Bool) (before now : Waiting) (left_before left_now taken_before taken_now : Option (List ℕ)) : Result (Unit {0}) SessionEnd → Type 0 where
-  Answers : (message : List ℕ) (result : Result (Unit {0}) SessionEnd) → Takes before now left_before left_now message
-      → Responds (answer_for first message) taken_before taken_now result → Turns first before now left_before left_now taken_before taken_now result
+  Answers : (message : Message) (result : Result (Unit {0}) SessionEnd) → Takes before now left_before left_now message.bytes
+      → IsReading message.bytes message.tree → Responds (answer_for first message.tree) taken_before taken_now result → Turns first before now left_before left_now taken_before taken_now result
   Stops : (end : SessionEnd) → ReadsNone before now left_before left_now end → taken_now ≡ taken_before
       → Turns first before now left_before left_now taken_before taken_now (Err end)
 
 -- a session that goes on: the messages read, what waits behind them, and all that they are answered
 pub record Underway (m : Module) (phase : Phase) (now : Waiting) (left_before left_now taken_before taken_now : Option (List ℕ)) : Type 0 where
-  pub messages : List (List ℕ)
-  pub each : All IsMessage messages
+  pub messages : List Message
+  pub each : All IsRead messages
   pub read : left_before ≡ prepend_known (framed messages ++ now.bytes) left_now
   pub place : now.place ≡ capped (length (framed messages))
   pub phase_is : (session m messages).phase ≡ phase

@@ -44,12 +44,40 @@ revision_query = codes "&revision="
 unfoldable pub features_query : List ℕ
 features_query = codes "&features="
 
--- the messages of the sample session
-unfoldable pub sample_hello : List ℕ
-sample_hello = codes "<hello xmlns=\"urn:ietf:params:xml:ns:netconf:base:1.0\"><capabilities><capability>urn:ietf:params:netconf:base:1.0</capability></capabilities></hello>"
+-- names of requests and of their elements (RFC 6241 4.1, 7.1, 7.8)
+unfoldable pub rpc_name : List ℕ
+rpc_name = codes "rpc"
 
-unfoldable pub sample_get : List ℕ
-sample_get = codes "<rpc xmlns=\"urn:ietf:params:xml:ns:netconf:base:1.0\" message-id=\"1\"><get-config><source><running/></source></get-config></rpc>"
+unfoldable pub get_config_name : List ℕ
+get_config_name = codes "get-config"
 
-unfoldable pub sample_close : List ℕ
-sample_close = codes "<rpc xmlns=\"urn:ietf:params:xml:ns:netconf:base:1.0\" message-id=\"2\"><close-session/></rpc>"
+unfoldable pub source_name : List ℕ
+source_name = codes "source"
+
+unfoldable pub running_name : List ℕ
+running_name = codes "running"
+
+unfoldable pub close_session_name : List ℕ
+close_session_name = codes "close-session"
+
+-- the parts of an rpc-error, and the words that they hold (RFC 6241 4.3, appendix A)
+unfoldable pub rpc_error_name : List ℕ
+rpc_error_name = codes "rpc-error"
+
+unfoldable pub error_type_name : List ℕ
+error_type_name = codes "error-type"
+
+unfoldable pub error_tag_name : List ℕ
+error_tag_name = codes "error-tag"
+
+unfoldable pub error_severity_name : List ℕ
+error_severity_name = codes "error-severity"
+
+unfoldable pub protocol_word : List ℕ
+protocol_word = codes "protocol"
+
+unfoldable pub not_supported_word : List ℕ
+not_supported_word = codes "operation-not-supported"
+
+unfoldable pub error_word : List ℕ
+error_word = codes "error"

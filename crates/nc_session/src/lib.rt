@@ -15,6 +15,7 @@ mod narrow;
 mod plain;
 mod reply;
 mod respond;
+mod shape;
 mod words;
 
 pub use end::{HelloFault, SessionEnd};

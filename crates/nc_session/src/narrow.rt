@@ -48,5 +48,4 @@ pub(crate) fn read_tree(alloc: Global, message: &[u8]) -> Result<Option<Tree>, M
 /// A law: a narrow message has one tree.
 pub(crate) fn one_tree()
     ensures { OneTree }
-{
-}
+{}

@@ -15,6 +15,7 @@ use crate::fetch::next_message;
 use crate::hello::hello_message;
 use crate::inbox::Inbox;
 use crate::limits::{PIECE, REQUESTS};
+use crate::narrow::read_tree;
 use crate::reply::send;
 use crate::respond::respond;
 use nc_names::{Bytes, Memory, Module};
@@ -78,10 +79,11 @@ impl Talk {
             Ok(len) => len,
             Err(end) => return Err(end),
         };
-        let message = self.inbox.front(len);
-        let result = respond(self.alloc, first, message, &mut self.out, sink);
+        let Ok(found) = read_tree(self.alloc, self.inbox.front(len)) else {
+            return Err(SessionEnd::Memory);
+        };
         self.inbox.skip(len);
-        result
+        respond(self.alloc, first, found, &mut self.out, sink)
     }
 }
 

@@ -93,23 +93,86 @@ pub(crate) fn features_query() -> &'static str
     "&features="
 }
 
-#[tactic(auto, unfolding(crate::specs::Words::sample_hello))]
-pub(crate) fn sample_hello() -> &'static str
-    ensures { result.now ≡ words.sample_hello }
+#[tactic(auto, unfolding(crate::specs::Words::rpc_name))]
+pub(crate) fn rpc_name() -> &'static str
+    ensures { result.now ≡ words.rpc_name }
 {
-    "<hello xmlns=\"urn:ietf:params:xml:ns:netconf:base:1.0\"><capabilities><capability>urn:ietf:params:netconf:base:1.0</capability></capabilities></hello>"
+    "rpc"
 }
 
-#[tactic(auto, unfolding(crate::specs::Words::sample_get))]
-pub(crate) fn sample_get() -> &'static str
-    ensures { result.now ≡ words.sample_get }
+#[tactic(auto, unfolding(crate::specs::Words::get_config_name))]
+pub(crate) fn get_config_name() -> &'static str
+    ensures { result.now ≡ words.get_config_name }
 {
-    "<rpc xmlns=\"urn:ietf:params:xml:ns:netconf:base:1.0\" message-id=\"1\"><get-config><source><running/></source></get-config></rpc>"
+    "get-config"
 }
 
-#[tactic(auto, unfolding(crate::specs::Words::sample_close))]
-pub(crate) fn sample_close() -> &'static str
-    ensures { result.now ≡ words.sample_close }
+#[tactic(auto, unfolding(crate::specs::Words::source_name))]
+pub(crate) fn source_name() -> &'static str
+    ensures { result.now ≡ words.source_name }
 {
-    "<rpc xmlns=\"urn:ietf:params:xml:ns:netconf:base:1.0\" message-id=\"2\"><close-session/></rpc>"
+    "source"
+}
+
+#[tactic(auto, unfolding(crate::specs::Words::running_name))]
+pub(crate) fn running_name() -> &'static str
+    ensures { result.now ≡ words.running_name }
+{
+    "running"
+}
+
+#[tactic(auto, unfolding(crate::specs::Words::close_session_name))]
+pub(crate) fn close_session_name() -> &'static str
+    ensures { result.now ≡ words.close_session_name }
+{
+    "close-session"
+}
+
+#[tactic(auto, unfolding(crate::specs::Words::rpc_error_name))]
+pub(crate) fn rpc_error_name() -> &'static str
+    ensures { result.now ≡ words.rpc_error_name }
+{
+    "rpc-error"
+}
+
+#[tactic(auto, unfolding(crate::specs::Words::error_type_name))]
+pub(crate) fn error_type_name() -> &'static str
+    ensures { result.now ≡ words.error_type_name }
+{
+    "error-type"
+}
+
+#[tactic(auto, unfolding(crate::specs::Words::error_tag_name))]
+pub(crate) fn error_tag_name() -> &'static str
+    ensures { result.now ≡ words.error_tag_name }
+{
+    "error-tag"
+}
+
+#[tactic(auto, unfolding(crate::specs::Words::error_severity_name))]
+pub(crate) fn error_severity_name() -> &'static str
+    ensures { result.now ≡ words.error_severity_name }
+{
+    "error-severity"
+}
+
+#[tactic(auto, unfolding(crate::specs::Words::protocol_word))]
+pub(crate) fn protocol_word() -> &'static str
+    ensures { result.now ≡ words.protocol_word }
+{
+    "protocol"
+}
+
+#[tactic(auto, unfolding(crate::specs::Words::not_supported_word))]
+pub(crate) fn not_supported_word() -> &'static str
+    ensures { result.now ≡ words.not_supported_word }
+{
+    "operation-not-supported"
+}
+
+#[tactic(auto, unfolding(crate::specs::Words::error_word))]
+pub(crate) fn error_word() -> &'static str
+    ensures { result.now ≡ words.error_word }
+{
+    "error"
 }

@@ -137,18 +137,139 @@ fn requests_come_in_any_number_and_order(rt: HostRuntime) -> Result<(), Fail> {
     Ok(())
 }
 
+/// First messages, and the status that each alone ends with.
+fn first_messages() -> [(&'static str, u8); 12] {
+    [
+        ("", 0),
+        ("<hello", 0),
+        ("<hello>]]>]]", 0),
+        ("]]>]]>", 10),
+        ("<hello/>]]>]]>", 10),
+        (
+            "<hello xmlns=\"urn:ietf:params:xml:ns:netconf:base:1.0\"/>]]>]]>",
+            10,
+        ),
+        (
+            "<hello xmlns=\"urn:ietf:params:xml:ns:netconf:base:1.0\"><capabilities/></hello>]]>]]>",
+            10,
+        ),
+        (
+            "<hello xmlns=\"urn:ietf:params:xml:ns:netconf:base:1.0\"><capabilities><capability>urn:ietf:params:netconf:base:1.1</capability></capabilities></hello>]]>]]>",
+            10,
+        ),
+        (
+            "<hello xmlns=\"urn:ietf:params:xml:ns:netconf:base:1.0\"><capabilities><capability>urn:ietf:params:netconf:base:1.0</capability></capabilities><session-id>1</session-id></hello>]]>]]>",
+            10,
+        ),
+        (
+            "<hello xmlns=\"urn:ietf:params:xml:ns:netconf:base:1.0\"><capabilities><other>urn:ietf:params:netconf:base:1.0</other></capabilities></hello>]]>]]>",
+            10,
+        ),
+        (
+            "<!-- a --><hello xmlns=\"urn:ietf:params:xml:ns:netconf:base:1.0\"><capabilities><capability>urn:ietf:params:netconf:base:1.0</capability></capabilities></hello>]]>]]>",
+            10,
+        ),
+        (
+            "\n<hello xmlns='urn:ietf:params:xml:ns:netconf:base:1.0' >\n <capabilities>\n<capability> urn:ietf:params:netconf:base:1.0\n</capability ></capabilities><more/></hello>\n]]>]]>",
+            0,
+        ),
+    ]
+}
+
 #[test]
-fn each_end_of_input_has_its_status(rt: HostRuntime) -> Result<(), Fail> {
+fn each_first_message_has_its_status(rt: HostRuntime) -> Result<(), Fail> {
     let alloc = rt.alloc();
-    let table = [
-        ("", 0, &[SERVER_HELLO][..]),
-        ("<hello", 0, &[SERVER_HELLO]),
-        ("<hello/>]]>]]>", 10, &[SERVER_HELLO]),
-        ("]]>]]>", 10, &[SERVER_HELLO]),
-    ];
-    for (input, status, texts) in table {
+    for (input, status) in first_messages() {
         let case = Case { input, ..SAMPLE };
-        assert!(rt; ends_with(alloc, &case, status, texts)?, "{input}");
+        assert!(rt;
+            ends_with(alloc, &case, status, &[SERVER_HELLO])?,
+            "{input}"
+        );
+    }
+    Ok(())
+}
+
+/// Requests, and the reply of each.
+fn requests() -> [(&'static str, &'static str); 7] {
+    [
+        (
+            "<rpc xmlns=\"urn:ietf:params:xml:ns:netconf:base:1.0\" message-id=\"1\"><get/></rpc>]]>]]>",
+            "<rpc-reply xmlns=\"urn:ietf:params:xml:ns:netconf:base:1.0\" message-id=\"1\"><rpc-error><error-type>protocol</error-type><error-tag>operation-not-supported</error-tag><error-severity>error</error-severity></rpc-error></rpc-reply>]]>]]>",
+        ),
+        (
+            "<rpc xmlns=\"urn:ietf:params:xml:ns:netconf:base:1.0\" b=\"2\" message-id='a\"b' a=\"1\">\n <get-config >\n <source><running></running></source> </get-config></rpc >]]>]]>",
+            "<rpc-reply xmlns=\"urn:ietf:params:xml:ns:netconf:base:1.0\" b=\"2\" message-id=\"a&quot;b\" a=\"1\"><data/></rpc-reply>]]>]]>",
+        ),
+        (
+            "<rpc xmlns=\"urn:ietf:params:xml:ns:netconf:base:1.0\"><close-session/></rpc>]]>]]>",
+            "<rpc-reply xmlns=\"urn:ietf:params:xml:ns:netconf:base:1.0\"><rpc-error><error-type>protocol</error-type><error-tag>operation-not-supported</error-tag><error-severity>error</error-severity></rpc-error></rpc-reply>]]>]]>",
+        ),
+        (
+            "<rpc xmlns=\"urn:ietf:params:xml:ns:netconf:base:1.0\" message-id=\"1\"><close-session/><close-session/></rpc>]]>]]>",
+            "<rpc-reply xmlns=\"urn:ietf:params:xml:ns:netconf:base:1.0\" message-id=\"1\"><rpc-error><error-type>protocol</error-type><error-tag>operation-not-supported</error-tag><error-severity>error</error-severity></rpc-error></rpc-reply>]]>]]>",
+        ),
+        (
+            "<rpc xmlns=\"urn:ietf:params:xml:ns:netconf:base:1.0\" message-id=\"1\"><get-config><source><candidate/></source></get-config></rpc>]]>]]>",
+            "<rpc-reply xmlns=\"urn:ietf:params:xml:ns:netconf:base:1.0\" message-id=\"1\"><rpc-error><error-type>protocol</error-type><error-tag>operation-not-supported</error-tag><error-severity>error</error-severity></rpc-error></rpc-reply>]]>]]>",
+        ),
+        (
+            "<rpc xmlns=\"urn:ietf:params:xml:ns:netconf:base:1.0\" message-id=\"1\"><close-session xmlns=\"\"/></rpc>]]>]]>",
+            "<rpc-reply xmlns=\"urn:ietf:params:xml:ns:netconf:base:1.0\" message-id=\"1\"><rpc-error><error-type>protocol</error-type><error-tag>operation-not-supported</error-tag><error-severity>error</error-severity></rpc-error></rpc-reply>]]>]]>",
+        ),
+        (
+            "<rpc xmlns=\"urn:ietf:params:xml:ns:netconf:base:1.0\" message-id=\"1\">text<close-session/></rpc>]]>]]>",
+            "<rpc-reply xmlns=\"urn:ietf:params:xml:ns:netconf:base:1.0\" message-id=\"1\"><rpc-error><error-type>protocol</error-type><error-tag>operation-not-supported</error-tag><error-severity>error</error-severity></rpc-error></rpc-reply>]]>]]>",
+        ),
+    ]
+}
+
+#[test]
+fn each_request_has_its_reply(rt: HostRuntime) -> Result<(), Fail> {
+    let alloc = rt.alloc();
+    for (request, reply) in requests() {
+        let input = joined(alloc, &[HELLO, request])?;
+        let case = Case {
+            input: input.as_str(),
+            ..SAMPLE
+        };
+        assert!(rt;
+            ends_with(alloc, &case, 0, &[SERVER_HELLO, reply])?,
+            "{request}"
+        );
+    }
+    Ok(())
+}
+
+/// Later messages that have no reading: XML 1.0 forbids them, or this server does not read them yet.
+fn refused_messages() -> [&'static str; 14] {
+    [
+        "<a]]>]]>",
+        "<rpc/>]]>]]>",
+        "<rpc xmlns=\"urn:other\" message-id=\"1\"><get/></rpc>]]>]]>",
+        "<rpc xmlns=\"urn:ietf:params:xml:ns:netconf:base:1.0\"></rcp>]]>]]>",
+        "<rpc xmlns=\"urn:ietf:params:xml:ns:netconf:base:1.0\"/><rpc/>]]>]]>",
+        "<rpc xmlns=\"urn:ietf:params:xml:ns:netconf:base:1.0\" a=\"1\" a=\"2\"/>]]>]]>",
+        "<rpc xmlns=\"urn:ietf:params:xml:ns:netconf:base:1.0\" a=\"<\"/>]]>]]>",
+        "<rpc xmlns=\"urn:ietf:params:xml:ns:netconf:base:1.0\">&amp;</rpc>]]>]]>",
+        "<rpc xmlns=\"urn:ietf:params:xml:ns:netconf:base:1.0\"><p:get/></rpc>]]>]]>",
+        "<rpc xmlns=\"urn:ietf:params:xml:ns:netconf:base:1.0\"><![CDATA[a]]></rpc>]]>]]>",
+        "<?xml version=\"1.0\"?><rpc xmlns=\"urn:ietf:params:xml:ns:netconf:base:1.0\"/>]]>]]>",
+        "<rpc xmlns=\"urn:ietf:params:xml:ns:netconf:base:1.0\"a=\"1\"/>]]>]]>",
+        "<rpc xmlns=\"urn:ietf:params:xml:ns:netconf:base:1.0\">\t</rpc>]]>]]>",
+        "text]]>]]>",
+    ]
+}
+
+#[test]
+fn a_message_without_a_reading_ends_the_session(rt: HostRuntime) -> Result<(), Fail> {
+    let alloc = rt.alloc();
+    for message in refused_messages() {
+        let input = joined(alloc, &[HELLO, message, CLOSE])?;
+        let case = Case {
+            input: input.as_str(),
+            ..SAMPLE
+        };
+        assert!(rt; ends_with(alloc, &case, 10, &[SERVER_HELLO])?, "{message}");
     }
     Ok(())
 }
@@ -210,5 +331,31 @@ fn faulty_words_and_setups_have_their_status(rt: HostRuntime) -> Result<(), Fail
         ..SAMPLE
     };
     assert!(rt; ends_with(alloc, &folder, 3, &[])?);
+    Ok(())
+}
+
+/// The client's hello, and so many bytes of a message without a mark.
+fn unfinished(alloc: Global, count: usize) -> Result<Text, Memory> {
+    let mut text = Text::from_text(alloc, HELLO)?;
+    for _ in 0..count {
+        text.push('a')?;
+    }
+    Ok(text)
+}
+
+#[test]
+fn a_message_is_too_big_at_its_limit(rt: HostRuntime) -> Result<(), Fail> {
+    let alloc = rt.alloc();
+    for (count, status) in [(4_194_309, 0), (4_194_310, 10)] {
+        let input = unfinished(alloc, count)?;
+        let case = Case {
+            input: input.as_str(),
+            ..SAMPLE
+        };
+        assert!(rt;
+            ends_with(alloc, &case, status, &[SERVER_HELLO])?,
+            "{count} bytes"
+        );
+    }
     Ok(())
 }

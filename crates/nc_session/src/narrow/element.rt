@@ -129,7 +129,12 @@ impl<'a> Reader<'a> {
     /// Reads the content of an element of this namespace and name, and its end tag.
     #[cycle(element)]
     #[tactic(auto, unfolding(crate::specs::NarrowReadings::inside))]
-    fn inside(&mut self, depth: usize, space: &Text, name: &Text) -> Result<Option<Many<Part>>, Memory>
+    fn inside(
+        &mut self,
+        depth: usize,
+        space: &Text,
+        name: &Text,
+    ) -> Result<Option<Many<Part>>, Memory>
         ensures read { IfOk result (λ found. (n : ℕ) → length self.old.rest.now < n → MatchOption found
             (readings.inside (readings.content n) depth space.now name.now self.old.rest.now ≡ None)
             (λ parts. readings.inside (readings.content n) depth space.now name.now self.old.rest.now

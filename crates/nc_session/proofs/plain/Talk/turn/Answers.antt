@@ -1,15 +1,23 @@
-use Rattle.std.proofs.Common.{refl, take}
+use Rattle.std.proofs.Common.{refl, take, subst, List, ℕ}
+use Rattle.nc_session.specs.Reading.{IsReading}
 use Rattle.nc_session.specs.Turn.{Answers, Stops}
+use Rattle.nc_session.specs.declared.end.SessionEnd.TheVariants.{Memory}
 use Rattle.nc_session.proofs.Turning.{takes_front}
 use Rattle.nc_session.proofs.plain.Talk.turn.Goals as goal
 
 pub returns-in-Err-clause-turn : goal.returns-in-Err-clause-turn
 returns-in-Err-clause-turn g c = Stops c.in-Err.end c.in-Err.ensures.message refl
 
+-- no memory for the tree: what was read is let go
+pub returns-in_default-clause-turn : goal.returns-in_default-clause-turn
+returns-in_default-clause-turn g c =
+    let reads = c.in-Ok.ensures.message.0 in
+    Stops Memory (record { bytes = reads.bytes; left = reads.left }) refl
+
 pub returns-clause-turn : goal.returns-clause-turn
 returns-clause-turn g c =
     let waits = c.next_message.new.inbox in
-    let message = take c.in-Ok.len waits.bytes in
-    Answers message c.respond-result.result
+    let bytes = take c.in-Ok.len waits.bytes in
+    Answers (record { bytes = bytes; tree = c.in-Ok-read_tree.found }) c.respond.result
     (takes_front _ waits _ _ _ c.in-Ok.len c.in-Ok.ensures.message.0 c.in-Ok.ensures.message.1 c.skip.ensures.bytes c.skip.ensures.place)
-    (rw (← c.front-message.ensures) c.respond-result.ensures.answered)
+    (let P : List ℕ → Type 0 = λ b. IsReading b c.in-Ok-read_tree.found in subst P c.front.ensures c.in-Ok-read_tree.ensures) c.respond.ensures.answered

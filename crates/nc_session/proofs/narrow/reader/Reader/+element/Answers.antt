@@ -44,6 +44,6 @@ content-loop-parts-preserved t c =
     let within : length r ≤ length text = omega (arith, c.in_ok-text.ensures.within) in
     let less : length next < length r = rw c.in-Some-2.is at c.in_ok-child.ensures.within in (
       content_more c.args.depth c.args.space.now c.args.self.now.rest.now text c.in-Some.text r next c.in-Some-2.child c.loop-parts.parts c.push_text.new.parts c.push_child.new.parts
-      c.loop-parts.invariant.0 read none child within less c.in_ok-push_text.ensures c.in_ok-push_child.ensures,
+          c.loop-parts.invariant.0 read none child within less c.in_ok-push_text.ensures c.in_ok-push_child.ensures,
       omega (arith, within, less, c.loop-parts.invariant.1),
     )

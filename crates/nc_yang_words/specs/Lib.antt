@@ -1,0 +1,4 @@
+pub mod Places
+pub mod Signs
+pub mod Pieces
+pub mod Doubles

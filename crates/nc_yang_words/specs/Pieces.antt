@@ -1,11 +1,12 @@
 -- What stands first in a text.
-use Rattle.std.specs.Prelude.{ℕ, ◌+◌, Bool, false, ◌==◌, ◌||◌, ◌&&◌, if◌then◌else◌, List, [], ◌∷◌, take, drop, length, ◌≤◌, ◌++◌, encode_utf8, Option, Some, None}
+use Rattle.std.specs.Prelude.{◌≡◌, ℕ, ◌+◌, Bool, true, false, ◌==◌, ◌||◌, ◌&&◌, if◌then◌else◌, List, [], ◌∷◌, take, drop, length, ◌≤◌, ◌++◌, encode_utf8, Option, Some, None}
 use Rattle.nc_yang_words.specs.Signs.{is_yang_char, is_blank, ends_word, starts_with, utf8}
 use Rattle.nc_yang_words.specs.Doubles.{double}
 use Rattle.nc_yang_words.specs.declared.double.Quoted.{Quoted}
 use Rattle.nc_yang_words.specs.declared.piece.Piece.{Piece}
 use Rattle.nc_yang_words.specs.declared.piece.Piece.TheVariants.{Gap, Whole, Torn}
-use Rattle.nc_yang_words.specs.declared.token.Kind.TheVariants.{Word, Quoted as TheQuoted, Semicolon, Open, Close}
+use Rattle.nc_yang_words.specs.declared.token.Kind.{Kind}
+use Rattle.nc_yang_words.specs.declared.token.Kind.TheVariants.{Word, Quoted as TheQuoted, Semicolon, Open, Close, End, Torn as NoToken}
 
 -- RFC 7950 section 6.1.1: a `//` comment goes to the end of its line. How many characters it has,
 -- behind the first n
@@ -94,8 +95,18 @@ piece width c cs =
     else (if is_pair 47 42 c cs then comment 1 (block_comment 0 (drop 1 cs))
     else token width c cs))
 
--- the piece has no more characters behind its first than the text
+-- no token follows the end of a text, or what is no whole token
+abbrev pub is_last : Kind → Bool
+is_last (Word w) = false
+is_last (TheQuoted q) = false
+is_last Semicolon = false
+is_last Open = false
+is_last Close = false
+is_last End = true
+is_last NoToken = true
+
+-- the piece has no more characters behind its first than the text, and other tokens may follow it
 abbrev pub IsWithin : Piece → List ℕ → Type 0
 IsWithin (Gap n) cs = n ≤ length cs
-IsWithin (Whole kind n) cs = n ≤ length cs
+IsWithin (Whole kind n) cs = (n ≤ length cs) × (is_last kind ≡ false)
 IsWithin Torn cs = Unit {0}

@@ -7,6 +7,7 @@
 
 mod double;
 mod fault;
+mod lexer;
 mod piece;
 mod place;
 mod sign;

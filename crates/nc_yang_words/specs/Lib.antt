@@ -3,3 +3,5 @@ pub mod Signs
 pub mod Pieces
 pub mod Doubles
 pub mod Tokens
+pub mod Keywords
+pub mod Grammar

@@ -5,9 +5,13 @@
 //! `piece`, and `parser` builds the tree from them. Nothing here knows what a statement means.
 #![tactic(auto)]
 
+mod begun;
+mod closing;
 mod double;
 mod fault;
+mod keyword;
 mod lexer;
+mod parser;
 mod piece;
 mod place;
 mod sign;

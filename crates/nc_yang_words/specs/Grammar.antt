@@ -146,3 +146,16 @@ Faults Memory it = Unit {0}
 -- behind the `{` or the `;` of a statement
 abbrev pub entered : Begun → (opens : Bool) → List Begun → State
 entered b opens above = if opens then state Begins (b ∷ above) else ended b above
+
+-- where this is to come, the tokens before lead to a statement's `;` or `{` with the tokens behind
+-- left, wherever the statement stands
+abbrev pub Enters : Expect → List Token → Begun → (opens : Bool) → List Token → Type 0
+Enters e before b opens behind = (above : List Begun) → reads (state e above) before ≡ reads (entered b opens above) behind
+
+-- where this is to come, the tokens before are as good as those behind where that is to come
+abbrev pub Moves : Expect → List Token → Expect → List Token → Type 0
+Moves e before next behind = (above : List Begun) → reads (state e above) before ≡ reads (state next above) behind
+
+-- where this is to come, the tokens have this fault
+abbrev pub Stops : Expect → List Token → WordFault → Type 0
+Stops e before fault = (above : List Begun) → Faults fault (reads (state e above) before)

@@ -1,5 +1,5 @@
 -- The tokens of a text.
-use Rattle.std.specs.Prelude.{◌≡◌, ℕ, zero, suc, Bool, true, false, if◌then◌else◌, List, [], ◌∷◌}
+use Rattle.std.specs.Prelude.{◌≡◌, ℕ, zero, suc, Bool, true, false, if◌then◌else◌, List, [], ◌∷◌, length}
 use Rattle.nc_yang_words.specs.Places.{after}
 use Rattle.nc_yang_words.specs.Pieces.{piece, is_last}
 use Rattle.nc_yang_words.specs.declared.lexer.Lexer.{Lexer}
@@ -25,6 +25,10 @@ tokens zero apart p (c ∷ cs) =
 -- the tokens that are still to come
 abbrev pub left : Lexer → List Token
 left l = tokens 0 false l.place l.rest.now
+
+-- how many characters are still to come
+abbrev pub ahead : Lexer → ℕ
+ahead l = length l.rest.now
 
 -- the tokens are this one and those that are left
 abbrev pub Leads : Token → Lexer → List Token → Type 0

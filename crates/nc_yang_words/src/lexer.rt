@@ -1,7 +1,8 @@
 //! The tokens of a module text, one after another (RFC 7950 6.1).
 ghost use Rattle.std.specs.Prelude.{◌≡◌, ◌≤◌, ◌<◌, ◌+◌, IfOk, MatchOption, true, false, length, take, drop};
 ghost use Rattle.nc_yang_words.specs.Places.{passed};
-ghost use Rattle.nc_yang_words.specs.Tokens.{tokens, left, Leads};
+ghost use Rattle.nc_yang_words.specs.Tokens.{tokens, left, ahead, Leads};
+ghost use Rattle.nc_yang_words.specs.Pieces.{is_last};
 
 use crate::piece::{Piece, read_piece};
 use crate::place::Place;
@@ -43,10 +44,13 @@ impl<'a> Lexer<'a> {
     /// Passes over white space or a comment, or takes the next token. `apart` says whether white space
     /// or a comment stands just before.
     fn step(&mut self, apart: bool) -> Result<Option<Token>, Memory>
-        ensures { IfOk result (λ step. MatchOption step
-            ((tokens 0 apart self.old.place self.old.rest.now ≡ tokens 0 true self.new.place self.new.rest.now)
-                × (length self.new.rest.now < length self.old.rest.now))
+        ensures step { IfOk result (λ step. MatchOption step
+            (tokens 0 apart self.old.place self.old.rest.now ≡ tokens 0 true self.new.place self.new.rest.now)
             (λ token. Leads token self.new (tokens 0 apart self.old.place self.old.rest.now))) }
+        ensures keeps { ahead self.new ≤ ahead self.old }
+        ensures shorter { IfOk result (λ step. MatchOption step
+            (ahead self.new < ahead self.old)
+            (λ token. is_last token.kind ≡ false → ahead self.new < ahead self.old)) }
     {
         let line = self.place.line;
         let Some((sign, rest)) = self.rest.split_first() else {
@@ -77,7 +81,9 @@ impl<'a> Lexer<'a> {
     /// The next token: the end of the text behind the last, and what is no whole token where there is
     /// none.
     pub(crate) fn next_token(&mut self) -> Result<Token, Memory>
-        ensures { IfOk result (λ token. Leads token self.new (left self.old)) }
+        ensures token { IfOk result (λ token. Leads token self.new (left self.old)) }
+        ensures keeps { ahead self.new ≤ ahead self.old }
+        ensures shorter { IfOk result (λ token. is_last token.kind ≡ false → ahead self.new < ahead self.old) }
     {
         let mut apart = false;
         loop {

@@ -1,8 +1,8 @@
 //! The tree of statements that the tokens of a text spell (RFC 7950 6.3).
-ghost use Rattle.std.specs.Prelude.{◌≡◌, ◌<◌, ◌≤◌, ℕ, List, [], ◌∷◌, Option, Some, None, IfOk, MatchResult, IfErr, length, reverse, if◌then◌else◌};
+ghost use Rattle.std.specs.Prelude.{◌≡◌, ◌<◌, ◌≤◌, ℕ, List, [], ◌∷◌, Option, Some, None, IfOk, IfNone, MatchResult, MatchOption, IfErr, length, reverse, if◌then◌else◌};
 ghost use Rattle.std.specs.Str.{chars};
-ghost use Rattle.nc_yang_words.specs.Tokens.{left};
-ghost use Rattle.nc_yang_words.specs.Grammar.{reads, reading, state, at_end, begun, ended, Faults, entered, Expect, Argues, Joins};
+ghost use Rattle.nc_yang_words.specs.Tokens.{left, ahead};
+ghost use Rattle.nc_yang_words.specs.Grammar.{reads, reading, state, at_end, begun, ended, Faults, entered, Enters, Moves, Stops, Expect, Argues, Joins, Ends};
 ghost use Rattle.nc_yang_words.specs.declared.begun.Begun.{Begun as TheBegun};
 
 use crate::begun::Begun;
@@ -25,15 +25,127 @@ struct Head {
     opens: bool,
 }
 
-/// Whether the token begins a block or ends a statement. A fault where it does neither.
-fn opens(token: Token) -> Result<bool, WordFault>
-    ensures { MatchResult result
-        (λ opens. (begun : TheBegun) (above : List TheBegun) → at_end begun above token.kind ≡ Some (entered begun opens above))
-        (λ fault. (fault ≡ WordFault.Bad token.line) × ((begun : TheBegun) (above : List TheBegun) → at_end begun above token.kind ≡ None)) }
+impl Head {
+    fn new(
+        alloc: Global,
+        keyword: Text,
+        argument: Option<Text>,
+        line: u32,
+        opens: bool,
+    ) -> Head
+        ensures begun { result.begun ≡ begun keyword argument line }
+        ensures opens { result.opens ≡ opens }
+    {
+        let begun = Begun {
+            keyword,
+            argument,
+            line,
+            below: Many::new(alloc),
+        };
+        Head { begun, opens }
+    }
+}
+
+/// Whether the token begins a block or ends a statement. `None` where it does neither.
+fn opens(kind: Kind) -> Option<bool>
+    ensures { MatchOption result
+        ((begun : TheBegun) (above : List TheBegun) → at_end begun above kind ≡ None)
+        (λ opens. (begun : TheBegun) (above : List TheBegun) → at_end begun above kind ≡ Some (entered begun opens above)) }
 {
-    match token.kind {
-        Kind::Semicolon => Ok(false),
-        Kind::Open => Ok(true),
-        _ => Err(WordFault::Bad { line: token.line }),
+    match kind {
+        Kind::Semicolon => Some(false),
+        Kind::Open => Some(true),
+        _ => None,
+    }
+}
+
+/// Whether the next token begins a block or ends a statement, behind an unquoted argument.
+fn read_end(lexer: &mut Lexer<'_>) -> Result<bool, WordFault>
+    ensures end { MatchResult result
+        (λ opens. (keyword argument : List ℕ) (line : ℕ) → Enters (Ends keyword argument line) (left lexer.old) (begun keyword (Some argument) line) opens (left lexer.new))
+        (λ fault. (keyword argument : List ℕ) (line : ℕ) → Stops (Ends keyword argument line) (left lexer.old) fault) }
+    ensures keeps { ahead lexer.new ≤ ahead lexer.old }
+{
+    let Token { line, kind, .. } = lexer.next_token()?;
+    opens(kind).ok_or(WordFault::Bad { line })
+}
+
+/// Behind a quoted string: puts the string behind a `+` to its end, or says whether the next token
+/// begins a block or ends a statement (RFC 7950 6.1.3).
+fn read_join(lexer: &mut Lexer<'_>, text: &mut Text) -> Result<Option<bool>, WordFault>
+    ensures join { MatchResult result
+        (λ opens. MatchOption opens
+            ((keyword : List ℕ) (line : ℕ) → Moves (Joins keyword text.old line) (left lexer.old) (Joins keyword text.new line) (left lexer.new))
+            (λ opens. (keyword : List ℕ) (line : ℕ) → Enters (Joins keyword text.old line) (left lexer.old) (begun keyword (Some text.new) line) opens (left lexer.new)))
+        (λ fault. (keyword : List ℕ) (line : ℕ) → Stops (Joins keyword text.old line) (left lexer.old) fault) }
+    ensures keeps { ahead lexer.new ≤ ahead lexer.old }
+    ensures shorter { IfOk result (λ opens. IfNone opens (ahead lexer.new < ahead lexer.old)) }
+{
+    let Token { line, kind, .. } = lexer.next_token()?;
+    match kind {
+        Kind::Word(word) => {
+            if !is_plus(word.as_str().as_bytes()) {
+                return Err(WordFault::Bad { line });
+            }
+            let Token { line, kind, .. } = lexer.next_token()?;
+            let Kind::Quoted(part) = kind else {
+                return Err(WordFault::Bad { line });
+            };
+            text.push_str(part.as_str())?;
+            Ok(None)
+        }
+        Kind::Semicolon => Ok(Some(false)),
+        Kind::Open => Ok(Some(true)),
+        _ => Err(WordFault::Bad { line }),
+    }
+}
+
+/// Reads what follows a quoted string of an argument, which the strings behind `+` are put to
+/// (RFC 7950 6.1.3).
+fn read_joined(lexer: &mut Lexer<'_>, text: &mut Text) -> Result<bool, WordFault>
+    ensures joined { MatchResult result
+        (λ opens. (keyword : List ℕ) (line : ℕ) → Enters (Joins keyword text.old line) (left lexer.old) (begun keyword (Some text.new) line) opens (left lexer.new))
+        (λ fault. (keyword : List ℕ) (line : ℕ) → Stops (Joins keyword text.old line) (left lexer.old) fault) }
+    ensures keeps { ahead lexer.new ≤ ahead lexer.old }
+{
+    loop {
+        if let Some(opens) = read_join(lexer, text)? {
+            return Ok(opens);
+        }
+    }
+}
+
+/// Reads the rest of a statement up to its `;` or `{`, behind its keyword.
+fn read_head(
+    alloc: Global,
+    lexer: &mut Lexer<'_>,
+    keyword: Text,
+    line: u32,
+) -> Result<Head, WordFault>
+    ensures head { MatchResult result
+        (λ head. Enters (Argues keyword line) (left lexer.old) head.begun head.opens (left lexer.new))
+        (λ fault. Stops (Argues keyword line) (left lexer.old) fault) }
+    ensures keeps { ahead lexer.new ≤ ahead lexer.old }
+{
+    let Token {
+        line: place,
+        apart,
+        kind,
+    } = lexer.next_token()?;
+    match kind {
+        Kind::Word(argument) => {
+            let opens = read_end(lexer)?;
+            Ok(Head::new(alloc, keyword, Some(argument), line, opens))
+        }
+        Kind::Quoted(mut text) => {
+            if !apart {
+                return Err(WordFault::Bad { line: place });
+            }
+            let opens = read_joined(lexer, &mut text)?;
+            Ok(Head::new(alloc, keyword, Some(text), line, opens))
+        }
+        Kind::Semicolon => Ok(Head::new(alloc, keyword, None, line, false)),
+        Kind::Open => Ok(Head::new(alloc, keyword, None, line, true)),
+        _ => Err(WordFault::Bad { line: place }),
     }
 }

@@ -4,18 +4,17 @@ use Rattle.nc_yang_words.specs.Places.{passed}
 use Rattle.nc_yang_words.proofs.Tokens.{gap_step, token_step}
 use Rattle.nc_yang_words.proofs.lexer.Lexer.step.Goals as goal
 
-pub returns-in-Gap : goal.returns-in-Gap
-returns-in-Gap c =
+pub returns-in-Gap-clause-step : goal.returns-in-Gap-clause-step
+returns-in-Gap-clause-step c =
     let old = c.args.self.now in
     let new = c.pass.new.self in
     let piece_is = rw c.after-width.ensures at (sym c.in_ok-more.ensures.piece ∙ c.in-Gap.is) in
     let within = rw c.in-Gap.is at c.in_ok-more.ensures.within in
-    (gap_step c.args.apart old.place new.place old.rest.now new.rest.now c.in-Some.sign.now c.in-Some.rest.now c.in-Gap.more
-        c.in-Some.ensures.cases.0 piece_is within c.pass.ensures.rest c.pass.ensures.place,
-    omega (arith, c.in-Some.ensures.cases.1, length-drop (c.in-Gap.more + 1) old.rest.now, ap length c.pass.ensures.rest))
+    gap_step c.args.apart old.place new.place old.rest.now new.rest.now c.in-Some.sign.now c.in-Some.rest.now c.in-Gap.more
+        c.in-Some.ensures.cases.0 piece_is within c.pass.ensures.rest c.pass.ensures.place
 
-pub returns-in-Whole : goal.returns-in-Whole
-returns-in-Whole c =
+pub returns-in-Whole-clause-step : goal.returns-in-Whole-clause-step
+returns-in-Whole-clause-step c =
     let old = c.args.self.now in
     let new = c.pass-in-Whole.new.self in
     let piece_is = rw c.after-width.ensures at (sym c.in_ok-more.ensures.piece ∙ c.in-Whole.is) in

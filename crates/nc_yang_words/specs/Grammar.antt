@@ -1,5 +1,5 @@
 -- The tree of statements that tokens spell.
-use Rattle.std.specs.Prelude.{◌≡◌, ℕ, ◌+◌, Bool, true, false, ◌&&◌, if◌then◌else◌, nat_lt, List, [], ◌∷◌, ◌++◌, length, Option, Some, None, Result, Ok, Err}
+use Rattle.std.specs.Prelude.{◌≡◌, ℕ, Bool, false, ◌&&◌, if◌then◌else◌, nat_lt, List, [], ◌∷◌, ◌++◌, length, Option, Some, None, Result, Ok, Err}
 use Rattle.nc_yang_words.specs.Keywords.{is_keyword, is_plus}
 use Rattle.nc_yang_words.specs.Tokens.{tokens}
 use Rattle.nc_yang_words.specs.declared.fault.WordFault.{WordFault}
@@ -159,3 +159,12 @@ Moves e before next behind = (above : List Begun) → reads (state e above) befo
 -- where this is to come, the tokens have this fault
 abbrev pub Stops : Expect → List Token → WordFault → Type 0
 Stops e before fault = (above : List Begun) → Faults fault (reads (state e above) before)
+
+-- behind the end of a statement: of the root, or of one under others
+abbrev pub risen : (root : Option Statement) → List Begun → State
+risen None above = state Begins above
+risen (Some root) above = state (Done root) []
+
+-- a word
+abbrev pub word_token : (line : ℕ) (apart : Bool) → List ℕ → Token
+word_token line apart w = record { line = line; apart = apart; kind = Word w }

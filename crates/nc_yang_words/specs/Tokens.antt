@@ -4,7 +4,6 @@ use Rattle.nc_yang_words.specs.Places.{after}
 use Rattle.nc_yang_words.specs.Pieces.{piece, is_last}
 use Rattle.nc_yang_words.specs.declared.lexer.Lexer.{Lexer}
 use Rattle.nc_yang_words.specs.declared.place.Place.{Place}
-use Rattle.nc_yang_words.specs.declared.piece.Piece.{Piece}
 use Rattle.nc_yang_words.specs.declared.piece.Piece.TheVariants.{Gap, Whole, Torn as NothingWhole}
 use Rattle.nc_yang_words.specs.declared.token.Token.{Token}
 use Rattle.nc_yang_words.specs.declared.token.Kind.TheVariants.{End, Torn}

@@ -19,4 +19,5 @@ mod statement;
 mod token;
 
 pub use fault::WordFault;
+pub use parser::statements;
 pub use statement::Statement;

@@ -1,8 +1,8 @@
 //! The tree of statements that the tokens of a text spell (RFC 7950 6.3).
-ghost use Rattle.std.specs.Prelude.{◌≡◌, ◌<◌, ◌≤◌, ℕ, List, [], ◌∷◌, Option, Some, None, IfOk, IfNone, MatchResult, MatchOption, IfErr, length, reverse, if◌then◌else◌};
+ghost use Rattle.std.specs.Prelude.{◌≡◌, ◌<◌, ◌≤◌, ℕ, List, [], ◌∷◌, Option, Some, None, Bool, Ok, IfOk, IfNone, MatchResult, MatchOption, IfErr, length, reverse, if◌then◌else◌};
 ghost use Rattle.std.specs.Str.{chars};
 ghost use Rattle.nc_yang_words.specs.Tokens.{left, ahead};
-ghost use Rattle.nc_yang_words.specs.Grammar.{reads, reading, state, at_end, begun, ended, Faults, entered, Enters, Moves, Stops, Expect, Argues, Joins, Ends};
+ghost use Rattle.nc_yang_words.specs.Grammar.{reads, reading, state, at_end, begun, ended, Faults, entered, Enters, Moves, Stops, risen, word_token, Expect, Begins, Argues, Joins, Ends, Done};
 ghost use Rattle.nc_yang_words.specs.declared.begun.Begun.{Begun as TheBegun};
 
 use crate::begun::Begun;
@@ -147,5 +147,113 @@ fn read_head(
         Kind::Semicolon => Ok(Head::new(alloc, keyword, None, line, false)),
         Kind::Open => Ok(Head::new(alloc, keyword, None, line, true)),
         _ => Err(WordFault::Bad { line: place }),
+    }
+}
+
+/// The statements that are begun, and the tokens behind.
+#[derive(Drop)]
+struct Parser<'a> {
+    alloc: Global,
+    lexer: Lexer<'a>,
+    /// The statements whose `}` is to come, the nearest last.
+    above: Many<Begun>,
+}
+
+impl Parser<'_> {
+    /// Ends a statement. The root, where it is the root.
+    fn end(&mut self, begun: Begun) -> Result<Option<Statement>, Memory>
+        ensures end { IfOk result (λ root. ended begun (reverse self.old.above) ≡ risen root (reverse self.new.above)) }
+        ensures lexer { self.new.lexer ≡ self.old.lexer }
+    {
+        let done = begun.close();
+        match self.above.pop() {
+            None => Ok(Some(done)),
+            Some(parent) => {
+                self.above.push(parent.with_child(done)?)?;
+                Ok(None)
+            }
+        }
+    }
+
+    /// Begins a statement at its keyword, up to its `;` or `{`. The root, where it ends the root.
+    fn begin(&mut self, keyword: Text, line: u32) -> Result<Option<Statement>, WordFault>
+        ensures begin { MatchResult result
+            (λ root. (apart : Bool) → reads (state Begins (reverse self.old.above)) (word_token line apart keyword ∷ left self.old.lexer) ≡ reads (risen root (reverse self.new.above)) (left self.new.lexer))
+            (λ fault. (apart : Bool) → Faults fault (reads (state Begins (reverse self.old.above)) (word_token line apart keyword ∷ left self.old.lexer))) }
+        ensures keeps { ahead self.new.lexer ≤ ahead self.old.lexer }
+    {
+        if self.above.len() >= MOST_DEPTH || !is_keyword(keyword.as_str().as_bytes()) {
+            return Err(WordFault::Bad { line });
+        }
+        let head = read_head(self.alloc, &mut self.lexer, keyword, line)?;
+        if head.opens {
+            self.above.push(head.begun)?;
+            return Ok(None);
+        }
+        Ok(self.end(head.begun)?)
+    }
+
+    /// Reads on from where a statement may begin or end, up to the next such place. The root, where
+    /// it has ended.
+    fn turn(&mut self) -> Result<Option<Statement>, WordFault>
+        ensures turn { MatchResult result
+            (λ root. reads (state Begins (reverse self.old.above)) (left self.old.lexer) ≡ reads (risen root (reverse self.new.above)) (left self.new.lexer))
+            (λ fault. Faults fault (reads (state Begins (reverse self.old.above)) (left self.old.lexer))) }
+        ensures shorter { IfOk result (λ root. IfNone root (ahead self.new.lexer < ahead self.old.lexer)) }
+    {
+        let Token { line, kind, .. } = self.lexer.next_token()?;
+        match kind {
+            Kind::Word(keyword) => self.begin(keyword, line),
+            Kind::Close => {
+                let Some(begun) = self.above.pop() else {
+                    return Err(WordFault::Bad { line });
+                };
+                Ok(self.end(begun)?)
+            }
+            _ => Err(WordFault::Bad { line }),
+        }
+    }
+
+    /// Reads up to the end of the root.
+    fn read_root(&mut self) -> Result<Statement, WordFault>
+        ensures { MatchResult result
+            (λ root. reads (state Begins (reverse self.old.above)) (left self.old.lexer) ≡ reads (state (Done root) []) (left self.new.lexer))
+            (λ fault. Faults fault (reads (state Begins (reverse self.old.above)) (left self.old.lexer))) }
+    {
+        loop {
+            if let Some(root) = self.turn()? {
+                return Ok(root);
+            }
+        }
+    }
+}
+
+/// The characters of a text.
+fn signs_of(alloc: Global, text: &str) -> Result<Vec<char>, Memory>
+    ensures { IfOk result (λ signs. signs.items ≡ chars text.now) }
+{
+    Ok(text.chars().collect(alloc)?)
+}
+
+/// The one tree of statements that a module text spells (RFC 7950 6.1 to 6.3), at most 64 of them
+/// inside one another. A fault names the line, counted from 1, at which the first token begins that
+/// is not whole or that no statement text has behind the tokens before it, or the line of the end of
+/// a text that ends too early.
+pub fn statements(alloc: Global, text: &str) -> Result<Statement, WordFault>
+    ensures { MatchResult result
+        (λ root. reading (chars text.now) ≡ Ok root)
+        (λ fault. Faults fault (reading (chars text.now))) }
+{
+    let signs = signs_of(alloc, text)?;
+    let mut parser = Parser {
+        alloc,
+        lexer: Lexer::new(alloc, &signs),
+        above: Many::new(alloc),
+    };
+    let root = parser.read_root()?;
+    let Token { line, kind, .. } = parser.lexer.next_token()?;
+    match kind {
+        Kind::End => Ok(root),
+        _ => Err(WordFault::Bad { line }),
     }
 }

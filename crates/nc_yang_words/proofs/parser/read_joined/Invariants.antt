@@ -1,4 +1,4 @@
-use Rattle.std.proofs.Common.{◌≡◌, ◌≤◌, ℕ, List}
+use Rattle.std.proofs.Common.{◌≤◌, ℕ, List}
 use Rattle.nc_yang_words.specs.Tokens.{left, ahead}
 use Rattle.nc_yang_words.specs.Grammar.{Moves, Joins}
 use Rattle.nc_yang_words.proofs.parser.read_joined.Given as goal

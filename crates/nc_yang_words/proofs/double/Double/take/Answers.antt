@@ -1,4 +1,4 @@
-use Rattle.std.proofs.Common.{arith, rules, ◌≡◌, ◌++◌, true, encode_utf8, ap, ◌∙◌, append_assoc}
+use Rattle.std.proofs.Common.{arith, rules, ◌++◌, true, encode_utf8, ap, ◌∙◌, append_assoc}
 use Rattle.std.proofs.lemmas.Grind.{common_steps}
 use Rattle.nc_yang_words.specs.Signs.{utf8}
 use Rattle.nc_yang_words.proofs.Doubles.{moved}

@@ -1,6 +1,4 @@
-use Rattle.std.proofs.Common.{◌≡◌, ◌<◌, ◌+◌, ◌∷◌, List, ℕ, length, take, drop, ap, subst, sym, ◌∙◌, arith, length-drop}
-use Rattle.nc_yang_words.specs.Tokens.{tokens, left}
-use Rattle.nc_yang_words.specs.Places.{passed}
+use Rattle.std.proofs.Common.{sym, ◌∙◌}
 use Rattle.nc_yang_words.proofs.Tokens.{gap_step, token_step}
 use Rattle.nc_yang_words.proofs.lexer.Lexer.step.Goals as goal
 

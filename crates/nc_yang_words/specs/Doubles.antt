@@ -1,6 +1,5 @@
 -- Double-quoted strings.
 use Rattle.std.specs.Prelude.{◌≡◌, ℕ, ◌+◌, ◌-◌, Bool, true, false, ◌==◌, ◌||◌, ◌&&◌, if◌then◌else◌, List, [], ◌∷◌, ◌++◌, Option, Some, None, encode_utf8, replicate}
-
 use Rattle.nc_yang_words.specs.Signs.{is_yang_char, is_blank, starts_with, columns, utf8}
 use Rattle.nc_yang_words.specs.declared.double.Quoted.{Quoted}
 use Rattle.nc_yang_words.specs.declared.double.Double.{Double}
@@ -27,8 +26,8 @@ abbrev pub double : (width room : ℕ) (held : List ℕ) (escaped : Bool) (count
 double width room held escaped count [] = None
 double width room held true count (c ∷ cs) =
     elim (escape c) [
-      None ↦ None
-    | Some x ↦ with_front (encode_utf8 x) (double width 0 [] false (count + 1) cs)
+      | None ↦ None
+      | Some x ↦ with_front (encode_utf8 x) (double width 0 [] false (count + 1) cs)
     ]
 double width room held false count (c ∷ cs) =
     if c == 34 then Some (record { text = utf8 held; count = count })
@@ -36,7 +35,7 @@ double width room held false count (c ∷ cs) =
     else (if c == 10 then with_front (encode_utf8 c) (double width width [] false (count + 1) cs)
     else (if c == 13 && starts_with 10 cs then with_front (encode_utf8 c) (double width 0 [] false (count + 1) cs)
     else (if is_blank c then
-        double width (room - columns c) (held ++ (if room == 0 then c ∷ [] else replicate (columns c - room) 32)) false (count + 1) cs
+    double width (room - columns c) (held ++ (if room == 0 then c ∷ [] else replicate (columns c - room) 32)) false (count + 1) cs
     else (if is_yang_char c then with_front (utf8 held ++ encode_utf8 c) (double width 0 [] false (count + 1) cs)
     else None)))))
 

@@ -16,9 +16,9 @@ tokens skip apart p [] = (record { line = p.line; apart = apart; kind = End }) �
 tokens (suc skip) apart p (c ∷ cs) = tokens skip apart (after p c) cs
 tokens zero apart p (c ∷ cs) =
     elim (piece (after p c).column c cs) [
-      Gap more ↦ tokens more true (after p c) cs
-    | Whole kind more ↦ (record { line = p.line; apart = apart; kind = kind }) ∷ tokens more false (after p c) cs
-    | NothingWhole ↦ (record { line = p.line; apart = apart; kind = Torn }) ∷ []
+      | Gap more ↦ tokens more true (after p c) cs
+      | Whole kind more ↦ (record { line = p.line; apart = apart; kind = kind }) ∷ tokens more false (after p c) cs
+      | NothingWhole ↦ (record { line = p.line; apart = apart; kind = Torn }) ∷ []
     ]
 
 -- the tokens that are still to come

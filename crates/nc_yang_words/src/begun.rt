@@ -1,7 +1,5 @@
 //! Statements whose end is still to come.
 
-
-
 use crate::statement::Statement;
 use nc_names::{Many, Text};
 

@@ -23,8 +23,18 @@ impl Begun {
     pub(crate) fn with_child(self, child: Statement) -> Result<Begun, Memory>
         ensures { IfOk result (λ it. it ≡ with_child self child) }
     {
-        let Begun { keyword, argument, line, mut below } = self;
+        let Begun {
+            keyword,
+            argument,
+            line,
+            mut below,
+        } = self;
         below.push(child)?;
-        Ok(Begun { keyword, argument, line, below })
+        Ok(Begun {
+            keyword,
+            argument,
+            line,
+            below,
+        })
     }
 }

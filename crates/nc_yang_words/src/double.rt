@@ -150,7 +150,11 @@ impl Double {
 
 /// Reads a double-quoted string behind its opening mark. `width` is how many columns there are up to
 /// and with the mark. `None` where it is not whole.
-pub(crate) fn read_double(alloc: Global, width: usize, signs: &[char]) -> Result<Option<Quoted>, Memory>
+pub(crate) fn read_double(
+    alloc: Global,
+    width: usize,
+    signs: &[char],
+) -> Result<Option<Quoted>, Memory>
     ensures value { IfOk result (λ string. string ≡ double width 0 [] false 0 signs.now) }
     ensures within { IfOk result (λ string. IfSome string (λ q. q.count < length signs.now)) }
 {

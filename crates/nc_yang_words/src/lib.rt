@@ -21,3 +21,6 @@ mod token;
 pub use fault::WordFault;
 pub use parser::statements;
 pub use statement::Statement;
+
+#[cfg(test)]
+mod tests;

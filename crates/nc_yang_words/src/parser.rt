@@ -26,13 +26,7 @@ struct Head {
 }
 
 impl Head {
-    fn new(
-        alloc: Global,
-        keyword: Text,
-        argument: Option<Text>,
-        line: u32,
-        opens: bool,
-    ) -> Head
+    fn new(alloc: Global, keyword: Text, argument: Option<Text>, line: u32, opens: bool) -> Head
         ensures begun { result.begun ≡ begun keyword argument line }
         ensures opens { result.opens ≡ opens }
     {
@@ -75,8 +69,8 @@ fn read_end(lexer: &mut Lexer<'_>) -> Result<bool, WordFault>
 fn read_join(lexer: &mut Lexer<'_>, text: &mut Text) -> Result<Option<bool>, WordFault>
     ensures join { MatchResult result
         (λ opens. MatchOption opens
-            ((keyword : List ℕ) (line : ℕ) → Moves (Joins keyword text.old line) (left lexer.old) (Joins keyword text.new line) (left lexer.new))
-            (λ opens. (keyword : List ℕ) (line : ℕ) → Enters (Joins keyword text.old line) (left lexer.old) (begun keyword (Some text.new) line) opens (left lexer.new)))
+        ((keyword : List ℕ) (line : ℕ) → Moves (Joins keyword text.old line) (left lexer.old) (Joins keyword text.new line) (left lexer.new))
+        (λ opens. (keyword : List ℕ) (line : ℕ) → Enters (Joins keyword text.old line) (left lexer.old) (begun keyword (Some text.new) line) opens (left lexer.new)))
         (λ fault. (keyword : List ℕ) (line : ℕ) → Stops (Joins keyword text.old line) (left lexer.old) fault) }
     ensures keeps { ahead lexer.new ≤ ahead lexer.old }
     ensures shorter { IfOk result (λ opens. IfNone opens (ahead lexer.new < ahead lexer.old)) }

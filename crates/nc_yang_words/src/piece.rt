@@ -62,7 +62,9 @@ fn word(signs: &[char]) -> Option<usize>
 {
     for (count, sign) in signs.iter().enumerate() {
         let rest = &signs[count + 1..];
-        if ends_word(*sign) || (*sign == '/' && (starts_with('/', rest) || starts_with('*', rest))) {
+        if ends_word(*sign)
+            || (*sign == '/' && (starts_with('/', rest) || starts_with('*', rest)))
+        {
             return Some(count);
         }
         if !is_yang_char(*sign) || (*sign == '*' && starts_with('/', rest)) {

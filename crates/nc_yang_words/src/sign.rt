@@ -20,7 +20,10 @@ pub(crate) fn is_yang_char(sign: char) -> bool
 pub(crate) fn ends_word(sign: char) -> bool
     ensures { result ≡ ends_word sign }
 {
-    matches!(sign, ' ' | '\t' | '\n' | '\r' | '"' | '\'' | ';' | '{' | '}')
+    matches!(
+        sign,
+        ' ' | '\t' | '\n' | '\r' | '"' | '\'' | ';' | '{' | '}'
+    )
 }
 
 /// Whether the text goes on with this character.

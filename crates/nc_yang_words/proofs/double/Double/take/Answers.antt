@@ -31,6 +31,6 @@ returns c = λ count after e.
     moved d (record c.keep-2.new.self { text = c.push.new.self }) (utf8 d.held.items ++ encode_utf8 c.args.sign) count c.args.sign after
     (c.in_ok-push.ensures.ok ∙ (ap (λ t. t ++ encode_utf8 c.args.sign) c.in_ok-keep-3.ensures.text ∙ append_assoc d.text (utf8 d.held.items) (encode_utf8 c.args.sign)))
     (elim c.else-sign-eq13.branch [
-      else-sign-eq13-via-then-sign-eq13+else-breaks w ↦ search rules
-    | else-sign-eq13-via-else-sign-eq13 w ↦ grind (arith, common_steps)
+      | else-sign-eq13-via-then-sign-eq13+else-breaks w ↦ search rules
+      | else-sign-eq13-via-else-sign-eq13 w ↦ grind (arith, common_steps)
     ])

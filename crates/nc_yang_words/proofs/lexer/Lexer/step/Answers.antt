@@ -9,7 +9,7 @@ returns-in-Gap-clause-step c =
     let piece_is = rw c.after-width.ensures at (sym c.in_ok-more.ensures.piece ∙ c.in-Gap.is) in
     let within = rw c.in-Gap.is at c.in_ok-more.ensures.within in
     gap_step c.args.apart old.place new.place old.rest.now new.rest.now c.in-Some.sign.now c.in-Some.rest.now c.in-Gap.more
-        c.in-Some.ensures.cases.0 piece_is within c.pass.ensures.rest c.pass.ensures.place
+    c.in-Some.ensures.cases.0 piece_is within c.pass.ensures.rest c.pass.ensures.place
 
 pub returns-in-Whole-clause-step : goal.returns-in-Whole-clause-step
 returns-in-Whole-clause-step c =
@@ -18,4 +18,4 @@ returns-in-Whole-clause-step c =
     let piece_is = rw c.after-width.ensures at (sym c.in_ok-more.ensures.piece ∙ c.in-Whole.is) in
     let within = rw c.in-Whole.is at c.in_ok-more.ensures.within in
     rw within.1 (token_step c.args.apart old.place new.place old.rest.now new.rest.now c.in-Some.sign.now c.in-Some.rest.now c.in-Whole.kind c.in-Whole.more
-        c.in-Some.ensures.cases.0 piece_is within.0 c.pass-in-Whole.ensures.rest c.pass-in-Whole.ensures.place)
+    c.in-Some.ensures.cases.0 piece_is within.0 c.pass-in-Whole.ensures.rest c.pass-in-Whole.ensures.place)

@@ -11,4 +11,4 @@ returns-in-Word-clause-turn c =
     let t = c.in_ok-line.field-0 in
     let e : left old.lexer ≡ word_token t.line t.apart c.in-Word.keyword ∷ left c.next_token.new.self = search rules in
     with_word c.begin.result (state Begins (reverse old.above)) t.line t.apart c.in-Word.keyword (left old.lexer) (left c.next_token.new.self)
-        (λ root. reads (risen root (reverse c.begin.new.self.above)) (left c.begin.new.self.lexer)) e c.begin.ensures.begin
+    (λ root. reads (risen root (reverse c.begin.new.self.above)) (left c.begin.new.self.lexer)) e c.begin.ensures.begin

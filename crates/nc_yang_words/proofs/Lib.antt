@@ -1,3 +1,4 @@
 pub mod Doubles
 pub mod Tokens
 pub mod Words
+pub mod Faults

@@ -134,9 +134,13 @@ abbrev pub reads : State → List Token → Result Statement ℕ
 reads s [] = root_of s.expect
 reads s (t ∷ ts) = elim (at_token s.expect s.above t) [ None ↦ Err t.line | Some next ↦ reads next ts ]
 
+-- the tokens of the characters of a text
+abbrev pub tokens_of : List ℕ → List Token
+tokens_of cs = tokens 0 false (record { line = 1; column = 0 }) cs
+
 -- the tree that the characters of a text spell, or the line of its fault
 abbrev pub reading : List ℕ → Result Statement ℕ
-reading cs = reads (state Begins []) (tokens 0 false (record { line = 1; column = 0 }) cs)
+reading cs = reads (state Begins []) (tokens_of cs)
 
 -- a fault other than want of memory is the line of the text's
 abbrev pub Faults : WordFault → Result Statement ℕ → Type 0

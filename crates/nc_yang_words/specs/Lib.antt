@@ -5,3 +5,4 @@ pub mod Doubles
 pub mod Tokens
 pub mod Keywords
 pub mod Grammar
+pub mod Laws

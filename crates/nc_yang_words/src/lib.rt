@@ -10,6 +10,7 @@ mod closing;
 mod double;
 mod fault;
 mod keyword;
+mod laws;
 mod lexer;
 mod parser;
 mod piece;
@@ -19,6 +20,7 @@ mod statement;
 mod token;
 
 pub use fault::WordFault;
+pub use laws::faults_are_first;
 pub use parser::statements;
 pub use statement::Statement;
 

@@ -1,0 +1,24 @@
+-- Laws of the grammar.
+use Rattle.std.specs.Prelude.{◌≡◌, ℕ, List, [], ◌∷◌, ◌++◌, Ok, Err}
+use Rattle.nc_yang_words.specs.Grammar.{Begins, state, reads, reading, tokens_of}
+use Rattle.nc_yang_words.specs.declared.statement.Statement.{Statement}
+use Rattle.nc_yang_words.specs.declared.token.Token.{Token}
+
+-- some statement text has these tokens
+abbrev pub IsText : List Token → Type 0
+IsText ts = (root : Statement) × (reads (state Begins []) ts ≡ Ok root)
+
+-- of these tokens, this is the line of the first that no statement text has behind the tokens before it
+pub record IsFirstFault (ts : List Token) (line : ℕ) : Type 0 where
+  pub before : List Token
+  pub token : Token
+  pub behind : List Token
+  pub whole : ts ≡ before ++ token ∷ behind
+  pub line_is : line ≡ token.line
+  pub more : List Token
+  pub possible : IsText (before ++ more)
+  pub impossible : (others : List Token) → IsText (before ++ token ∷ others) → ⊥
+
+-- the fault of a text is its first, and its end and what is no whole token are tokens here
+abbrev pub FaultsAreFirst : Type 0
+FaultsAreFirst = (cs : List ℕ) (line : ℕ) → reading cs ≡ Err line → IsFirstFault (tokens_of cs) line

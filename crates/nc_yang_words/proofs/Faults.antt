@@ -3,7 +3,7 @@ use Rattle.std.proofs.Common.{◌≡◌, ℕ, zero, suc, Bool, true, false, List
 use Rattle.nc_yang_words.specs.Places.{after}
 use Rattle.nc_yang_words.specs.Pieces.{piece, is_last, IsWithin}
 use Rattle.nc_yang_words.specs.Tokens.{tokens}
-use Rattle.nc_yang_words.specs.Grammar.{Expect, Begins, Argues, Joins, Quotes, Ends, Done, State, state, begun, closed, ended, with_child, at_begin, at_argument, at_join, at_quote, at_end, at_done, at_close, at_token, root_of, reads, reading, tokens_of}
+use Rattle.nc_yang_words.specs.Grammar.{Expect, Begins, Argues, Joins, Quotes, Ends, Done, Over, State, state, begun, closed, ended, with_child, at_begin, at_argument, at_join, at_quote, at_end, at_done, at_close, at_token, root_of, reads, reading, tokens_of}
 use Rattle.nc_yang_words.specs.Laws.{IsText, IsFirstFault, FaultsAreFirst}
 use Rattle.nc_yang_words.specs.declared.begun.Begun.{Begun}
 use Rattle.nc_yang_words.specs.declared.place.Place.{Place}
@@ -68,6 +68,7 @@ completes (Joins keyword text line) above = (semicolon ∷ closes above, complet
 completes (Quotes keyword text line) above = ((record { line = 1; apart = true; kind = Quoted [] }) ∷ semicolon ∷ closes above, completes_ended (begun keyword (Some (text ++ [])) line) above)
 completes (Ends keyword text line) above = (semicolon ∷ closes above, completes_ended (begun keyword (Some text) line) above)
 completes (Done root) above = (closes [], (root, refl))
+completes (Over root) above = ([], (root, refl))
 
 -- a token that none follows leads nowhere but from the root's end
 begin_last : (above : List Begun) (line : ℕ) (k : Kind) (next : State) → is_last k ≡ true → at_begin above line k ≡ Some next → ⊥
@@ -96,7 +97,7 @@ end_last b above Torn next h e = cc
 end_last b above _ next h e = cc
 
 done_last : (root : Statement) (k : Kind) (next : State) (line : ℕ) → is_last k ≡ true → at_done root k ≡ Some next → root_of next.expect ≡ Err line → ⊥
-done_last root End next line h e f = let g : next ≡ state (Done root) [] = cc in cc
+done_last root End next line h e f = let g : next ≡ state (Over root) [] = cc in cc
 done_last root Torn next line h e f = cc
 done_last root _ next line h e f = cc
 
@@ -107,6 +108,7 @@ last_leads_nowhere (Joins keyword text l) above t next line h e f = join_last ke
 last_leads_nowhere (Quotes keyword text l) above t next line h e f = quote_last keyword text l above t.kind next h e
 last_leads_nowhere (Ends keyword text l) above t next line h e f = end_last (begun keyword (Some text) l) above t.kind next h e
 last_leads_nowhere (Done root) above t next line h e f = done_last root t.kind next line h e f
+last_leads_nowhere (Over root) above t next line h e f = cc
 
 -- the first fault from a place on
 record FaultFrom (s : State) (ts : List Token) (line : ℕ) : Type 0 where

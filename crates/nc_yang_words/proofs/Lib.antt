@@ -2,3 +2,5 @@ pub mod Doubles
 pub mod Tokens
 pub mod Words
 pub mod Faults
+pub mod Spelled
+pub mod Read

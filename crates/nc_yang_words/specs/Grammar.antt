@@ -25,7 +25,7 @@ with_child b s = record { keyword = b.keyword; argument = b.argument; line = b.l
 
 -- what is to come, by the rules of RFC 7950 section 6.3: the keyword of a statement or the end of the
 -- one that it would stand in; an argument or the end of a keyword's statement; behind a quoted string
--- a `+` or that end; behind a `+` a quoted string; the end of a statement; the end of the text
+-- a `+` or that end; behind a `+` a quoted string; the end of a statement; the end of the text; nothing
 pub data Expect : Type 0 where
   Begins : Expect
   Argues : (keyword : List ℕ) (line : ℕ) → Expect
@@ -33,6 +33,7 @@ pub data Expect : Type 0 where
   Quotes : (keyword argument : List ℕ) (line : ℕ) → Expect
   Ends : (keyword argument : List ℕ) (line : ℕ) → Expect
   Done : (root : Statement) → Expect
+  Over : (root : Statement) → Expect
 
 -- what is to come, and the statements whose `}` is to come, nearest first
 pub record State : Type 0 where
@@ -108,7 +109,7 @@ at_done root (Quoted q) = None
 at_done root Semicolon = None
 at_done root Open = None
 at_done root Close = None
-at_done root End = Some (state (Done root) [])
+at_done root End = Some (state (Over root) [])
 at_done root Torn = None
 
 -- where the token leads, if a statement text has it here
@@ -119,6 +120,7 @@ at_token (Joins keyword text line) above t = at_join keyword text line above t.k
 at_token (Quotes keyword text line) above t = at_quote keyword text line above t.kind
 at_token (Ends keyword text line) above t = at_end (begun keyword (Some text) line) above t.kind
 at_token (Done root) above t = at_done root t.kind
+at_token (Over root) above t = None
 
 -- the root, where the text has ended behind it
 abbrev pub root_of : Expect → Result Statement ℕ
@@ -127,7 +129,8 @@ root_of (Argues keyword line) = Err 0
 root_of (Joins keyword text line) = Err 0
 root_of (Quotes keyword text line) = Err 0
 root_of (Ends keyword text line) = Err 0
-root_of (Done root) = Ok root
+root_of (Done root) = Err 0
+root_of (Over root) = Ok root
 
 -- the tree that the tokens spell, or the line of the first that no statement text has there
 abbrev pub reads : State → List Token → Result Statement ℕ

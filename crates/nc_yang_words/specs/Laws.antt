@@ -1,6 +1,7 @@
 -- Laws of the grammar.
 use Rattle.std.specs.Prelude.{◌≡◌, ℕ, List, [], ◌∷◌, ◌++◌, Ok, Err}
 use Rattle.nc_yang_words.specs.Grammar.{Begins, state, reads, reading, tokens_of}
+use Rattle.nc_yang_words.specs.Spelling.{TextSpells}
 use Rattle.nc_yang_words.specs.declared.statement.Statement.{Statement}
 use Rattle.nc_yang_words.specs.declared.token.Token.{Token}
 
@@ -22,3 +23,11 @@ pub record IsFirstFault (ts : List Token) (line : ℕ) : Type 0 where
 -- the fault of a text is its first, and its end and what is no whole token are tokens here
 abbrev pub FaultsAreFirst : Type 0
 FaultsAreFirst = (cs : List ℕ) (line : ℕ) → reading cs ≡ Err line → IsFirstFault (tokens_of cs) line
+
+-- a text that spells a tree is read as that tree
+abbrev pub SpelledIsRead : Type 0
+SpelledIsRead = (cs : List ℕ) (root : Statement) → TextSpells cs root → reading cs ≡ Ok root
+
+-- and a text that is read as a tree spells it
+abbrev pub ReadIsSpelled : Type 0
+ReadIsSpelled = (cs : List ℕ) (root : Statement) → reading cs ≡ Ok root → TextSpells cs root

@@ -6,3 +6,4 @@ pub mod Tokens
 pub mod Keywords
 pub mod Grammar
 pub mod Laws
+pub mod Spelling

@@ -1,10 +1,10 @@
 -- The fault of a text is its first.
 use Rattle.std.proofs.Common.{◌≡◌, ℕ, zero, suc, Bool, true, false, List, [], ◌∷◌, ◌++◌, Option, Some, None, Result, Ok, Err, refl, sym, ap, ◌∙◌}
 use Rattle.nc_yang_words.specs.Places.{after}
-use Rattle.nc_yang_words.specs.Pieces.{piece, is_last, IsWithin}
+use Rattle.nc_yang_words.specs.Pieces.{piece, is_last}
 use Rattle.nc_yang_words.specs.Tokens.{tokens}
-use Rattle.nc_yang_words.specs.Grammar.{Expect, Begins, Argues, Joins, Quotes, Ends, Done, Over, State, state, begun, closed, ended, with_child, at_begin, at_argument, at_join, at_quote, at_end, at_done, at_close, at_token, root_of, reads, reading, tokens_of}
-use Rattle.nc_yang_words.specs.Laws.{IsText, IsFirstFault, FaultsAreFirst}
+use Rattle.nc_yang_words.specs.Grammar.{Expect, Begins, Argues, Joins, Quotes, Ends, Done, Over, State, state, begun, closed, ended, with_child, at_begin, at_argument, at_join, at_quote, at_end, at_done, at_token, root_of, reads, reading, tokens_of}
+use Rattle.nc_yang_words.specs.Laws.{IsFirstFault}
 use Rattle.nc_yang_words.specs.declared.begun.Begun.{Begun}
 use Rattle.nc_yang_words.specs.declared.place.Place.{Place}
 use Rattle.nc_yang_words.specs.declared.piece.Piece.{Piece}
@@ -12,7 +12,7 @@ use Rattle.nc_yang_words.specs.declared.piece.Piece.TheVariants.{Gap, Whole, Tor
 use Rattle.nc_yang_words.specs.declared.statement.Statement.{Statement}
 use Rattle.nc_yang_words.specs.declared.token.Token.{Token}
 use Rattle.nc_yang_words.specs.declared.token.Kind.{Kind}
-use Rattle.nc_yang_words.specs.declared.token.Kind.TheVariants.{Word, Quoted, Semicolon, Open, Close, End, Torn}
+use Rattle.nc_yang_words.specs.declared.token.Kind.TheVariants.{Word, Quoted, Semicolon, Close, End, Torn}
 
 -- the last of the tokens is one that none follows
 abbrev pub IsEnded : List Token → Type 0
@@ -186,7 +186,7 @@ faults_from s [] line ended h = absurd ended
 faults_from s (t ∷ ts) line ended h =
     at_first (at_token s.expect s.above t) s t ts line refl ended h (λ next e r. faults_from next ts line e r)
 
-pub the_faults_are_first : FaultsAreFirst
+pub the_faults_are_first : (cs : List ℕ) (line : ℕ) → reading cs ≡ Err line → IsFirstFault (tokens_of cs) line
 the_faults_are_first cs line h =
     let f = faults_from (state Begins []) (tokens_of cs) line (tokens_ended 0 false (record { line = 1; column = 0 }) cs) h in
     record {

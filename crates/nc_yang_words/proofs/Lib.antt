@@ -4,3 +4,4 @@ pub mod Words
 pub mod Faults
 pub mod Spelled
 pub mod Read
+pub mod Exact

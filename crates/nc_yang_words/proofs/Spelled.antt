@@ -1,8 +1,8 @@
 -- A text that spells a tree is read as that tree.
-use Rattle.std.proofs.Common.{◌≡◌, ℕ, zero, suc, ◌+◌, ◌<◌, ◌≤◌, Bool, true, false, List, [], ◌∷◌, ◌++◌, length, Option, Some, None, Result, Ok, Err, ◌⊎◌, inl, inr, refl, sym, ap, subst, ◌∙◌, append_assoc, append-nil, arith, rules, tests, nat_lt}
-use Rattle.nc_yang_words.specs.Keywords.{is_keyword, is_plus}
-use Rattle.nc_yang_words.specs.Grammar.{Expect, Begins, Argues, Joins, Quotes, Ends, Done, Over, State, state, begun, closed, ended, with_child, at_begin, at_argument, at_join, at_quote, at_end, at_done, at_close, at_token, reads, reading, tokens_of}
-use Rattle.nc_yang_words.specs.Spelling.{AreJoined, IsQuoted, IsUnquoted, IsArgument, AreEach, IsSemicolon, IsBlock, IsStatement, Spells, TextSpells}
+use Rattle.std.proofs.Common.{◌≡◌, ℕ, zero, suc, ◌+◌, ◌<◌, ◌≤◌, Bool, true, List, [], ◌∷◌, ◌++◌, length, Option, Some, None, ◌⊎◌, inl, inr, refl, sym, ap, subst, ◌∙◌, append_assoc, append-nil, arith, rules, tests}
+use Rattle.nc_yang_words.specs.Keywords.{is_keyword}
+use Rattle.nc_yang_words.specs.Grammar.{Begins, Argues, Joins, Quotes, Ends, Done, Over, State, state, begun, closed, ended, with_child, at_begin, at_argument, at_join, at_quote, at_end, at_done, at_token, reads}
+use Rattle.nc_yang_words.specs.Spelling.{AreJoined, IsQuoted, IsUnquoted, IsArgument, AreEach, IsSemicolon, IsBlock, IsStatement, Spells}
 use Rattle.nc_yang_words.specs.Laws.{SpelledIsRead}
 use Rattle.nc_yang_words.specs.declared.begun.Begun.{Begun}
 use Rattle.nc_yang_words.specs.declared.statement.Statement.{Statement}
@@ -47,16 +47,16 @@ joined_read : (keyword before text : List ℕ) (line : ℕ) (above : List Begun)
     → reads (state (Joins keyword before line) above) (ts ++ t ∷ more) ≡ reads next more
 joined_read keyword before text line above [] t more next h e =
     goes (state (Joins keyword before line) above) next t more
-        (join_ends keyword before line above t.kind next
-            (subst (λ x. at_end (begun keyword (Some x) line) above t.kind ≡ Some next) (ap (λ x. before ++ x) h ∙ append-nil before) e))
+    (join_ends keyword before line above t.kind next
+    (subst (λ x. at_end (begun keyword (Some x) line) above t.kind ≡ Some next) (ap (λ x. before ++ x) h ∙ append-nil before) e))
 joined_read keyword before text line above (plus ∷ []) t more next h e = absurd h
 joined_read keyword before text line above (plus ∷ part ∷ ts) t more next (first, (rest, (text_is, (plus_is, (part_is, joined))))) e =
     goes (state (Joins keyword before line) above) (state (Quotes keyword before line) above) plus (part ∷ (ts ++ t ∷ more))
-        (ap (λ k. at_join keyword before line above k) plus_is)
+    (ap (λ k. at_join keyword before line above k) plus_is)
     ∙ (goes (state (Quotes keyword before line) above) (state (Joins keyword (before ++ first) line) above) part (ts ++ t ∷ more)
-        (ap (λ k. at_quote keyword before line above k) part_is)
+    (ap (λ k. at_quote keyword before line above k) part_is)
     ∙ joined_read keyword (before ++ first) rest line above ts t more next joined
-        (subst (λ x. at_end (begun keyword (Some x) line) above t.kind ≡ Some next) (ap (λ x. before ++ x) text_is ∙ sym (append_assoc before first rest)) e))
+    (subst (λ x. at_end (begun keyword (Some x) line) above t.kind ≡ Some next) (ap (λ x. before ++ x) text_is ∙ sym (append_assoc before first rest)) e))
 
 -- an argument, up to the `;` or the `{` behind it
 quoted_read : (keyword text : List ℕ) (line : ℕ) (above : List Begun) (ts : List Token) (t : Token) (more : List Token) (next : State)
@@ -65,9 +65,9 @@ quoted_read : (keyword text : List ℕ) (line : ℕ) (above : List Begun) (ts : 
 quoted_read keyword text line above [] t more next h e = absurd h
 quoted_read keyword text line above (part ∷ ts) t more next (apart, (first, (rest, (text_is, (part_is, joined))))) e =
     goes (state (Argues keyword line) above) (state (Joins keyword first line) above) part (ts ++ t ∷ more)
-        (ap (λ k. at_argument keyword line above part.apart k) part_is ∙ ap (λ a. at_argument keyword line above a (Quoted first)) apart)
+    (ap (λ k. at_argument keyword line above part.apart k) part_is ∙ ap (λ a. at_argument keyword line above a (Quoted first)) apart)
     ∙ joined_read keyword first rest line above ts t more next joined
-        (subst (λ x. at_end (begun keyword (Some x) line) above t.kind ≡ Some next) text_is e)
+    (subst (λ x. at_end (begun keyword (Some x) line) above t.kind ≡ Some next) text_is e)
 
 unquoted_read : (keyword text : List ℕ) (line : ℕ) (above : List Begun) (ts : List Token) (t : Token) (more : List Token) (next : State)
     → IsUnquoted text ts → at_end (begun keyword (Some text) line) above t.kind ≡ Some next
@@ -75,7 +75,7 @@ unquoted_read : (keyword text : List ℕ) (line : ℕ) (above : List Begun) (ts 
 unquoted_read keyword text line above ts t more next (w, (ts_is, w_is)) e =
     ap (λ x. reads (state (Argues keyword line) above) (x ++ t ∷ more)) ts_is
     ∙ (goes (state (Argues keyword line) above) (state (Ends keyword text line) above) w (t ∷ more)
-        (ap (λ k. at_argument keyword line above w.apart k) w_is)
+    (ap (λ k. at_argument keyword line above w.apart k) w_is)
     ∙ goes (state (Ends keyword text line) above) next t more e)
 
 argument_read : (keyword : List ℕ) (argument : Option (List ℕ)) (line : ℕ) (above : List Begun) (ts : List Token) (t : Token) (more : List Token) (next : State)
@@ -140,7 +140,7 @@ statement_read : (Of : Statement → List Token → Type 0) (s : Statement) (ts 
 statement_read Of s ts above more h below read =
     ap (λ x. reads (state Begins above) (x ++ more)) h.whole
     ∙ (goes (state Begins above) (state (Argues h.name h.keyword.line) above) h.keyword ((h.words ++ h.block) ++ more)
-        (keyword_read above h.keyword h.name h.keyword_is h.name_is below)
+    (keyword_read above h.keyword h.name h.keyword_is h.name_is below)
     ∙ (ap (λ x. reads (state (Argues h.name h.keyword.line) above) x) (append_assoc h.words h.block more)
     ∙ (end_read Of h.name h.argument h.keyword.line h.below h.words h.block above more h.argument_is h.block_is read
     ∙ ap (λ x. reads (behind x above) more) (sym h.tree))))
@@ -152,7 +152,7 @@ one_read : (levels : ℕ) (s : Statement) (ts : List Token) (above : List Begun)
 one_read zero s ts above more le h = absurd h
 one_read (suc levels) s ts above more le h =
     statement_read (Spells levels) s ts above more h (omega arith)
-        (λ parent child us rest of. one_read levels child us (parent ∷ above) rest (omega arith) of)
+    (λ parent child us rest of. one_read levels child us (parent ∷ above) rest (omega arith) of)
 
 pub the_spelled_are_read : SpelledIsRead
 the_spelled_are_read cs root h =

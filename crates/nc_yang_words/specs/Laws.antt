@@ -1,7 +1,9 @@
 -- Laws of the grammar.
-use Rattle.std.specs.Prelude.{◌≡◌, ℕ, List, [], ◌∷◌, ◌++◌, Ok, Err}
+use Rattle.std.specs.Prelude.{◌≡◌, ℕ, List, [], ◌∷◌, ◌++◌, Ok}
 use Rattle.nc_yang_words.specs.Grammar.{Begins, state, reads, reading, tokens_of}
 use Rattle.nc_yang_words.specs.Spelling.{TextSpells}
+use Rattle.nc_yang_words.specs.declared.fault.WordFault.{WordFault}
+use Rattle.nc_yang_words.specs.declared.fault.WordFault.TheVariants.{Bad, Memory}
 use Rattle.nc_yang_words.specs.declared.statement.Statement.{Statement}
 use Rattle.nc_yang_words.specs.declared.token.Token.{Token}
 
@@ -20,14 +22,11 @@ pub record IsFirstFault (ts : List Token) (line : ℕ) : Type 0 where
   pub possible : IsText (before ++ more)
   pub impossible : (others : List Token) → IsText (before ++ token ∷ others) → ⊥
 
--- the fault of a text is its first, and its end and what is no whole token are tokens here
-abbrev pub FaultsAreFirst : Type 0
-FaultsAreFirst = (cs : List ℕ) (line : ℕ) → reading cs ≡ Err line → IsFirstFault (tokens_of cs) line
+-- a fault other than want of memory is the first of a text, and no tree is spelled by it
+abbrev pub IsFirstOf : WordFault → List ℕ → Type 0
+IsFirstOf (Bad line) cs = IsFirstFault (tokens_of cs) line × ((root : Statement) → TextSpells cs root → ⊥)
+IsFirstOf Memory cs = Unit {0}
 
 -- a text that spells a tree is read as that tree
 abbrev pub SpelledIsRead : Type 0
 SpelledIsRead = (cs : List ℕ) (root : Statement) → TextSpells cs root → reading cs ≡ Ok root
-
--- and a text that is read as a tree spells it
-abbrev pub ReadIsSpelled : Type 0
-ReadIsSpelled = (cs : List ℕ) (root : Statement) → reading cs ≡ Ok root → TextSpells cs root

@@ -20,7 +20,7 @@ mod statement;
 mod token;
 
 pub use fault::WordFault;
-pub use laws::{faults_are_first, read_is_spelled, spelled_is_read};
+pub use laws::spelled_is_read;
 pub use parser::statements;
 pub use statement::Statement;
 

@@ -3,6 +3,8 @@ ghost use Rattle.std.specs.Prelude.{◌≡◌, ◌<◌, ◌≤◌, ℕ, List, []
 ghost use Rattle.std.specs.Str.{chars};
 ghost use Rattle.nc_yang_words.specs.Tokens.{left, ahead};
 ghost use Rattle.nc_yang_words.specs.Grammar.{reads, reading, state, at_end, begun, ended, Faults, entered, Enters, Moves, Stops, risen, word_token, Expect, Begins, Argues, Joins, Ends, Done};
+ghost use Rattle.nc_yang_words.specs.Laws.{IsFirstOf};
+ghost use Rattle.nc_yang_words.specs.Spelling.{TextSpells};
 ghost use Rattle.nc_yang_words.specs.declared.begun.Begun.{Begun as TheBegun};
 
 use crate::begun::Begun;
@@ -229,11 +231,8 @@ fn signs_of(alloc: Global, text: &str) -> Result<Vec<char>, Memory>
     Ok(text.chars().collect(alloc)?)
 }
 
-/// The one tree of statements that a module text spells (RFC 7950 6.1 to 6.3), at most 64 of them
-/// inside one another. A fault names the line, counted from 1, at which the first token begins that
-/// is not whole or that no statement text has behind the tokens before it, or the line of the end of
-/// a text that ends too early.
-pub fn statements(alloc: Global, text: &str) -> Result<Statement, WordFault>
+/// The tree that a text spells, or its fault.
+fn read_text(alloc: Global, text: &str) -> Result<Statement, WordFault>
     ensures { MatchResult result
         (λ root. reading (chars text.now) ≡ Ok root)
         (λ fault. Faults fault (reading (chars text.now))) }
@@ -250,4 +249,18 @@ pub fn statements(alloc: Global, text: &str) -> Result<Statement, WordFault>
         Kind::End => Ok(root),
         _ => Err(WordFault::Bad { line }),
     }
+}
+
+/// The one tree of statements that a module text spells (RFC 7950 6.1 to 6.3), at most 64 of them
+/// inside one another. A fault names the line, counted from 1, at which the first token begins that
+/// is not whole or that no statement text has behind the tokens before it, or the line of the end of
+/// a text that ends too early.
+pub fn statements(alloc: Global, text: &str) -> Result<Statement, WordFault>
+    ensures reading { MatchResult result
+        (λ root. reading (chars text.now) ≡ Ok root)
+        (λ fault. Faults fault (reading (chars text.now))) }
+    ensures spells { IfOk result (λ root. TextSpells (chars text.now) root) }
+    ensures first_fault { IfErr result (λ fault. IsFirstOf fault (chars text.now)) }
+{
+    read_text(alloc, text)
 }

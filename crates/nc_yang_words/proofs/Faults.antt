@@ -4,7 +4,6 @@ use Rattle.nc_yang_words.specs.Places.{after}
 use Rattle.nc_yang_words.specs.Pieces.{piece, is_last}
 use Rattle.nc_yang_words.specs.Tokens.{tokens}
 use Rattle.nc_yang_words.specs.Grammar.{Expect, Begins, Argues, Joins, Quotes, Ends, Done, Over, State, state, begun, closed, ended, with_child, at_begin, at_argument, at_join, at_quote, at_end, at_done, at_token, root_of, reads, reading, tokens_of}
-use Rattle.nc_yang_words.specs.Laws.{IsFirstFault}
 use Rattle.nc_yang_words.specs.declared.begun.Begun.{Begun}
 use Rattle.nc_yang_words.specs.declared.place.Place.{Place}
 use Rattle.nc_yang_words.specs.declared.piece.Piece.{Piece}
@@ -48,7 +47,7 @@ closes [] = (record { line = 1; apart = true; kind = End }) ∷ []
 closes (b ∷ above) = (record { line = 1; apart = true; kind = Close }) ∷ closes above
 
 -- the tokens lead from there to a root
-abbrev Completes : State → List Token → Type 0
+abbrev pub Completes : State → List Token → Type 0
 Completes s ts = (root : Statement) × (reads s ts ≡ Ok root)
 
 -- behind a statement's end
@@ -111,15 +110,15 @@ last_leads_nowhere (Done root) above t next line h e f = done_last root t.kind n
 last_leads_nowhere (Over root) above t next line h e f = cc
 
 -- the first fault from a place on
-record FaultFrom (s : State) (ts : List Token) (line : ℕ) : Type 0 where
-  before : List Token
-  token : Token
-  behind : List Token
-  whole : ts ≡ before ++ token ∷ behind
-  line_is : line ≡ token.line
-  more : List Token
-  possible : Completes s (before ++ more)
-  impossible : (others : List Token) → Completes s (before ++ token ∷ others) → ⊥
+pub record FaultFrom (s : State) (ts : List Token) (line : ℕ) : Type 0 where
+  pub before : List Token
+  pub token : Token
+  pub behind : List Token
+  pub whole : ts ≡ before ++ token ∷ behind
+  pub line_is : line ≡ token.line
+  pub more : List Token
+  pub possible : Completes s (before ++ more)
+  pub impossible : (others : List Token) → Completes s (before ++ token ∷ others) → ⊥
 
 -- what reading goes on with
 unfoldable pub follow : Option State → ℕ → List Token → Result Statement ℕ
@@ -186,16 +185,5 @@ faults_from s [] line ended h = absurd ended
 faults_from s (t ∷ ts) line ended h =
     at_first (at_token s.expect s.above t) s t ts line refl ended h (λ next e r. faults_from next ts line e r)
 
-pub the_faults_are_first : (cs : List ℕ) (line : ℕ) → reading cs ≡ Err line → IsFirstFault (tokens_of cs) line
-the_faults_are_first cs line h =
-    let f = faults_from (state Begins []) (tokens_of cs) line (tokens_ended 0 false (record { line = 1; column = 0 }) cs) h in
-    record {
-      before = f.before;
-      token = f.token;
-      behind = f.behind;
-      whole = f.whole;
-      line_is = f.line_is;
-      more = f.more;
-      possible = f.possible;
-      impossible = f.impossible;
-    }
+pub first_fault : (cs : List ℕ) (line : ℕ) → reading cs ≡ Err line → FaultFrom (state Begins []) (tokens_of cs) line
+first_fault cs line h = faults_from (state Begins []) (tokens_of cs) line (tokens_ended 0 false (record { line = 1; column = 0 }) cs) h

@@ -1,8 +1,8 @@
 -- A text that is read as a tree spells that tree.
 use Rattle.std.proofs.Common.{◌≡◌, ℕ, suc, ◌-◌, ◌<◌, Bool, true, false, List, [], ◌∷◌, ◌++◌, length, if◌then◌else◌, ◌&&◌, Option, Some, None, Ok, Err, ◌⊎◌, inl, inr, refl, sym, ap, subst, ◌∙◌, append_assoc, append-nil, arith, rules, tests, nat_lt}
 use Rattle.nc_yang_words.specs.Keywords.{is_keyword, is_plus}
-use Rattle.nc_yang_words.specs.Grammar.{Expect, Begins, Argues, Joins, Quotes, Ends, Done, Over, State, state, begun, closed, ended, with_child, at_begin, at_argument, at_join, at_quote, at_end, at_done, at_close, at_token, root_of, reads, reading, tokens_of}
-use Rattle.nc_yang_words.specs.Spelling.{AreJoined, IsArgument, AreEach, IsSemicolon, IsBlock, IsStatement, Spells, TextSpells}
+use Rattle.nc_yang_words.specs.Grammar.{Expect, Begins, Argues, Joins, Quotes, Ends, Done, Over, State, state, begun, closed, ended, with_child, at_begin, at_argument, at_join, at_quote, at_end, at_done, at_close, at_token, root_of, reads}
+use Rattle.nc_yang_words.specs.Spelling.{AreJoined, IsArgument, AreEach, IsSemicolon, IsBlock, IsStatement, Spells, TokensSpell}
 use Rattle.nc_yang_words.specs.declared.begun.Begun.{Begun}
 use Rattle.nc_yang_words.specs.declared.statement.Statement.{Statement}
 use Rattle.nc_yang_words.specs.declared.token.Token.{Token}
@@ -365,9 +365,9 @@ read_has [] e above root h = at_end_of e above root h
 read_has (t ∷ ts) e above root h =
     next_has (at_token e above t) e above t ts root refl h (λ next r. read_has ts next.expect next.above root r)
 
-pub the_read_is_spelled : (cs : List ℕ) (root : Statement) → reading cs ≡ Ok root → TextSpells cs root
-the_read_is_spelled cs root h =
-    let r = read_has (tokens_of cs) Begins [] root h in
+pub the_read_is_spelled : (ts : List Token) (root : Statement) → reads (state Begins []) ts ≡ Ok root → TokensSpell ts root
+the_read_is_spelled ts root h =
+    let r = read_has ts Begins [] root h in
     record {
       front = r.front;
       last = r.ends.last;

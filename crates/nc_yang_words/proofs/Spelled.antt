@@ -1,9 +1,8 @@
 -- A text that spells a tree is read as that tree.
-use Rattle.std.proofs.Common.{◌≡◌, ℕ, zero, suc, ◌+◌, ◌<◌, ◌≤◌, Bool, true, List, [], ◌∷◌, ◌++◌, length, Option, Some, None, ◌⊎◌, inl, inr, refl, sym, ap, subst, ◌∙◌, append_assoc, append-nil, arith, rules, tests}
+use Rattle.std.proofs.Common.{◌≡◌, ℕ, zero, suc, ◌+◌, ◌<◌, ◌≤◌, Bool, true, List, [], ◌∷◌, ◌++◌, length, Option, Some, None, Ok, ◌⊎◌, inl, inr, refl, sym, ap, subst, ◌∙◌, append_assoc, append-nil, arith, rules, tests}
 use Rattle.nc_yang_words.specs.Keywords.{is_keyword}
 use Rattle.nc_yang_words.specs.Grammar.{Begins, Argues, Joins, Quotes, Ends, Done, Over, State, state, begun, closed, ended, with_child, at_begin, at_argument, at_join, at_quote, at_end, at_done, at_token, reads}
-use Rattle.nc_yang_words.specs.Spelling.{AreJoined, IsQuoted, IsUnquoted, IsArgument, AreEach, IsSemicolon, IsBlock, IsStatement, Spells}
-use Rattle.nc_yang_words.specs.Laws.{SpelledIsRead}
+use Rattle.nc_yang_words.specs.Spelling.{AreJoined, IsQuoted, IsUnquoted, IsArgument, AreEach, IsSemicolon, IsBlock, IsStatement, Spells, TokensSpell}
 use Rattle.nc_yang_words.specs.declared.begun.Begun.{Begun}
 use Rattle.nc_yang_words.specs.declared.statement.Statement.{Statement}
 use Rattle.nc_yang_words.specs.declared.token.Token.{Token}
@@ -154,8 +153,8 @@ one_read (suc levels) s ts above more le h =
     statement_read (Spells levels) s ts above more h (omega arith)
     (λ parent child us rest of. one_read levels child us (parent ∷ above) rest (omega arith) of)
 
-pub the_spelled_are_read : SpelledIsRead
-the_spelled_are_read cs root h =
-    ap (λ ts. reads (state Begins []) ts) h.whole
+pub the_spelled_are_read : (ts : List Token) (root : Statement) → TokensSpell ts root → reads (state Begins []) ts ≡ Ok root
+the_spelled_are_read ts root h =
+    ap (λ us. reads (state Begins []) us) h.whole
     ∙ (one_read 64 root h.front [] (h.last ∷ []) (omega arith) h.spells
     ∙ goes (state (Done root) []) (state (Over root) []) h.last [] (ap (λ k. at_done root k) h.ends))

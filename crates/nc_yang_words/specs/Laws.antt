@@ -1,7 +1,7 @@
 -- Laws of the grammar.
-use Rattle.std.specs.Prelude.{◌≡◌, ℕ, List, [], ◌∷◌, ◌++◌, Ok}
-use Rattle.nc_yang_words.specs.Grammar.{Begins, state, reads, reading, tokens_of}
-use Rattle.nc_yang_words.specs.Spelling.{TextSpells}
+use Rattle.std.specs.Prelude.{◌≡◌, ℕ, List, ◌∷◌, ◌++◌, Ok}
+use Rattle.nc_yang_words.specs.Grammar.{reading, tokens_of}
+use Rattle.nc_yang_words.specs.Spelling.{TokensSpell, TextSpells}
 use Rattle.nc_yang_words.specs.declared.fault.WordFault.{WordFault}
 use Rattle.nc_yang_words.specs.declared.fault.WordFault.TheVariants.{Bad, Memory}
 use Rattle.nc_yang_words.specs.declared.statement.Statement.{Statement}
@@ -9,7 +9,7 @@ use Rattle.nc_yang_words.specs.declared.token.Token.{Token}
 
 -- some statement text has these tokens
 abbrev pub IsText : List Token → Type 0
-IsText ts = (root : Statement) × (reads (state Begins []) ts ≡ Ok root)
+IsText ts = (root : Statement) × TokensSpell ts root
 
 -- of these tokens, this is the line of the first that no statement text has behind the tokens before it
 pub record IsFirstFault (ts : List Token) (line : ℕ) : Type 0 where

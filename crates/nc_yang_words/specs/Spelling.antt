@@ -69,10 +69,14 @@ abbrev pub Spells : (levels : ℕ) → Statement → List Token → Type 0
 Spells zero s ts = ⊥
 Spells (suc levels) s ts = IsStatement (Spells levels) s ts
 
--- the text spells the tree: its tokens are those of the tree and its end
-pub record TextSpells (cs : List ℕ) (root : Statement) : Type 0 where
+-- the tokens are those of the tree and the end of a text
+pub record TokensSpell (ts : List Token) (root : Statement) : Type 0 where
   pub front : List Token
   pub last : Token
-  pub whole : tokens_of cs ≡ front ++ last ∷ []
+  pub whole : ts ≡ front ++ last ∷ []
   pub ends : last.kind ≡ End
   pub spells : Spells 64 root front
+
+-- the text spells the tree
+abbrev pub TextSpells : List ℕ → Statement → Type 0
+TextSpells cs root = TokensSpell (tokens_of cs) root

@@ -5,3 +5,4 @@ pub mod Faults
 pub mod Spelled
 pub mod Read
 pub mod Exact
+pub mod Lines

@@ -7,3 +7,4 @@ pub mod Keywords
 pub mod Grammar
 pub mod Laws
 pub mod Spelling
+pub mod Lines

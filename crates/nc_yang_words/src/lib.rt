@@ -6,7 +6,6 @@
 #![tactic(auto)]
 
 mod begun;
-mod closing;
 mod double;
 mod fault;
 mod keyword;
@@ -20,7 +19,7 @@ mod statement;
 mod token;
 
 pub use fault::WordFault;
-pub use laws::spelled_is_read;
+pub use laws::{lines_are_laid_out, spelled_is_read};
 pub use parser::statements;
 pub use statement::Statement;
 

@@ -1,0 +1,5 @@
+pub mod Framing
+pub mod Steps
+pub mod Kept
+pub mod Writing
+pub mod Turns

@@ -15,8 +15,8 @@ before_last t b before front last e = (same_from_push t (before ++ (mark ++ fron
 
 pub HasNoMark-push : (t : List ℕ) (b : ℕ) → HasNoMark t → ((before : List ℕ) → t ++ b ∷ [] ≢ before ++ mark) → HasNoMark (t ++ b ∷ [])
 HasNoMark-push t b none no_end = λ before after e. elim (last_of after) [
-    inl nil ↦ no_end before (e ∙ ap (λ a. before ++ (mark ++ a)) nil)
-    | inr p ↦ none before p.0 (before_last t b before p.0 p.1 (e ∙ ap (λ a. before ++ (mark ++ a)) p.2))
+  | inl nil ↦ no_end before (e ∙ ap (λ a. before ++ (mark ++ a)) nil)
+  | inr p ↦ none before p.0 (before_last t b before p.0 p.1 (e ∙ ap (λ a. before ++ (mark ++ a)) p.2))
 ]
 
 -- a mark ends in `>`
@@ -46,7 +46,7 @@ EndsInMark-stretch old new before none s ends =
       message = before;
       bytes_are = ends;
       marked = λ earlier after h. elim (last_of after) [
-        inl nil ↦ nil
+        | inl nil ↦ nil
         | inr p ↦ absurd (HasNoMark-more s.front old none s.none earlier p.0 (before_last (old ++ s.front) s.last earlier p.0 p.1 (e ∙ ends ∙ h ∙ ap (λ a. earlier ++ (mark ++ a)) p.2)))
       ];
     }
@@ -62,7 +62,7 @@ IsStretch-take old new rest count some within other e =
       last = get_or rest n 0;
       new_is = e ∙ ap (λ l. old ++ l) whole;
       none = λ k h.
-        let len : length (take n rest) ≡ n = length-take-le n rest (omega arith) in
-        let below : k < n = omega arith in
-        λ is_mark. other k (omega arith) (sym (get_or-take n rest k 0 below) ∙ is_mark);
+          let len : length (take n rest) ≡ n = length-take-le n rest (omega arith) in
+          let below : k < n = omega arith in
+          λ is_mark. other k (omega arith) (sym (get_or-take n rest k 0 below) ∙ is_mark);
     }

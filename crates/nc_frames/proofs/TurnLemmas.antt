@@ -22,8 +22,8 @@ Advances-then {a} {b} {c} {xs} {ys} {zs} p q = record {
   bytes_are = p.bytes_are ∙ ap (λ l. p.taken ++ l) q.bytes_are ∙ sym (append_assoc p.taken q.taken zs);
   reads = run-append-some p.taken q.taken (reading_of a) (reading_of b) p.reads ∙ q.reads;
   further = λ place e.
-    let there : c.place ≡ capped (place + length p.taken + length q.taken) = q.further (place + length p.taken) (p.further place e) in
-    there ∙ ap capped (omega (arith, length-append p.taken q.taken));
+      let there : c.place ≡ capped (place + length p.taken + length q.taken) = q.further (place + length p.taken) (p.further place e) in
+      there ∙ ap capped (omega (arith, length-append p.taken q.taken));
 }
 
 pub EndsMessage-then : {a b c : Reader} {xs ys zs : List ℕ} → Advances a xs b ys → EndsMessage b ys c zs → EndsMessage a xs c zs
@@ -38,8 +38,8 @@ EndsMessage-then {a} {b} {c} {xs} {ys} {zs} p q = record {
   header = q.header;
   none = q.none;
   further = λ place e.
-    let there : c.place ≡ capped (place + length p.taken + (length q.taken + 1)) = q.further (place + length p.taken) (p.further place e) in
-    there ∙ ap capped (omega (arith, length-append p.taken q.taken));
+      let there : c.place ≡ capped (place + length p.taken + (length q.taken + 1)) = q.further (place + length p.taken) (p.further place e) in
+      there ∙ ap capped (omega (arith, length-append p.taken q.taken));
 }
 
 pub StopsBefore-then : {a b c : Reader} {xs ys zs : List ℕ} {why : Stop} → Advances a xs b ys → StopsBefore b ys c zs why → StopsBefore a xs c zs why
@@ -103,3 +103,41 @@ Advances-octets a b n xs within some header left message moved =
       reads = run-octets (take n xs) a.header a.left b.left a.message (omega arith) ∙ cc;
       further = subst (IsFurther a.place b.place) (sym len) (IsFurther-moved a.place b.place n moved);
     }
+
+-- bytes behind those that are read
+pub Advances-more : {a b : Reader} {xs ys : List ℕ} (zs : List ℕ) → Advances a xs b ys → Advances a (xs ++ zs) b (ys ++ zs)
+Advances-more {a} {b} {xs} {ys} zs p = record {
+  taken = p.taken;
+  bytes_are = ap (λ l. l ++ zs) p.bytes_are ∙ append_assoc p.taken ys zs;
+  reads = p.reads;
+  further = p.further;
+}
+
+EndsMessage-more : {a b : Reader} {xs ys : List ℕ} (zs : List ℕ) → EndsMessage a xs b ys → EndsMessage a (xs ++ zs) b (ys ++ zs)
+EndsMessage-more {a} {b} {xs} {ys} zs p = record {
+  taken = p.taken;
+  byte = p.byte;
+  at = p.at;
+  bytes_are = ap (λ l. l ++ zs) p.bytes_are ∙ append_assoc p.taken (p.byte ∷ ys) zs;
+  reads = p.reads;
+  stops = p.stops;
+  message = p.message;
+  header = p.header;
+  none = p.none;
+  further = p.further;
+}
+
+StopsBefore-more : {a b : Reader} {xs ys : List ℕ} {why : Stop} (zs : List ℕ) → StopsBefore a xs b ys why → StopsBefore a (xs ++ zs) b (ys ++ zs) why
+StopsBefore-more zs p = record { advances = Advances-more zs p.advances; byte = p.byte; rest = p.rest ++ zs; left_is = ap (λ l. l ++ zs) p.left_is; stops = p.stops }
+
+pub Turned-more : (stop : Option Stop) (a b : Reader) (xs ys zs : List ℕ) → Turned stop a xs b ys → Turned stop a (xs ++ zs) b (ys ++ zs)
+Turned-more None a b xs ys zs p = Advances-more zs p
+Turned-more (Some End) a b xs ys zs p = EndsMessage-more zs p
+Turned-more (Some Bad) a b xs ys zs p = StopsBefore-more zs p
+Turned-more (Some TooBig) a b xs ys zs p = StopsBefore-more zs p
+
+-- one source to its end, and then another
+pub Turned-both : (stop : Option Stop) (a b c : Reader) (xs left ys zs : List ℕ) → Advances a xs b left → left ≡ [] → Turned stop b ys c zs → Turned stop a (xs ++ ys) c (left ++ zs)
+Turned-both stop a b c xs left ys zs p none q =
+    let first : Advances a (xs ++ ys) b ys = subst (λ l. Advances a (xs ++ ys) b (l ++ ys)) none (Advances-more ys p) in
+    subst (λ l. Turned stop a (xs ++ ys) c (l ++ zs)) (sym none) (Turned-then stop c zs first q)

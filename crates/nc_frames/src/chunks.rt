@@ -1,9 +1,35 @@
 //! Messages in chunks (RFC 6242 4.2).
-ghost use Rattle.std.specs.Prelude.{◌≡◌, ◌+◌, ◌-◌, ◌^◌, ◌<◌, ◌≤◌, ◌∷◌, min, drop, List, ℕ, [], length, IsNone, IfOk, OnOk, OnErr};
+ghost use Rattle.std.specs.Prelude.{◌≡◌, ◌++◌, ◌+◌, ◌-◌, ◌^◌, ◌<◌, ◌≤◌, ◌∷◌, min, drop, List, ℕ, [], length, IsNone, IfOk, OnOk, OnErr};
+ghost use Rattle.nc_frames.specs.declared.header.Header.TheVariants.{Start};
+ghost use Rattle.nc_frames.specs.Framing.{Chunks};
+ghost use Rattle.nc_frames.specs.Kept.{Chunking, IsReadTo, Replies, reading_of};
+ghost use Rattle.nc_frames.specs.Turns.{Advances, Turned};
 
+use crate::FrameFault;
 use crate::header::{Header, Step, Stop};
 use crate::source::Source;
 use nc_names::{Bytes, Memory};
+use std::alloc::Global;
+use std::mem::replace;
+
+/// The next message, out of what is read of it and what waits.
+pub(crate) fn chunked_message(
+    alloc: Global,
+    reader: &mut Reader,
+    earlier: &mut Source,
+    waiting: &mut Source,
+) -> Result<Option<Bytes>, FrameFault>
+    ensures { (first : ℕ) (bytes : List ℕ)
+        → IsReadTo reader.old.place (reading_of reader.old) (earlier.old ++ waiting.old) first bytes
+        → Replies result (Chunking reader.new.place (reading_of reader.new) (earlier.new ++ waiting.new)) Chunks first bytes }
+{
+    match reader.read_both(earlier, waiting)? {
+        None => Ok(None),
+        Some(Stop::End) => Ok(Some(replace(&mut reader.message, Bytes::new(alloc)))),
+        Some(Stop::Bad) => Err(FrameFault::BadFrame { at: reader.place }),
+        Some(Stop::TooBig) => Err(FrameFault::TooBig { at: reader.place }),
+    }
+}
 
 /// How far the reading of a message has come.
 #[derive(Debug, Drop)]
@@ -20,9 +46,6 @@ pub(crate) struct Reader {
 }
 
 impl Reader {
-    ghost use Rattle.nc_frames.specs.declared.header.Header.TheVariants.{Start};
-    ghost use Rattle.nc_frames.specs.Turns.{Advances, Turned};
-
     /// Nothing of the stream's first message.
     pub(crate) fn new(message: Bytes) -> Reader
         ensures { result ≡ record { message = message; place = 0; header = Start; left = 0 } }
@@ -35,9 +58,25 @@ impl Reader {
         }
     }
 
+    /// Reads on in `earlier`, and then in `waiting`.
+    fn read_both(
+        &mut self,
+        earlier: &mut Source,
+        waiting: &mut Source,
+    ) -> Result<Option<Stop>, Memory>
+        ensures read { IfOk result (λ stop. Turned stop self.old (earlier.old ++ waiting.old) self.new (earlier.new ++ waiting.new)) }
+        ensures all { IfOk result (λ stop. IsNone stop → earlier.new ++ waiting.new ≡ []) }
+        ensures err { OnErr result (Advances self.old (earlier.old ++ waiting.old) self.new (earlier.new ++ waiting.new)) }
+    {
+        if let Some(stop) = self.read(earlier)? {
+            return Ok(Some(stop));
+        }
+        self.read(waiting)
+    }
+
     /// Reads on until a byte leads nowhere in the message, and says why it does not; `None` where no
     /// byte is left. A byte that ends the message is taken too.
-    pub(crate) fn read(&mut self, source: &mut Source) -> Result<Option<Stop>, Memory>
+    fn read(&mut self, source: &mut Source) -> Result<Option<Stop>, Memory>
         ensures read { IfOk result (λ stop. Turned stop self.old source.old self.new source.new) }
         ensures all { IfOk result (λ stop. IsNone stop → source.new ≡ []) }
         ensures err { OnErr result (Advances self.old source.old self.new source.new) }
@@ -111,7 +150,7 @@ impl Reader {
     }
 
     /// Leaves so many bytes of the source behind.
-    pub(crate) fn pass(&mut self, source: &mut Source, count: usize)
+    fn pass(&mut self, source: &mut Source, count: usize)
         requires { count ≤ length source.old }
         ensures source { source.new ≡ drop count source.old }
         ensures place { self.new ≡ record self.old { place = min (self.old.place + count) (2 ^ 64 - 1) } }

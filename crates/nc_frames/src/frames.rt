@@ -1,12 +1,13 @@
 //! The messages of a stream that comes in pieces.
+ghost use Rattle.std.specs.Prelude.{◌≡◌, ◌≢◌, ℕ, List, [], IfErr, OnOk, OnErr};
 
-use crate::chunks::Reader;
-use crate::header::{Header, Stop};
-use crate::marks::{MARKED_LIMIT, read_to_mark};
+use crate::FrameFault;
+use crate::chunks::{Reader, chunked_message};
+use crate::marks::marked_message;
 use crate::source::Source;
-use crate::{FrameFault, MESSAGE_LIMIT};
 use nc_names::{Bytes, Memory};
 use std::alloc::Global;
+use std::marker::Model;
 use std::mem::replace;
 
 /// How the messages of a stream are framed, or the fault that it has shown.
@@ -32,10 +33,27 @@ pub struct Frames {
     waiting: Source,
 }
 
+impl Model for Frames {
+    ghost use Rattle.nc_frames.specs.Kept.{Kept, kept_of, IsSound};
+
+    ghost Value = { Kept };
+
+    ghost view = { λ f. kept_of f.state f.reader f.earlier f.waiting };
+
+    ghost invariant = { λ f. IsSound f.state f.reader };
+}
+
 impl Frames {
+    ghost use Rattle.nc_frames.specs.declared.fault.FrameFault.{FrameFault};
+    ghost use Rattle.nc_frames.specs.declared.fault.FrameFault.TheVariants.{Memory as FrameMemory};
+    ghost use Rattle.nc_frames.specs.Framing.{Mode};
+    ghost use Rattle.nc_frames.specs.Kept.{Marking, Failed, Unread, Replies, IsMarking, IsChunking, fed, switched};
+
     /// A stream of messages with the end-of-message mark, of which no byte has come. It takes no
     /// memory.
-    pub fn new(alloc: Global) -> Frames {
+    pub fn new(alloc: Global) -> Frames
+        ensures { result ≡ Marking 0 [] }
+    {
         Frames {
             alloc,
             state: State::Marked,
@@ -45,16 +63,25 @@ impl Frames {
         }
     }
 
-    /// Takes the next piece of the stream.
-    pub fn feed(&mut self, piece: &[u8]) -> Result<(), Memory> {
+    /// Takes the next piece of the stream. Behind a fault it is let go.
+    pub fn feed(&mut self, piece: &[u8]) -> Result<(), Memory>
+        ensures ok { OnOk result (self.new ≡ fed self.old piece.now) }
+        ensures err { OnErr result (self.new ≡ self.old) }
+    {
         match self.state {
             State::Faulty(_) => Ok(()),
             _ => self.waiting.push_slice(piece),
         }
     }
 
-    /// The next whole message, or `None` where it is not whole yet.
-    pub fn next(&mut self) -> Result<Option<Bytes>, FrameFault> {
+    /// The next whole message, or `None` where it is not whole yet. A fault is answered by every later
+    /// call; `Memory` loses nothing.
+    pub fn next(&mut self) -> Result<Option<Bytes>, FrameFault>
+        ensures replies { (mode : Mode) (first : ℕ) (bytes : List ℕ) → Unread self.old mode first bytes
+            → Replies result self.new mode first bytes }
+        ensures fault { IfErr result (λ fault. fault ≢ FrameMemory → self.new ≡ Failed fault) }
+        ensures standing { (fault : FrameFault) → self.old ≡ Failed fault → (result ≡ Err fault) × (self.new ≡ self.old) }
+    {
         match self.state {
             State::Marked => self.next_marked(),
             State::Chunked => self.next_chunked(),
@@ -64,57 +91,50 @@ impl Frames {
 
     /// Reads all bytes of which no message was given yet, and all that follow, as chunks. It takes no
     /// memory.
-    pub fn switch(&mut self) {
-        if self.state == State::Marked {
+    pub fn switch(&mut self)
+        ensures { self.new ≡ switched self.old }
+    {
+        if let State::Marked = self.state {
             let read = replace(&mut self.reader.message, Bytes::new(self.alloc));
             self.earlier = Source::from_bytes(read);
             self.state = State::Chunked;
         }
     }
 
-    fn next_marked(&mut self) -> Result<Option<Bytes>, FrameFault> {
-        if read_to_mark(&mut self.reader.message, &mut self.waiting)? {
-            return Ok(Some(self.give_marked()));
-        }
-        if self.reader.message.len() == MARKED_LIMIT {
-            let at = self.reader.place.saturating_add(MESSAGE_LIMIT as u64);
-            return Err(self.fail(FrameFault::TooBig { at }));
-        }
-        Ok(None)
-    }
-
-    fn give_marked(&mut self) -> Bytes {
-        let mut message = replace(&mut self.reader.message, Bytes::new(self.alloc));
-        self.reader.place = self.reader.place.saturating_add(message.len() as u64);
-        message.truncate(message.len() - 6);
-        message
-    }
-
-    fn next_chunked(&mut self) -> Result<Option<Bytes>, FrameFault> {
-        let mut stop = self.reader.read(&mut self.earlier)?;
-        if stop.is_none() {
-            stop = self.reader.read(&mut self.waiting)?;
-        }
-        match stop {
-            None => Ok(None),
-            Some(Stop::End) => Ok(Some(replace(&mut self.reader.message, Bytes::new(self.alloc)))),
-            Some(Stop::Bad) => {
-                let at = self.reader.place;
-                Err(self.fail(FrameFault::BadFrame { at }))
-            }
-            Some(Stop::TooBig) => {
-                let at = self.reader.place;
-                Err(self.fail(FrameFault::TooBig { at }))
+    fn next_marked(&mut self) -> Result<Option<Bytes>, FrameFault>
+        requires { IsMarking self.old }
+        ensures replies { (mode : Mode) (first : ℕ) (bytes : List ℕ) → Unread self.old mode first bytes
+            → Replies result self.new mode first bytes }
+        ensures fault { IfErr result (λ fault. fault ≢ FrameMemory → self.new ≡ Failed fault) }
+    {
+        match marked_message(self.alloc, &mut self.reader, &mut self.waiting) {
+            Ok(found) => Ok(found),
+            Err(FrameFault::Memory) => Err(FrameFault::Memory),
+            Err(fault) => {
+                self.state = State::Faulty(fault);
+                Err(fault)
             }
         }
     }
 
-    /// Keeps the fault, and nothing else.
-    fn fail(&mut self, fault: FrameFault) -> FrameFault {
-        self.state = State::Faulty(fault);
-        self.reader = Reader::new(Bytes::new(self.alloc));
-        self.earlier = Source::new(self.alloc);
-        self.waiting = Source::new(self.alloc);
-        fault
+    fn next_chunked(&mut self) -> Result<Option<Bytes>, FrameFault>
+        requires { IsChunking self.old }
+        ensures replies { (mode : Mode) (first : ℕ) (bytes : List ℕ) → Unread self.old mode first bytes
+            → Replies result self.new mode first bytes }
+        ensures fault { IfErr result (λ fault. fault ≢ FrameMemory → self.new ≡ Failed fault) }
+    {
+        match chunked_message(
+            self.alloc,
+            &mut self.reader,
+            &mut self.earlier,
+            &mut self.waiting,
+        ) {
+            Ok(found) => Ok(found),
+            Err(FrameFault::Memory) => Err(FrameFault::Memory),
+            Err(fault) => {
+                self.state = State::Faulty(fault);
+                Err(fault)
+            }
+        }
     }
 }

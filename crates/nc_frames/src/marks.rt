@@ -1,18 +1,63 @@
 //! Messages with the end-of-message mark behind them (RFC 6242 4.3).
-ghost use Rattle.std.specs.Prelude.{◌≡◌, ◌≢◌, ◌↔◌, ℕ, List, ◌+◌, ◌<◌, ◌≤◌, false, [], ◌++◌, length, take, drop, slice_index, IsTrue, IfOk, OnOk, OnErr};
-ghost use Rattle.nc_frames.specs.Framing.{mark, HasNoMark, IsMarked};
-ghost use Rattle.nc_frames.specs.Kept.{EndsInMark, IsStretch};
+ghost use Rattle.std.specs.Prelude.{◌≡◌, ◌≢◌, ◌↔◌, ℕ, List, ◌+◌, ◌<◌, ◌≤◌, false, [], ◌++◌, length, take, drop, slice_index, IsTrue, IfOk, OnOk, OnErr, ◌^◌, ◌-◌, min};
+ghost use Rattle.nc_frames.specs.Framing.{Marks, mark, HasNoMark, IsMarked, with_mark};
+ghost use Rattle.nc_frames.specs.Kept.{EndsInMark, IsStretch, Marking, Replies, UnlessFault, capped};
 
-use crate::MESSAGE_LIMIT;
-use crate::source::{Source, tail};
+use crate::chunks::Reader;
+use crate::source::Source;
+use crate::{FrameFault, MESSAGE_LIMIT};
 use memchr::memchr;
 use nc_names::{Bytes, Memory};
+use std::alloc::Global;
+use std::mem::replace;
 
 /// The end-of-message mark.
 pub(crate) const MARK: &[u8] = b"]]>]]>";
 
 /// The most bytes that a message and its mark may have together.
 pub(crate) const MARKED_LIMIT: usize = MESSAGE_LIMIT + 6;
+
+/// The next message, out of what has come of it and what waits.
+pub(crate) fn marked_message(
+    alloc: Global,
+    reader: &mut Reader,
+    waiting: &mut Source,
+) -> Result<Option<Bytes>, FrameFault>
+    requires unmarked { HasNoMark reader.old.message }
+    requires within { length reader.old.message < 4194310 }
+    ensures replies { (first : ℕ) → reader.old.place ≡ capped first
+        → Replies result (Marking reader.new.place (reader.new.message ++ waiting.new)) Marks first (reader.old.message ++ waiting.old) }
+    ensures unmarked { UnlessFault result (HasNoMark reader.new.message) }
+    ensures within { UnlessFault result (length reader.new.message < 4194310) }
+    ensures header { reader.new.header ≡ reader.old.header }
+    ensures left { reader.new.left ≡ reader.old.left }
+{
+    if read_to_mark(&mut reader.message, waiting)? {
+        return Ok(Some(give_marked(alloc, reader)));
+    }
+    if reader.message.len() == MARKED_LIMIT {
+        let at = reader.place.saturating_add(MESSAGE_LIMIT as u64);
+        return Err(FrameFault::TooBig { at });
+    }
+    Ok(None)
+}
+
+/// Gives the message that has come, without its mark.
+fn give_marked(alloc: Global, reader: &mut Reader) -> Bytes
+    requires { EndsInMark reader.old.message }
+    ensures message { with_mark result ≡ reader.old.message }
+    ensures marked { IsMarked result }
+    ensures place { reader.new.place ≡ min (reader.old.place + length reader.old.message) (2 ^ 64 - 1) }
+    ensures none { reader.new.message ≡ [] }
+    ensures header { reader.new.header ≡ reader.old.header }
+    ensures left { reader.new.left ≡ reader.old.left }
+{
+    let mut message = replace(&mut reader.message, Bytes::new(alloc));
+    let len = message.len();
+    reader.place = reader.place.saturating_add(len as u64);
+    message.truncate(len - MARK.len());
+    message
+}
 
 /// Moves bytes from `waiting` to the end of `message` until it ends in its first mark, and says
 /// whether it does. Else nothing waits any more, or `message` has `MARKED_LIMIT` bytes.

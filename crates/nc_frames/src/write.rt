@@ -37,26 +37,28 @@ fn push_marked(body: &[u8], out: &mut Bytes) -> Result<(), Memory>
 /// `Memory` changes nothing.
 pub fn write_chunks(body: &[u8], out: &mut Bytes) -> Result<(), Memory>
     requires { 0 < length body.now }
-    ensures ok { OnOk result (AppendsChunks out.old out.new body.now) }
+    ensures ok { OnOk result (AppendsChunks 65536 out.old out.new body.now) }
     ensures err { OnErr result (out.new ≡ out.old) }
 {
     let len = out.len();
-    let written = push_chunks(body, out);
+    let written = push_chunks(body, CHUNK, out);
     if written.is_err() {
         out.truncate(len);
     }
     written
 }
 
-fn push_chunks(body: &[u8], out: &mut Bytes) -> Result<(), Memory>
-    requires { 0 < length body.now }
-    ensures ok { OnOk result (AppendsChunks out.old out.new body.now) }
+/// Appends a message in chunks of so many octets and a last one with the rest.
+fn push_chunks(body: &[u8], size: usize, out: &mut Bytes) -> Result<(), Memory>
+    requires some { 0 < length body.now }
+    requires size { 0 < size }
+    ensures ok { OnOk result (AppendsChunks size out.old out.new body.now) }
     ensures err { OnErr result (AppendsPart out.old out.new) }
 {
     let mut rest = body;
-    while rest.len() > CHUNK {
-        push_chunk(&rest[..CHUNK], out)?;
-        rest = tail(rest, CHUNK);
+    while rest.len() > size {
+        push_chunk(&rest[..size], out)?;
+        rest = tail(rest, size);
     }
     push_chunk(rest, out)?;
     out.push_slice(b"\n##\n")

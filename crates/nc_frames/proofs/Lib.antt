@@ -6,3 +6,6 @@ pub mod ChunkReads
 pub mod StreamLemmas
 pub mod ReplyLemmas
 pub mod WriteLemmas
+pub mod RunLemmas
+pub mod ReadingLemmas
+pub mod AnswerLemmas

@@ -3,3 +3,4 @@ pub mod Steps
 pub mod Kept
 pub mod Writing
 pub mod Turns
+pub mod Runs

@@ -9,6 +9,7 @@ mod chunks;
 mod fault;
 mod frames;
 mod header;
+mod laws;
 mod marks;
 mod source;
 #[cfg(test)]
@@ -17,6 +18,9 @@ mod write;
 
 pub use fault::FrameFault;
 pub use frames::Frames;
+pub use laws::{
+    gives_all_that_is_fed, gives_the_stream, has_one_answer, has_one_reading, switch_reads_again, writes_one_message,
+};
 pub use write::{write_chunks, write_eom};
 
 /// The most bytes that a message may have.

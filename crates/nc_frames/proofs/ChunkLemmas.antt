@@ -4,17 +4,16 @@ use Rattle.std.specs.Prelude.{if◌then◌else◌, ◌&&◌}
 use Rattle.std.specs.Option.{option_and_then}
 use Rattle.std.specs.List.{flat_map, concat, AllByRecursion}
 use Rattle.std.specs.Fmt.{decimal}
-use Rattle.std.proofs.lemmas.List.{append_assoc, append-nil, length-append, length_push, nil_from_length}
+use Rattle.std.proofs.lemmas.List.{append_assoc, append-nil, length_push, nil_from_length}
 use Rattle.std.proofs.lemmas.Fmt.{decimal_digit, decimal_step}
 use Rattle.std.proofs.lemmas.Bool.Decides.{nat_tests}
 use Rattle.nc_frames.specs.declared.header.Header.{Header}
 use Rattle.nc_frames.specs.declared.header.Header.TheVariants.{Start, Line, Hash, Size, Close}
 use Rattle.nc_frames.specs.declared.header.Step.{Step}
 use Rattle.nc_frames.specs.declared.header.Step.TheVariants.{On, Octets, Stop as Stops}
-use Rattle.nc_frames.specs.declared.header.Stop.{Stop}
 use Rattle.nc_frames.specs.declared.header.Stop.TheVariants.{End, Bad, TooBig}
-use Rattle.nc_frames.specs.Framing.{chunk, end_of_chunks, in_chunks, IsSize, IsChunk, AreChunks, IsPartialChunks, IsInChunks, AnnouncesTooMuch}
-use Rattle.nc_frames.specs.Steps.{Reading, run, step, step_at, stepped, start, header_step, hash_step, size_step, StopsAt}
+use Rattle.nc_frames.specs.Framing.{chunk, IsSize, IsChunk, IsInChunks, AnnouncesTooMuch}
+use Rattle.nc_frames.specs.Steps.{Reading, run, step, step_at, stepped, start, header_step, StopsAt}
 
 pub cond_is : {A : Type 0} (t : Bool) (x y z : A) → cond t x y ≡ z → ((t ≡ true) × (x ≡ z)) ⊎ ((t ≡ false) × (y ≡ z))
 cond_is true x y z e = inl (refl, e)

@@ -1,24 +1,21 @@
 -- What is in chunks is read byte by byte so.
-use Rattle.std.proofs.Common.{◌≡◌, ◌≢◌, ◌⊎◌, inl, inr, ℕ, zero, suc, ◌+◌, ◌-◌, ◌*◌, ◌/◌, ◌%◌, ◌<◌, ◌≤◌, Bool, true, false, cond, nat_lt, nat_le, ◌==◌, List, [], ◌∷◌, ◌++◌, length, Option, Some, None, refl, ap, sym, ◌∙◌, subst, arith}
-use Rattle.std.specs.Prelude.{replicate}
+use Rattle.std.proofs.Common.{◌≡◌, ◌≢◌, inl, inr, ℕ, ◌+◌, ◌-◌, ◌*◌, ◌/◌, ◌%◌, ◌<◌, ◌≤◌, true, false, nat_lt, nat_le, ◌==◌, List, [], ◌∷◌, ◌++◌, length, Some, None, refl, ap, sym, ◌∙◌, subst, arith}
 use Rattle.std.specs.Option.{option_and_then}
 use Rattle.std.specs.List.{flat_map, concat, AllByRecursion}
 use Rattle.std.specs.Fmt.{decimal}
-use Rattle.std.proofs.lemmas.List.{append_assoc, append-nil, length-append, length-replicate}
-use Rattle.std.proofs.lemmas.List.Concat.{flat_map-append}
-use Rattle.std.proofs.lemmas.Fmt.{decimal_digit, decimal_by_steps}
+use Rattle.std.proofs.lemmas.List.{append_assoc, append-nil, length-append}
+use Rattle.std.proofs.lemmas.Fmt.{decimal_by_steps}
 use Rattle.std.proofs.lemmas.Bool.{cases_lt}
 use Rattle.std.proofs.lemmas.Bool.Decides.{nat_tests}
 use Rattle.nc_frames.specs.declared.header.Header.{Header}
-use Rattle.nc_frames.specs.declared.header.Header.TheVariants.{Start, Line, Hash, Size, Close}
-use Rattle.nc_frames.specs.declared.header.Step.{Step}
+use Rattle.nc_frames.specs.declared.header.Header.TheVariants.{Start, Hash, Size, Close}
 use Rattle.nc_frames.specs.declared.header.Step.TheVariants.{On, Octets, Stop as Stops}
 use Rattle.nc_frames.specs.declared.header.Stop.{Stop}
 use Rattle.nc_frames.specs.declared.header.Stop.TheVariants.{End, Bad, TooBig}
-use Rattle.nc_frames.specs.Framing.{Chunks, chunk, end_of_chunks, in_chunks, IsSize, IsChunk, AreChunks, BeginsChunks, IsPartialChunks, IsInChunks, AnnouncesTooMuch, IsUnfinished, IsBad}
-use Rattle.nc_frames.specs.Steps.{Reading, run, step, step_at, stepped, start, start_of, header_step, hash_step, size_step, StopsAt}
-use Rattle.nc_frames.proofs.StepLemmas.{run-append, run-append-some, run-one, run-octets, run-header}
-use Rattle.nc_frames.proofs.ChunkLemmas.{text_of, IsGoodHeader, IsGood, Came, came, good, some_chunks, some_from_and}
+use Rattle.nc_frames.specs.Framing.{chunk, end_of_chunks, IsSize, IsChunk}
+use Rattle.nc_frames.specs.Steps.{Reading, run, step, stepped, start_of, hash_step, size_step, StopsAt}
+use Rattle.nc_frames.proofs.StepLemmas.{run-append-some, run-octets, run-header}
+use Rattle.nc_frames.proofs.ChunkLemmas.{some_from_and}
 
 -- the digits of a size
 hash_digit : (n o : ℕ) → 0 < n → n < 10 → hash_step o (48 + n) ≡ On (Size n)

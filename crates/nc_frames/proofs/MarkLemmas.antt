@@ -1,7 +1,7 @@
 -- Where the mark stands.
 use Rattle.std.proofs.Common.{◌≡◌, ◌≢◌, ◌⊎◌, inl, inr, ℕ, ◌+◌, ◌<◌, suc, List, [], ◌∷◌, ◌++◌, length, get_or, take, ◌-◌, ◌≤◌, refl, ap, sym, ◌∙◌, subst, arith}
 use Rattle.std.proofs.lemmas.List.{append_assoc, append-nil, same_from_push, take_more, length-take-le, get_or-take}
-use Rattle.nc_frames.specs.Framing.{mark, HasNoMark, IsMarked, with_mark}
+use Rattle.nc_frames.specs.Framing.{mark, HasNoMark}
 use Rattle.nc_frames.specs.Kept.{EndsInMark, IsStretch}
 
 -- a list has nothing, or a last element

@@ -1,12 +1,12 @@
 -- A stream has one reading.
-use Rattle.std.proofs.Common.{◌≡◌, ◌≢◌, ◌⊎◌, inl, inr, ℕ, zero, suc, ◌+◌, ◌-◌, ◌/◌, ◌%◌, ◌^◌, ◌<◌, ◌≤◌, List, [], ◌∷◌, ◌++◌, length, map, refl, ap, sym, ◌∙◌, subst, arith}
+use Rattle.std.proofs.Common.{◌≡◌, ◌≢◌, ◌⊎◌, inl, inr, ℕ, ◌+◌, ◌%◌, ◌^◌, ◌<◌, ◌≤◌, List, [], ◌∷◌, ◌++◌, length, map, refl, ap, sym, ◌∙◌, arith}
 use Rattle.std.specs.List.{flat_map, concat, AllByRecursion}
 use Rattle.std.specs.Fmt.{decimal}
 use Rattle.std.specs.Str.Parse.{digits_value}
 use Rattle.std.proofs.lemmas.List.{append_assoc, append-nil, length-append, append_cancel_left, append_cancel_right}
 use Rattle.std.proofs.lemmas.Fmt.{decimal_by_steps, decimal_is_IsNumeral}
-use Rattle.nc_frames.specs.Framing.{Mode, Marks, Chunks, mark, HasNoMark, IsMarked, with_mark, EndOfMessage, chunk, end_of_chunks, in_chunks, IsSize, IsChunk, AreChunks, IsPartialChunks, BeginsChunks, Chunked}
-use Rattle.nc_frames.specs.Runs.{IsStream, HasOneReading}
+use Rattle.nc_frames.specs.Framing.{Marks, Chunks, mark, HasNoMark, IsMarked, with_mark, chunk, end_of_chunks, in_chunks, IsChunk, AreChunks, IsPartialChunks}
+use Rattle.nc_frames.specs.Runs.{HasOneReading}
 
 -- of two beginnings of one list one begins the other
 abbrev pub IsLonger : (a b x y : List ℕ) → Type 0
@@ -19,7 +19,7 @@ splits (p ∷ a) (q ∷ b) x y e =
     let head : p ≡ q = cc in
     let tails : a ++ x ≡ b ++ y = cc in
     elim (splits a b x y tails) [
-      inl w ↦ inl (w.0, (let f : q ∷ b ≡ p ∷ (a ++ w.0) = (let g = w.1 in cc) in f), w.2)
+      | inl w ↦ inl (w.0, (let f : q ∷ b ≡ p ∷ (a ++ w.0) = (let g = w.1 in cc) in f), w.2)
       | inr w ↦ inr (w.0, (let f : p ∷ a ≡ q ∷ (b ++ w.0) = (let g = w.1 in cc) in f), w.2)
     ]
 
@@ -31,8 +31,8 @@ same_marked m n z marked e =
 
 pub one_marked : (m n x y : List ℕ) → IsMarked m → IsMarked n → with_mark m ++ x ≡ with_mark n ++ y → (m ≡ n) × (x ≡ y)
 one_marked m n x y p q e = elim (splits (with_mark m) (with_mark n) x y e) [
-    inl w ↦ (let s = same_marked m n w.0 q w.1 in (s.0, w.2 ∙ ap (λ l. l ++ y) s.1))
-    | inr w ↦ (let s = same_marked n m w.0 p w.1 in (sym s.0, sym (w.2 ∙ ap (λ l. l ++ x) s.1)))
+  | inl w ↦ (let s = same_marked m n w.0 q w.1 in (s.0, w.2 ∙ ap (λ l. l ++ y) s.1))
+  | inr w ↦ (let s = same_marked n m w.0 p w.1 in (sym s.0, sym (w.2 ∙ ap (λ l. l ++ x) s.1)))
 ]
 
 pub marked_stream_one : (ms ns : List (List ℕ)) (x y : List ℕ) → AllByRecursion IsMarked ms → AllByRecursion IsMarked ns → HasNoMark x → HasNoMark y → flat_map with_mark ms ++ x ≡ flat_map with_mark ns ++ y → (ms ≡ ns) × (x ≡ y)

@@ -1,11 +1,10 @@
 -- What is answered, out of what a reader has done.
-use Rattle.std.proofs.Common.{◌≡◌, ℕ, ◌+◌, List, [], ◌∷◌, ◌++◌, length, Option, Some, None, refl, ap, sym, ◌∙◌, subst, arith}
+use Rattle.std.proofs.Common.{◌≡◌, ℕ, ◌+◌, List, [], ◌∷◌, ◌++◌, length, Some, refl, ap, sym, ◌∙◌, subst, arith}
 use Rattle.std.proofs.lemmas.List.{append_assoc, append-nil, length-append}
 use Rattle.nc_frames.specs.declared.chunks.Reader.{Reader}
-use Rattle.nc_frames.specs.declared.header.Stop.{Stop}
-use Rattle.nc_frames.specs.declared.header.Stop.TheVariants.{End, Bad, TooBig}
+use Rattle.nc_frames.specs.declared.header.Stop.TheVariants.{Bad, TooBig}
 use Rattle.nc_frames.specs.Framing.{Chunks, AnnouncesTooMuch, IsUnfinished, IsBad}
-use Rattle.nc_frames.specs.Steps.{Reading, run, start}
+use Rattle.nc_frames.specs.Steps.{run, start}
 use Rattle.nc_frames.specs.Kept.{Chunking, Gives, IsReadTo, capped, reading_of}
 use Rattle.nc_frames.specs.Turns.{Advances, EndsMessage, StopsBefore}
 use Rattle.nc_frames.proofs.StepLemmas.{run-append-some}

@@ -1,13 +1,14 @@
 -- Whole runs.
-use Rattle.std.proofs.Common.{◌≡◌, ◌≢◌, ℕ, ◌+◌, List, [], ◌∷◌, ◌++◌, length, Option, Some, None, Result, Ok, Err, refl, ap, sym, ◌∙◌, subst, arith}
+use Rattle.std.proofs.Common.{◌≡◌, ◌≢◌, ℕ, ◌+◌, List, [], ◌∷◌, ◌++◌, length, Some, None, Ok, Err, refl, ap, sym, ◌∙◌, subst, arith}
 use Rattle.std.specs.List.{flat_map, concat, AllByRecursion}
 use Rattle.std.proofs.lemmas.List.{append_assoc, append-nil, length-append}
 use Rattle.nc_frames.specs.declared.fault.FrameFault.{FrameFault}
 use Rattle.nc_frames.specs.declared.fault.FrameFault.TheVariants.{BadFrame, TooBig, Memory}
-use Rattle.nc_frames.specs.Framing.{Mode, Marks, Chunks, HasNoMark, IsMarked, with_mark, EndOfMessage, Chunked, IsFramed, IsPartial, IsPartialChunks, IsTooBig, IsBad, in_chunks, AreChunks}
-use Rattle.nc_frames.specs.Steps.{Reading}
+use Rattle.nc_frames.specs.Framing.{Mode, Marks, Chunks, HasNoMark, IsMarked, with_mark, EndOfMessage, Chunked, IsPartial, IsPartialChunks, IsTooBig, IsBad, in_chunks, IsChunk, mark}
+use Rattle.nc_frames.specs.Steps.{run, start}
+use Rattle.nc_frames.specs.Writing.{IsCut}
 use Rattle.nc_frames.specs.Kept.{Kept, Marking, Chunking, Failed, Unread, Gives, IsReadTo, IsFaultOf, capped, fed}
-use Rattle.nc_frames.specs.Runs.{Event, Fed, Asked, Runs, fed_by, given_by, AreFramed, IsGiven, IsStream}
+use Rattle.nc_frames.specs.Runs.{Event, Fed, Asked, Runs, fed_by, given_by, AreFramed, IsGiven, IsStream, Answers, GivesTheStream, GivesTheFault}
 
 -- a fault stays where more bytes come
 IsTooBig-more : (mode : Mode) (bytes more : List ℕ) (place : ℕ) → IsTooBig mode bytes place → IsTooBig mode (bytes ++ more) place
@@ -108,10 +109,10 @@ marked_stream (m ∷ ms) framed rest f none =
     let later = marked_stream ms f.1 rest f.4 none in
     record {
       whole =
-        ap (λ l. l ++ rest) (f.2 ∙ ap (λ l. l ++ f.1) f.3.0)
-        ∙ append_assoc (with_mark m) f.1 rest
-        ∙ ap (λ l. with_mark m ++ l) later.whole
-        ∙ sym (append_assoc (with_mark m) (flat_map with_mark ms) rest);
+          ap (λ l. l ++ rest) (f.2 ∙ ap (λ l. l ++ f.1) f.3.0)
+          ∙ append_assoc (with_mark m) f.1 rest
+          ∙ ap (λ l. with_mark m ++ l) later.whole
+          ∙ sym (append_assoc (with_mark m) (flat_map with_mark ms) rest);
       each = (f.3.1, later.each);
       partial = none;
     }
@@ -125,13 +126,73 @@ chunked_stream (m ∷ ms) framed rest f part =
       each = (f.3.each, later.each);
       messages_are = ap (λ x. x ∷ ms) f.3.message_is ∙ ap (λ l. concat f.3.chunks ∷ l) later.messages_are;
       whole =
-        ap (λ l. l ++ rest) (f.2 ∙ ap (λ l. l ++ f.1) f.3.bytes_are)
-        ∙ append_assoc (in_chunks f.3.chunks) f.1 rest
-        ∙ ap (λ l. in_chunks f.3.chunks ++ l) later.whole
-        ∙ sym (append_assoc (in_chunks f.3.chunks) (flat_map in_chunks later.chunks) rest);
+          ap (λ l. l ++ rest) (f.2 ∙ ap (λ l. l ++ f.1) f.3.bytes_are)
+          ∙ append_assoc (in_chunks f.3.chunks) f.1 rest
+          ∙ ap (λ l. in_chunks f.3.chunks ++ l) later.whole
+          ∙ sym (append_assoc (in_chunks f.3.chunks) (flat_map in_chunks later.chunks) rest);
       partial = part;
     }
 
-pub stream_given : (messages : List (List ℕ)) (mode : Mode) (framed rest : List ℕ) → AreFramed mode framed messages → IsPartial mode rest → IsStream mode (framed ++ rest) messages rest
+stream_given : (messages : List (List ℕ)) (mode : Mode) (framed rest : List ℕ) → AreFramed mode framed messages → IsPartial mode rest → IsStream mode (framed ++ rest) messages rest
 stream_given messages Marks framed rest f part = marked_stream messages framed rest f part
 stream_given messages Chunks framed rest f part = chunked_stream messages framed rest f part
+
+pub gives_stream : GivesTheStream
+gives_stream events old between new mode first bytes u r a =
+    let g = run_gives events old between mode first bytes u r in
+    let part = (a.replies mode (first + length g.framed) g.rest g.unread).1.partial in
+    (g.rest, subst (λ l. IsStream mode l (given_by events) g.rest) (sym g.whole) (stream_given (given_by events) mode g.framed g.rest g.given part))
+
+fault_answered : (between new : Kept) (mode : Mode) (first : ℕ) (bytes : List ℕ) (fault : FrameFault) → Unread between mode first bytes → Answers between (Err fault) new → fault ≢ Memory → IsFaultOf mode first bytes fault
+fault_answered between new mode first bytes (BadFrame at) u a other = a.replies mode first bytes u
+fault_answered between new mode first bytes (TooBig at) u a other = a.replies mode first bytes u
+fault_answered between new mode first bytes Memory u a other = absurd (other refl)
+
+pub gives_fault : GivesTheFault
+gives_fault events old between new mode first bytes fault u r a other =
+    let g = run_gives events old between mode first bytes u r in
+    record {
+      framed = g.framed;
+      rest = g.rest;
+      whole = g.whole;
+      given = g.given;
+      is_fault = fault_answered between new mode (first + length g.framed) g.rest fault g.unread a other;
+    }
+
+-- no bytes
+HasNoMark-nil : HasNoMark []
+HasNoMark-nil before after e = omega (arith, ap length e, length-append before (mark ++ after))
+
+IsPartialChunks-nil : IsPartialChunks []
+IsPartialChunks-nil = record {
+  chunks = (0 ∷ []) ∷ [];
+  each = ((λ e. cc), ((omega arith, omega arith), tt));
+  more = in_chunks ((0 ∷ []) ∷ []);
+  some = λ e. cc;
+  whole = refl;
+}
+
+pub marked_alone : (body : List ℕ) → IsMarked body → EndOfMessage (with_mark body) (body ∷ []) []
+marked_alone body marked = record { whole = sym (append-nil (with_mark body ++ []) ∙ append-nil (with_mark body)); each = (marked, tt); partial = HasNoMark-nil }
+
+AreChunks-cut : (chunks : List (List ℕ)) → IsCut 65536 chunks → AllByRecursion IsChunk chunks
+AreChunks-cut [] cut = absurd cut
+AreChunks-cut (last ∷ []) cut = ((cut.0, omega (arith, cut.1)), tt)
+AreChunks-cut (c ∷ d ∷ cs) cut = ((omega (arith, cut.0), omega (arith, cut.0)), AreChunks-cut (d ∷ cs) cut.1)
+
+some_cut : (chunks : List (List ℕ)) → IsCut 65536 chunks → chunks ≢ []
+some_cut [] cut = absurd cut
+some_cut (c ∷ cs) cut = λ e. cc
+
+pub chunked_alone : (chunks : List (List ℕ)) → IsCut 65536 chunks → Chunked (in_chunks chunks) (concat chunks ∷ []) []
+chunked_alone chunks cut = record {
+  chunks = chunks ∷ [];
+  each = ((some_cut chunks cut, AreChunks-cut chunks cut), tt);
+  messages_are = refl;
+  whole = sym (append-nil (in_chunks chunks ++ []) ∙ append-nil (in_chunks chunks));
+  partial = IsPartialChunks-nil;
+}
+
+pub switched_unread : (place first : ℕ) (bytes unread : List ℕ) → place ≡ capped first → bytes ≡ unread → IsReadTo place start bytes first unread
+unfolding run
+switched_unread place first bytes unread p e = record { taken = []; bytes_are = sym e; reads = refl; place_is = p ∙ ap capped (omega arith) }

@@ -1,10 +1,9 @@
 -- The reading of chunks byte by byte, on lists.
-use Rattle.std.proofs.Common.{◌≡◌, ◌≢◌, ◌⊎◌, inl, inr, ℕ, zero, suc, ◌+◌, ◌-◌, ◌<◌, ◌≤◌, List, [], ◌∷◌, ◌++◌, length, take, drop, Option, Some, None, refl, ap, sym, ◌∙◌, subst, arith}
+use Rattle.std.proofs.Common.{◌≡◌, ℕ, suc, ◌+◌, List, [], ◌∷◌, ◌++◌, length, Some, None, refl, ap, ◌∙◌, arith}
 use Rattle.std.specs.Option.{option_and_then}
 use Rattle.std.proofs.lemmas.List.{append_assoc, append-nil}
 use Rattle.nc_frames.specs.declared.header.Header.{Header}
-use Rattle.nc_frames.specs.declared.header.Step.{Step}
-use Rattle.nc_frames.specs.Steps.{Reading, run, step, step_at, stepped, header_step}
+use Rattle.nc_frames.specs.Steps.{Reading, run, step, stepped, header_step}
 
 -- reading two pieces one after the other
 pub run-append : (xs ys : List ℕ) (s : Reading) → run (xs ++ ys) s ≡ option_and_then (run ys) (run xs s)

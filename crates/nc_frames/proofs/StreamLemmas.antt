@@ -1,5 +1,5 @@
 -- What the reading of a message says of its bytes.
-use Rattle.std.proofs.Common.{◌≡◌, ◌≢◌, ◌⊎◌, inl, inr, ℕ, ◌+◌, ◌-◌, ◌<◌, ◌≤◌, List, [], ◌∷◌, ◌++◌, length, Option, Some, None, refl, ap, sym, ◌∙◌, subst, arith}
+use Rattle.std.proofs.Common.{◌≡◌, ◌≢◌, ℕ, ◌<◌, ◌≤◌, List, [], ◌∷◌, ◌++◌, length, Some, None, refl, ap, sym, ◌∙◌, subst, arith}
 use Rattle.std.specs.Prelude.{replicate}
 use Rattle.std.specs.Option.{option_and_then}
 use Rattle.std.specs.List.{flat_map, concat, AllByRecursion}
@@ -8,11 +8,11 @@ use Rattle.std.proofs.lemmas.List.{append_assoc, append-nil, length-append, leng
 use Rattle.std.proofs.lemmas.List.Concat.{flat_map-append}
 use Rattle.nc_frames.specs.declared.header.Header.{Header}
 use Rattle.nc_frames.specs.declared.header.Header.TheVariants.{Start, Line, Hash, Size, Close}
-use Rattle.nc_frames.specs.declared.header.Stop.TheVariants.{End, Bad, TooBig}
-use Rattle.nc_frames.specs.Framing.{Chunks, Marks, HasNoMark, chunk, end_of_chunks, in_chunks, IsChunk, AreChunks, BeginsChunks, IsPartialChunks, AnnouncesTooMuch, IsUnfinished, IsBad}
+use Rattle.nc_frames.specs.declared.header.Stop.TheVariants.{Bad, TooBig}
+use Rattle.nc_frames.specs.Framing.{Chunks, chunk, end_of_chunks, IsChunk, IsPartialChunks, AnnouncesTooMuch, IsUnfinished, IsBad}
 use Rattle.nc_frames.specs.Steps.{Reading, run, step, start, start_of, StopsAt}
 use Rattle.nc_frames.proofs.StepLemmas.{run-append-some}
-use Rattle.nc_frames.proofs.ChunkLemmas.{text_of, IsGoodHeader, IsGood, came, good}
+use Rattle.nc_frames.proofs.ChunkLemmas.{text_of, IsGoodHeader, came, good}
 use Rattle.nc_frames.proofs.ChunkReads.{at_header, run-size, run-chunks, big_size, halts, stops_step, same_stop}
 
 AreChunks-append : (xs ys : List (List ℕ)) → AllByRecursion IsChunk xs → AllByRecursion IsChunk ys → AllByRecursion IsChunk (xs ++ ys)

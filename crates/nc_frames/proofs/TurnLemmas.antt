@@ -1,5 +1,5 @@
 -- Readings one after the other.
-use Rattle.std.proofs.Common.{◌≡◌, ℕ, ◌+◌, ◌<◌, ◌≤◌, min, ◌^◌, ◌-◌, List, [], ◌∷◌, ◌++◌, length, take, drop, Option, Some, None, refl, ap, sym, ◌∙◌, subst, arith}
+use Rattle.std.proofs.Common.{◌≡◌, ℕ, ◌+◌, ◌≤◌, min, ◌^◌, ◌-◌, List, [], ◌∷◌, ◌++◌, length, take, drop, Option, Some, None, refl, ap, sym, ◌∙◌, subst, arith}
 use Rattle.std.proofs.lemmas.List.{append_assoc, length-append, length-take-le, take-append-drop}
 use Rattle.nc_frames.specs.declared.chunks.Reader.{Reader}
 use Rattle.nc_frames.specs.declared.header.Header.TheVariants.{Start}
@@ -7,7 +7,7 @@ use Rattle.nc_frames.specs.declared.header.Step.{Step}
 use Rattle.nc_frames.specs.declared.header.Step.TheVariants.{Stop as Stops}
 use Rattle.nc_frames.specs.declared.header.Stop.{Stop}
 use Rattle.nc_frames.specs.declared.header.Stop.TheVariants.{End, Bad, TooBig}
-use Rattle.nc_frames.specs.Steps.{Reading, run, StopsAt, stepped, header_step}
+use Rattle.nc_frames.specs.Steps.{run, stepped, header_step}
 use Rattle.nc_frames.specs.Kept.{capped, reading_of}
 use Rattle.nc_frames.specs.Turns.{Advances, StopsBefore, EndsMessage, Turned, IsFurther}
 use Rattle.nc_frames.proofs.StepLemmas.{run-append-some, run-header, run-octets}

@@ -1,9 +1,9 @@
 -- The writing of a message chunk by chunk.
-use Rattle.std.proofs.Common.{◌≡◌, ◌≢◌, ℕ, ◌+◌, ◌-◌, ◌<◌, ◌≤◌, List, [], ◌∷◌, ◌++◌, length, take, drop, refl, ap, sym, ◌∙◌, subst, arith}
+use Rattle.std.proofs.Common.{◌≡◌, ℕ, ◌<◌, ◌≤◌, List, [], ◌∷◌, ◌++◌, length, take, drop, refl, ap, sym, ◌∙◌, arith}
 use Rattle.std.specs.List.{flat_map, concat, AllByRecursion}
-use Rattle.std.proofs.lemmas.List.{append_assoc, append-nil, length-append, length-take-le, length-drop, take-append-drop}
+use Rattle.std.proofs.lemmas.List.{append_assoc, append-nil, length-take-le, length-drop, take-append-drop}
 use Rattle.std.proofs.lemmas.List.Concat.{flat_map-append}
-use Rattle.nc_frames.specs.Framing.{chunk, end_of_chunks, in_chunks}
+use Rattle.nc_frames.specs.Framing.{chunk, end_of_chunks}
 use Rattle.nc_frames.specs.Writing.{IsCut, AppendsChunks, AppendsPart}
 
 abbrev pub IsFull : ℕ → List ℕ → Type 0

@@ -1,6 +1,6 @@
 -- What Frames keeps of a stream, and the bytes that it stands for.
 use Rattle.std.specs.Prelude.{◌≡◌, ◌≢◌, ℕ, ◌+◌, ◌-◌, ◌^◌, ◌<◌, ◌≤◌, min, List, [], ◌∷◌, ◌++◌, length, slice_index, Option, Some, None, Result, Ok, Err}
-use Rattle.nc_frames.specs.Framing.{Mode, Marks, Chunks, mark, HasNoMark, IsMarked, with_mark, IsTooBig, IsBad, IsFramed, IsUnfinished}
+use Rattle.nc_frames.specs.Framing.{Mode, Marks, Chunks, HasNoMark, IsMarked, with_mark, IsTooBig, IsBad, IsFramed, IsUnfinished}
 use Rattle.nc_frames.specs.Steps.{Reading, start, run}
 use Rattle.nc_frames.specs.declared.fault.FrameFault.{FrameFault}
 use Rattle.nc_frames.specs.declared.fault.FrameFault.TheVariants.{BadFrame, TooBig, Memory}

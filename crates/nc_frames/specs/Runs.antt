@@ -1,8 +1,10 @@
 -- Whole runs over a stream, and what the framings promise of any stream.
 use Rattle.std.specs.Prelude.{◌≡◌, ◌≢◌, ℕ, ◌+◌, ◌≤◌, List, [], ◌∷◌, ◌++◌, length, Option, Some, None, Result, Ok, Err, IfErr}
+use Rattle.std.specs.List.{concat}
 use Rattle.nc_frames.specs.declared.fault.FrameFault.{FrameFault}
 use Rattle.nc_frames.specs.declared.fault.FrameFault.TheVariants.{Memory}
-use Rattle.nc_frames.specs.Framing.{Mode, Marks, Chunks, with_mark, IsMarked, EndOfMessage, Chunked, IsFramed, IsPartial, IsUnfinished}
+use Rattle.nc_frames.specs.Framing.{Mode, Marks, Chunks, with_mark, IsMarked, EndOfMessage, Chunked, IsFramed, IsUnfinished, in_chunks}
+use Rattle.nc_frames.specs.Writing.{IsCut}
 use Rattle.nc_frames.specs.Kept.{Kept, Failed, Unread, Replies, IsFaultOf, fed, switched, Marking}
 
 -- a call of Frames
@@ -60,30 +62,50 @@ abbrev pub IsStream : Mode → List ℕ → List (List ℕ) → List ℕ → Typ
 IsStream Marks bytes messages rest = EndOfMessage bytes messages rest
 IsStream Chunks bytes messages rest = Chunked bytes messages rest
 
--- Messages that are given, and a rest that is no whole one, are the stream's.
+-- Where nothing more is to be given, the messages that were given are the stream's.
 abbrev pub GivesTheStream : Type 0
-GivesTheStream = (messages : List (List ℕ)) (mode : Mode) (framed rest : List ℕ)
-    → AreFramed mode framed messages → IsPartial mode rest → IsStream mode (framed ++ rest) messages rest
+GivesTheStream = (events : List Event) (old between new : Kept) (mode : Mode) (first : ℕ) (bytes : List ℕ)
+    → Unread old mode first bytes → Runs old events between → Answers between (Ok None) new
+    → (rest : List ℕ) × IsStream mode (bytes ++ fed_by events) (given_by events) rest
+
+-- after these messages the stream shows this fault, where its first byte has this place
+pub record HasFault (mode : Mode) (first : ℕ) (bytes : List ℕ) (messages : List (List ℕ)) (fault : FrameFault) : Type 0 where
+  pub framed : List ℕ
+  pub rest : List ℕ
+  pub whole : bytes ≡ framed ++ rest
+  pub given : AreFramed mode framed messages
+  pub is_fault : IsFaultOf mode (first + length framed) rest fault
+
+-- A fault that is answered is the stream's.
+abbrev pub GivesTheFault : Type 0
+GivesTheFault = (events : List Event) (old between new : Kept) (mode : Mode) (first : ℕ) (bytes : List ℕ) (fault : FrameFault)
+    → Unread old mode first bytes → Runs old events between → Answers between (Err fault) new → fault ≢ Memory
+    → HasFault mode first (bytes ++ fed_by events) (given_by events) fault
 
 -- A stream has one reading.
 abbrev pub HasOneReading : Type 0
 HasOneReading = (mode : Mode) (bytes : List ℕ) (messages others : List (List ℕ)) (rest other : List ℕ)
     → IsStream mode bytes messages rest → IsStream mode bytes others other → (messages ≡ others) × (rest ≡ other)
 
--- No bytes are unfinished and have a whole message or a fault, or have both of these.
-pub record AnswersExclude (mode : Mode) (bytes : List ℕ) : Type 0 where
-  pub unfinished : IsUnfinished mode bytes → (framed rest message : List ℕ) → bytes ≡ framed ++ rest → ¬ IsFramed mode framed message
+-- Of the answers to bytes that are not given one fits at most: that they are unfinished, this message, or
+-- this fault.
+pub record OneAnswer (mode : Mode) (bytes : List ℕ) : Type 0 where
+  pub no_message : IsUnfinished mode bytes → (framed rest message : List ℕ) → bytes ≡ framed ++ rest → ¬ IsFramed mode framed message
   pub no_fault : IsUnfinished mode bytes → (first : ℕ) (fault : FrameFault) → ¬ IsFaultOf mode first bytes fault
-  pub message : (framed rest message : List ℕ) → bytes ≡ framed ++ rest → IsFramed mode framed message → length message ≤ 4194304 → (first : ℕ) (fault : FrameFault) → ¬ IsFaultOf mode first bytes fault
+  pub message_alone : (framed rest message : List ℕ) → bytes ≡ framed ++ rest → IsFramed mode framed message → length message ≤ 4194304 → (first : ℕ) (fault : FrameFault) → ¬ IsFaultOf mode first bytes fault
+  pub one_message : (framed rest message other more another : List ℕ) → bytes ≡ framed ++ rest → IsFramed mode framed message → bytes ≡ other ++ more → IsFramed mode other another → (message ≡ another) × (rest ≡ more)
+  pub one_fault : (first : ℕ) (fault other : FrameFault) → IsFaultOf mode first bytes fault → IsFaultOf mode first bytes other → fault ≡ other
 
 abbrev pub HasOneAnswer : Type 0
-HasOneAnswer = (mode : Mode) (bytes : List ℕ) → AnswersExclude mode bytes
+HasOneAnswer = (mode : Mode) (bytes : List ℕ) → OneAnswer mode bytes
 
 -- From a switch on the bytes that are not given are read in chunks.
 abbrev pub SwitchReadsAgain : Type 0
 SwitchReadsAgain = (place first : ℕ) (bytes unread : List ℕ)
     → Unread (Marking place bytes) Marks first unread → Unread (switched (Marking place bytes)) Chunks first unread
 
--- A message with the mark behind it is framed as that one message, where the mark stands only at the end.
+-- What is written is framed as that one message: with the mark where the mark stands only at the end.
 abbrev pub WritesOneMessage : Type 0
-WritesOneMessage = (body : List ℕ) → IsMarked body → EndOfMessage (with_mark body) (body ∷ []) []
+WritesOneMessage =
+    ((body : List ℕ) → IsMarked body → EndOfMessage (with_mark body) (body ∷ []) [])
+    × ((chunks : List (List ℕ)) → IsCut 65536 chunks → Chunked (in_chunks chunks) (concat chunks ∷ []) [])

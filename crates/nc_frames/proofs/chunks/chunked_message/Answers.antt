@@ -1,4 +1,4 @@
-use Rattle.std.proofs.Common.{[], refl, ap, ◌∙◌, Some}
+use Rattle.std.proofs.Common.{refl}
 use Rattle.std.proofs.lemmas.Result.{err_from_is_err_and}
 use Rattle.nc_frames.proofs.ReplyLemmas.{IsReadTo-advances, IsReadTo-all, Gives-ended, IsBad-stopped, AnnouncesTooMuch-stopped}
 use Rattle.nc_frames.proofs.chunks.chunked_message.Goals as goal

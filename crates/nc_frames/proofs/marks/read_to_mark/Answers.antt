@@ -1,4 +1,4 @@
-use Rattle.std.proofs.Common.{◌∙◌, sym, refl, rules, arith}
+use Rattle.std.proofs.Common.{◌∙◌, sym, refl}
 use Rattle.nc_frames.proofs.MarkLemmas.{EndsInMark-stretch, HasNoMark-stretch}
 use Rattle.nc_frames.proofs.marks.read_to_mark.Goals as goal
 

@@ -1,5 +1,4 @@
-use Rattle.std.proofs.Common.{◌≡◌, ap, sym, ◌∙◌, length, Some}
-use Rattle.nc_frames.specs.declared.chunks.Reader.{Reader}
+use Rattle.std.proofs.Common.{◌≡◌, length}
 use Rattle.nc_frames.specs.declared.header.Step.TheVariants.{On, Octets, Stop as Stops}
 use Rattle.nc_frames.specs.declared.header.Stop.TheVariants.{End, Bad, TooBig}
 use Rattle.nc_frames.specs.Steps.{header_step}

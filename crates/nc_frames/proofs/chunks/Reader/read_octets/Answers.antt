@@ -1,4 +1,4 @@
-use Rattle.std.proofs.Common.{arith, ap, ◌∙◌, refl}
+use Rattle.std.proofs.Common.{arith, ap, ◌∙◌}
 use Rattle.std.proofs.lemmas.Grind.{common_steps}
 use Rattle.nc_frames.specs.declared.chunks.Reader.{Reader}
 use Rattle.nc_frames.proofs.TurnLemmas.{Advances-octets}

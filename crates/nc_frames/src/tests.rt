@@ -51,18 +51,18 @@ fn marks_are_found_at_every_cut(rt: HostRuntime) -> Result<(), Fail> {
 }
 
 /// The example of RFC 6242 4.2.
-fn example() -> &'static [u8] {
+fn rfc_example() -> &'static [u8] {
     b"\n#4\n<rpc\n#18\n message-id=\"102\"\n\n#79\n     xmlns=\"urn:ietf:params:xml:ns:netconf:base:1.0\">\n  <close-session/>\n</rpc>\n##\n"
 }
 
 /// The message of that example.
-fn example_message() -> &'static [u8] {
+fn rfc_message() -> &'static [u8] {
     b"<rpc message-id=\"102\"\n     xmlns=\"urn:ietf:params:xml:ns:netconf:base:1.0\">\n  <close-session/>\n</rpc>"
 }
 
 #[test]
-fn example_is_read_at_every_cut(rt: HostRuntime) -> Result<(), Fail> {
-    assert!(rt; gives(rt.alloc(), true, example(), &[example_message()])?);
+fn rfc_example_is_read_at_every_cut(rt: HostRuntime) -> Result<(), Fail> {
+    assert!(rt; gives(rt.alloc(), true, rfc_example(), &[rfc_message()])?);
     Ok(())
 }
 

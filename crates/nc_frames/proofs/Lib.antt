@@ -9,3 +9,4 @@ pub mod WriteLemmas
 pub mod RunLemmas
 pub mod ReadingLemmas
 pub mod AnswerLemmas
+pub mod BadLemmas

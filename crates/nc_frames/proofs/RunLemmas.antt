@@ -117,7 +117,7 @@ marked_stream (m ∷ ms) framed rest f none =
       partial = none;
     }
 
-chunked_stream : (messages : List (List ℕ)) (framed rest : List ℕ) → AreFramed Chunks framed messages → IsPartialChunks rest → Chunked (framed ++ rest) messages rest
+pub chunked_stream : (messages : List (List ℕ)) (framed rest : List ℕ) → AreFramed Chunks framed messages → IsPartialChunks rest → Chunked (framed ++ rest) messages rest
 chunked_stream [] framed rest f part = record { chunks = []; each = tt; messages_are = refl; whole = ap (λ l. l ++ rest) f; partial = part }
 chunked_stream (m ∷ ms) framed rest f part =
     let later = chunked_stream ms f.1 rest f.4 part in

@@ -3,7 +3,7 @@ use Rattle.std.specs.Prelude.{◌≡◌, ◌≢◌, ℕ, ◌+◌, ◌≤◌, Lis
 use Rattle.std.specs.List.{concat}
 use Rattle.nc_frames.specs.declared.fault.FrameFault.{FrameFault}
 use Rattle.nc_frames.specs.declared.fault.FrameFault.TheVariants.{Memory}
-use Rattle.nc_frames.specs.Framing.{Mode, Marks, Chunks, with_mark, IsMarked, EndOfMessage, Chunked, IsFramed, IsUnfinished, in_chunks}
+use Rattle.nc_frames.specs.Framing.{Mode, Marks, Chunks, with_mark, IsMarked, EndOfMessage, Chunked, IsFramed, IsUnfinished, IsBad, in_chunks}
 use Rattle.nc_frames.specs.Writing.{IsCut}
 use Rattle.nc_frames.specs.Kept.{Kept, Failed, Unread, Replies, IsFaultOf, fed, switched, Marking}
 
@@ -109,3 +109,18 @@ abbrev pub WritesOneMessage : Type 0
 WritesOneMessage =
     ((body : List ℕ) → IsMarked body → EndOfMessage (with_mark body) (body ∷ []) [])
     × ((chunks : List (List ℕ)) → IsCut 65536 chunks → Chunked (in_chunks chunks) (concat chunks ∷ []) [])
+
+-- The byte of a bad frame is the first that no chunked stream has there: the stream before it is one, and
+-- with it is none.
+pub record IsFirstBad (framed rest : List ℕ) (messages : List (List ℕ)) (place : ℕ) : Type 0 where
+  pub before : List ℕ
+  pub byte : ℕ
+  pub more : List ℕ
+  pub bytes_are : framed ++ rest ≡ (framed ++ before) ++ byte ∷ more
+  pub place_is : place ≡ length before
+  pub chunked : Chunked (framed ++ before) messages before
+  pub none : (others : List (List ℕ)) (other : List ℕ) → ¬ Chunked ((framed ++ before) ++ byte ∷ []) others other
+
+abbrev pub BadFrameIsFirst : Type 0
+BadFrameIsFirst = (messages : List (List ℕ)) (framed rest : List ℕ) (place : ℕ)
+    → AreFramed Chunks framed messages → IsBad rest place → IsFirstBad framed rest messages place

@@ -1,5 +1,5 @@
 //! What the framings promise of whole streams.
-ghost use Rattle.nc_frames.specs.Runs.{GivesAllThatIsFed, GivesTheStream, GivesTheFault, HasOneReading, HasOneAnswer, SwitchReadsAgain, WritesOneMessage};
+ghost use Rattle.nc_frames.specs.Runs.{GivesAllThatIsFed, GivesTheStream, GivesTheFault, HasOneReading, HasOneAnswer, BadFrameIsFirst, SwitchReadsAgain, WritesOneMessage};
 
 /// In whatever pieces a stream is fed, and whenever `next` is called between, the bytes of the messages
 /// that were given, and those that are not given, are the bytes that were fed.
@@ -26,6 +26,11 @@ pub fn has_one_reading()
 /// At most one of the answers of `next` fits the bytes that are not given.
 pub fn has_one_answer()
     ensures { HasOneAnswer }
+{}
+
+/// The byte of a bad frame is the first that no chunked stream has there (RFC 6242 4.2).
+pub fn bad_frame_is_first()
+    ensures { BadFrameIsFirst }
 {}
 
 /// `switch` reads again what was not given.

@@ -19,8 +19,8 @@ mod write;
 pub use fault::FrameFault;
 pub use frames::Frames;
 pub use laws::{
-    gives_all_that_is_fed, gives_the_fault, gives_the_stream, has_one_answer, has_one_reading,
-    switch_reads_again, writes_one_message,
+    bad_frame_is_first, gives_all_that_is_fed, gives_the_fault, gives_the_stream, has_one_answer,
+    has_one_reading, switch_reads_again, writes_one_message,
 };
 pub use write::{write_chunks, write_eom};
 

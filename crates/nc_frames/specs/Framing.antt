@@ -1,27 +1,13 @@
 -- Streams of messages (RFC 6242 4.2 and 4.3), as relations between bytes and messages.
 use Rattle.std.specs.Prelude.{◌≡◌, ◌≢◌, ℕ, ◌+◌, ◌<◌, ◌≤◌, List, [], ◌∷◌, ◌++◌, length, map}
 use Rattle.std.specs.List.{flat_map, concat, AllByRecursion}
+pub use Rattle.nc_names.specs.Mark.{mark, HasNoMark, IsMarked, with_mark}
 use Rattle.std.specs.Fmt.{decimal}
 
 -- how the messages of a stream are framed
 pub data Mode : Type 0 where
   Marks : Mode
   Chunks : Mode
-
--- RFC 6242 4.3: `]]>]]>`
-abbrev pub mark : List ℕ
-mark = 93 ∷ 93 ∷ 62 ∷ 93 ∷ 93 ∷ 62 ∷ []
-
--- the mark stands nowhere in the bytes
-abbrev pub HasNoMark : List ℕ → Type 0
-HasNoMark bytes = (before after : List ℕ) → bytes ≢ before ++ (mark ++ after)
-
--- in the message with its mark the mark stands only at the end
-abbrev pub IsMarked : List ℕ → Type 0
-IsMarked message = (before after : List ℕ) → message ++ mark ≡ before ++ (mark ++ after) → after ≡ []
-
-abbrev pub with_mark : List ℕ → List ℕ
-with_mark message = message ++ mark
 
 -- the bytes are these messages, each with its mark behind it, and then no whole one
 pub record EndOfMessage (bytes : List ℕ) (messages : List (List ℕ)) (rest : List ℕ) : Type 0 where

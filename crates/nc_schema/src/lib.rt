@@ -1,0 +1,18 @@
+//! The schema of a data tree: its data nodes, choices, types and modules by their numbers, the
+//! child of a node by its name, and the path text of a node. It stands on the plain types of
+//! `nc_names`.
+//!
+//! Its specifications hold what every crate above shares: what a path of a schema is, the text of a
+//! path (RFC 7950 9.13, RFC 7951 6.11), document order, and what list of rows is a configuration
+//! (RFC 7950 7.5 to 7.9).
+#![tactic(auto)]
+
+mod node;
+mod nodes;
+mod schema;
+mod value_type;
+
+pub use nc_names::Module;
+pub use node::{Case, Choice, Deny, Kind, Node};
+pub use schema::Schema;
+pub use value_type::{Between, ValueType};

@@ -1,2 +1,5 @@
+pub mod Began
 pub mod Children
+pub mod Paths
+pub mod PathTexts
 pub mod Tables

@@ -9,6 +9,7 @@
 
 mod node;
 mod nodes;
+mod path_text;
 mod schema;
 mod value_type;
 

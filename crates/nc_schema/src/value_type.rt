@@ -13,10 +13,15 @@ pub struct Between {
 #[derive(PartialEq, Eq, Debug, Drop)]
 pub enum ValueType {
     /// An integer in one of the ranges (RFC 7950 9.2).
-    Whole { among: Many<Between> },
+    Whole {
+        among: Many<Between>,
+    },
     /// A `decimal64` with so many fraction digits. The ranges count in units of its last digit
     /// (RFC 7950 9.3).
-    Decimal { digits: u32, among: Many<Between> },
+    Decimal {
+        digits: u32,
+        among: Many<Between>,
+    },
     /// A string whose length in characters is in one of the ranges (RFC 7950 9.4). Where `starless`
     /// it may not begin with `*` (group names, RFC 8341 3.5).
     Chars {
@@ -26,17 +31,27 @@ pub enum ValueType {
     /// `true` or `false` (RFC 7950 9.5).
     Boolean,
     /// One of the names (RFC 7950 9.6).
-    Enumeration { names: Many<Text> },
+    Enumeration {
+        names: Many<Text>,
+    },
     /// Some of the names, which stand in the order of their positions (RFC 7950 9.7).
-    Bits { names: Many<Text> },
+    Bits {
+        names: Many<Text>,
+    },
     /// Bytes in base64 whose number is in one of the ranges (RFC 7950 9.8).
-    Binary { lengths: Many<Between> },
+    Binary {
+        lengths: Many<Between>,
+    },
     /// No value but the leaf's existence (RFC 7950 9.11).
     Empty,
     /// A value of one of these types, the first that admits it (RFC 7950 9.12).
-    Union { members: Many<u32> },
+    Union {
+        members: Many<u32>,
+    },
     /// One of these identities, which are all that are derived from the base (RFC 7950 9.10).
-    Identity { among: Many<QName> },
+    Identity {
+        among: Many<QName>,
+    },
     /// A value of the leaf or leaf-list `target` (RFC 7950 9.9). `above` is the node above the leaf
     /// at which the path turns down, or `None` where the path is absolute or its steps up reach the
     /// top. `required` is `require-instance`.
@@ -46,7 +61,9 @@ pub enum ValueType {
         required: bool,
     },
     /// A path to a node of the data tree (RFC 7950 9.13). `required` is `require-instance`.
-    Instance { required: bool },
+    Instance {
+        required: bool,
+    },
     /// A path to a node of the data tree, in which keys may be left out (RFC 8341 3.5,
     /// `node-instance-identifier`).
     NodeInstance,

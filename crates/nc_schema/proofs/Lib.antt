@@ -1,1 +1,2 @@
 pub mod BeganLemmas
+pub mod OrderLemmas

@@ -7,12 +7,14 @@
 //! (RFC 7950 7.5 to 7.9).
 #![tactic(auto)]
 
+mod laws;
 mod node;
 mod nodes;
 mod path_text;
 mod schema;
 mod value_type;
 
+pub use laws::{order_is_strict, order_is_total};
 pub use nc_names::Module;
 pub use node::{Case, Choice, Deny, Kind, Node};
 pub use schema::Schema;

@@ -1,0 +1,21 @@
+-- What follows from the definitions.
+use Rattle.std.specs.Prelude.{◌≡◌, ◌⊎◌}
+use Rattle.std.specs.List.{All}
+use Rattle.nc_names.specs.declared.path.Path.{Path}
+use Rattle.nc_schema.specs.Tables.{Tables}
+use Rattle.nc_schema.specs.Order.{IsSystemOrdered, IsBefore}
+
+-- no path is before itself, and what is before a path is before all that the path is before
+pub record OrderIsStrict : Type 0 where
+  pub irreflexive : (tables : Tables) (path : Path) → ¬ IsBefore tables path path
+  pub transitive : (tables : Tables) (path middle other : Path) → IsBefore tables path middle → IsBefore tables middle other → IsBefore tables path other
+
+-- the system orders each node on the path
+abbrev pub IsSystemOrderedPath : Tables → Path → Type 0
+IsSystemOrderedPath tables path = All (λ step. IsSystemOrdered tables step.node) path.steps
+
+-- of two paths on which the system orders each node, one is before the other, or they are one
+abbrev pub OrderIsTotal : Type 0
+OrderIsTotal =
+    (tables : Tables) (path other : Path) → IsSystemOrderedPath tables path →
+    IsBefore tables path other ⊎ (path ≡ other) ⊎ IsBefore tables other path

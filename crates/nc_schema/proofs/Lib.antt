@@ -1,2 +1,4 @@
 pub mod BeganLemmas
 pub mod OrderLemmas
+pub mod PathTextLemmas
+pub mod TextLemmas

@@ -3,6 +3,9 @@ use Rattle.std.specs.Prelude.{◌≡◌, ◌⊎◌}
 use Rattle.std.specs.List.{All}
 use Rattle.nc_names.specs.declared.path.Path.{Path}
 use Rattle.nc_schema.specs.Tables.{Tables}
+use Rattle.nc_schema.specs.Names.{HasProperNames, HasQuotableKeys}
+use Rattle.nc_schema.specs.Paths.{NamesNodeOf}
+use Rattle.nc_schema.specs.PathTexts.{path_text_of}
 use Rattle.nc_schema.specs.Order.{IsSystemOrdered, IsBefore}
 
 -- no path is before itself, and what is before a path is before all that the path is before
@@ -19,3 +22,10 @@ abbrev pub OrderIsTotal : Type 0
 OrderIsTotal =
     (tables : Tables) (path other : Path) → IsSystemOrderedPath tables path →
     IsBefore tables path other ⊎ (path ≡ other) ⊎ IsBefore tables other path
+
+-- in a schema of proper names a path text names one path
+abbrev pub TextNamesOnePath : Type 0
+TextNamesOnePath =
+    (tables : Tables) (path other : Path) → HasProperNames tables →
+    NamesNodeOf tables path → NamesNodeOf tables other → HasQuotableKeys path → HasQuotableKeys other →
+    path_text_of tables path ≡ path_text_of tables other → path ≡ other

@@ -2,6 +2,7 @@ pub mod Began
 pub mod Children
 pub mod Configuration
 pub mod Laws
+pub mod Names
 pub mod Order
 pub mod Paths
 pub mod PathTexts

@@ -14,7 +14,7 @@ mod path_text;
 mod schema;
 mod value_type;
 
-pub use laws::{order_is_strict, order_is_total};
+pub use laws::{order_is_strict, order_is_total, text_names_one_path};
 pub use nc_names::Module;
 pub use node::{Case, Choice, Deny, Kind, Node};
 pub use schema::Schema;

@@ -2,3 +2,4 @@ pub mod BeganLemmas
 pub mod OrderLemmas
 pub mod PathTextLemmas
 pub mod TextLemmas
+pub mod TreeLemmas

@@ -1,5 +1,5 @@
 -- Document order is strict, and total on what the system orders.
-use Rattle.std.proofs.Common.{◌≡◌, ◌⊎◌, ◌==◌, ◌+◌, ◌<◌, ℕ, Bool, true, false, cond, eqb, List, [], ◌∷◌, Option, Some, None, refl, sym, ap, subst, ◌∙◌, inl, inr, arith, length, slice_index_or, suc}
+use Rattle.std.proofs.Common.{◌≡◌, ◌⊎◌, ◌+◌, ◌<◌, ℕ, Bool, true, false, cond, eqb, List, [], ◌∷◌, Option, Some, None, refl, sym, ap, subst, ◌∙◌, inl, inr, arith, suc}
 use Rattle.std.proofs.lemmas.Bool.{eqb-true}
 use Rattle.std.proofs.lemmas.Cmp.{lists_total, nat_list_cmp_total, tied_itself, ranked}
 use Rattle.std.specs.Cmp.{IsTotalOrder}
@@ -10,10 +10,9 @@ use Rattle.std.specs.Ordering.{nat_cmp, ordering_reverse, MatchOrdering}
 use Rattle.std.specs.declared.cmp.Ordering.{Ordering}
 use Rattle.std.specs.declared.cmp.Ordering.TheVariants.{Less, Equal, Greater}
 use Rattle.nc_names.specs.declared.path.Step.{Step}
-use Rattle.nc_names.specs.declared.path.Path.{Path}
 use Rattle.nc_schema.specs.Tables.{Tables}
-use Rattle.nc_schema.specs.Order.{sibling_place, keys_above, IsSystemOrdered, KeysBefore, StepBefore, StepsBefore, IsBefore}
-use Rattle.nc_schema.specs.Laws.{OrderIsStrict, OrderIsTotal, IsSystemOrderedPath}
+use Rattle.nc_schema.specs.Order.{sibling_place, keys_above, IsSystemOrdered, StepBefore, StepsBefore, IsBefore}
+use Rattle.nc_schema.specs.Laws.{OrderIsStrict, OrderIsTotal}
 
 -- keys are ordered totally
 abbrev order : IsTotalOrder (slice_cmp (slice_cmp nat_cmp))

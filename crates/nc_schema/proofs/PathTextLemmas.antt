@@ -1,9 +1,8 @@
 -- A path text names one path: its steps are read in one way.
-use Rattle.std.proofs.Common.{◌≡◌, ◌⊎◌, ℕ, Bool, true, false, List, [], ◌∷◌, ◌++◌, Option, Some, None, refl, sym, ap, subst, ◌∙◌, inl, inr, arith, length, suc, append_assoc, IsSome, IsSomeAnd, slice_get}
-use Rattle.std.specs.List.{All, flat_map, zip}
+use Rattle.std.proofs.Common.{◌≡◌, ◌⊎◌, ℕ, true, false, List, [], ◌∷◌, ◌++◌, Option, Some, None, refl, sym, ap, subst, ◌∙◌, arith, length, suc, append_assoc, IsSome, IsSomeAnd, slice_get}
+use Rattle.std.specs.List.{All, flat_map}
 use Rattle.std.specs.Option.{option_map_or}
 use Rattle.nc_names.specs.declared.name.Module.{Module}
-use Rattle.nc_names.specs.declared.path.Path.{Path}
 use Rattle.nc_names.specs.declared.path.Step.{Step}
 use Rattle.nc_schema.specs.declared.node.Kind.{Kind}
 use Rattle.nc_schema.specs.declared.node.Kind.TheVariants.{Container, Leaf, LeafList, List as ListKind}
@@ -33,9 +32,9 @@ step_is : (tables : Tables) (step : Step) (node : Node) (found : Module) (rest :
 step_is tables step node found rest node_is found_is =
     let named : module_name tables node.module ≡ found.name = ap (λ o. option_map_or (λ (m : Module). m.name) o []) found_is in
     let name : prefixed_name tables step.node ≡ found.name ++ colon ∷ node.name.name =
-        ap (λ o. option_map_or (λ (n : Node). module_name tables n.module ++ colon ∷ n.name.name) o []) node_is ∙ ap (λ x. x ++ colon ∷ node.name.name) named in
+    ap (λ o. option_map_or (λ (n : Node). module_name tables n.module ++ colon ∷ n.name.name) o []) node_is ∙ ap (λ x. x ++ colon ∷ node.name.name) named in
     let behind : step_predicates tables step ≡ predicates tables node.kind node.keys step.keys =
-        ap (λ o. option_map_or (λ (n : Node). predicates tables n.kind n.keys step.keys) o []) node_is in
+    ap (λ o. option_map_or (λ (n : Node). predicates tables n.kind n.keys step.keys) o []) node_is in
     (λ i. (slash ∷ name i ++ behind i) ++ rest) ∙ regroup found.name node.name.name (predicates tables node.kind node.keys step.keys)
   where
     regroup : (a b c : List ℕ) → (slash ∷ (a ++ colon ∷ b) ++ c) ++ rest ≡ slash ∷ (a ++ colon ∷ (b ++ (c ++ rest)))
@@ -81,19 +80,19 @@ step_once tables names step other node beside rest more node_is beside_is parent
     let behind : List ℕ = predicates tables node.kind node.keys step.keys ++ rest in
     let after : List ℕ = predicates tables beside.kind beside.keys other.keys ++ more in
     let level = behind_first slash (found.name ++ colon ∷ (node.name.name ++ behind)) (another.name ++ colon ∷ (beside.name.name ++ after))
-        (sym (step_is tables step node found rest node_is found_is) ∙ e ∙ step_is tables other beside another more beside_is another_is) in
+    (sym (step_is tables step node found rest node_is found_is) ∙ e ∙ step_is tables other beside another more beside_is another_is) in
     let first = cut_once is_in_identifier found.name another.name (colon ∷ (node.name.name ++ behind)) (colon ∷ (beside.name.name ++ after))
-        (all_in_identifier found.name (names.module_names node.module found found_is)) (all_in_identifier another.name (names.module_names beside.module another another_is)) refl refl level in
+    (all_in_identifier found.name (names.module_names node.module found found_is)) (all_in_identifier another.name (names.module_names beside.module another another_is)) refl refl level in
     let one_module = names.modules_apart node.module beside.module found another found_is another_is first.0 in
     let second = cut_once is_in_identifier node.name.name beside.name.name behind after
-        (all_in_identifier node.name.name (names.node_names step.node node node_is)) (all_in_identifier beside.name.name (names.node_names other.node beside beside_is))
-        (predicates_end_name tables node.kind node.keys step.keys rest at_rest) (predicates_end_name tables beside.kind beside.keys other.keys more at_more)
-        (behind_first colon (node.name.name ++ behind) (beside.name.name ++ after) first.1) in
+    (all_in_identifier node.name.name (names.node_names step.node node node_is)) (all_in_identifier beside.name.name (names.node_names other.node beside beside_is))
+    (predicates_end_name tables node.kind node.keys step.keys rest at_rest) (predicates_end_name tables beside.kind beside.keys other.keys more at_more)
+    (behind_first colon (node.name.name ++ behind) (beside.name.name ++ after) first.1) in
     let one_node = names.siblings_apart step.node other.node node beside node_is beside_is parents one_module second.0 in
     let same : node ≡ beside = same_some (slice_get tables.nodes other.node) node beside (ap (slice_get tables.nodes) (sym one_node) ∙ node_is) beside_is in
     let fit_same : FitsKeys node other = subst (λ (n : Node). FitsKeys n other) (sym same) fit in
     let third : behind ≡ predicates tables node.kind node.keys other.keys ++ more =
-        second.1 ∙ ap (λ (n : Node). predicates tables n.kind n.keys other.keys ++ more) (sym same) in
+    second.1 ∙ ap (λ (n : Node). predicates tables n.kind n.keys other.keys ++ more) (sym same) in
     let keys = predicates_once tables node.kind node.keys step.keys other.keys rest more fits fit_same can could at_rest at_more third in
     ((λ i. record { node = one_node i; keys = keys.0 i }), keys.1)
 
@@ -114,10 +113,10 @@ steps_once tables names above (step ∷ steps) (other ∷ others) leads lead can
     let (node, node_is, holds) = some_and (slice_get tables.nodes step.node) (λ node. (node.parent ≡ above) × FitsKeys node step) leads.0 in
     let (beside, beside_is, hold) = some_and (slice_get tables.nodes other.node) (λ node. (node.parent ≡ above) × FitsKeys node other) lead.0 in
     let first = step_once tables names step other node beside (flat_map (step_text tables) steps) (flat_map (step_text tables) others) node_is beside_is (holds.0 ∙ sym hold.0) holds.1 hold.1
-        (can 0 step (omega arith)) (could 0 other (omega arith)) (next_step tables steps) (next_step tables others) e in
+    (can 0 step (omega arith)) (could 0 other (omega arith)) (next_step tables steps) (next_step tables others) e in
     let lead_same : LeadDown tables (Some step.node) others = subst (λ (s : Step). LeadDown tables (Some s.node) others) (sym first.0) lead.1 in
     let rest = steps_once tables names (Some step.node) steps others leads.1 lead_same
-        (all_behind (λ (s : Step). All CanBeQuoted s.keys) step steps can) (all_behind (λ (s : Step). All CanBeQuoted s.keys) other others could) first.1 in
+    (all_behind (λ (s : Step). All CanBeQuoted s.keys) step steps can) (all_behind (λ (s : Step). All CanBeQuoted s.keys) other others could) first.1 in
     λ i. first.0 i ∷ rest i
 
 pub text_names_one_path : TextNamesOnePath

@@ -1,10 +1,10 @@
 -- A path text names one path: how texts are cut in one way alone.
-use Rattle.std.proofs.Common.{◌≡◌, ◌≢◌, ◌⊎◌, ◌==◌, ◌+◌, ◌&&◌, ◌||◌, ℕ, Bool, true, false, not, cond, eqb, List, [], ◌∷◌, ◌++◌, Option, Some, None, refl, sym, ap, subst, ◌∙◌, inl, inr, arith, length, suc, append_assoc, IsSome, IsSomeAnd, slice_get, slice_index_or}
-use Rattle.std.proofs.lemmas.Bool.{eqb-true, eq-eqb}
+use Rattle.std.proofs.Common.{◌≡◌, ◌≢◌, ◌⊎◌, ◌==◌, ◌&&◌, ◌||◌, ℕ, Bool, true, false, not, cond, eqb, List, [], ◌∷◌, ◌++◌, refl, sym, ap, subst, ◌∙◌, inl, inr, arith, length, suc, append_assoc}
+use Rattle.std.proofs.lemmas.Bool.{eq-eqb}
 use Rattle.std.specs.Char.{is_ascii_digit}
-use Rattle.std.specs.List.{All, list_all, list_any, flat_map, zip}
-use Rattle.nc_schema.specs.Names.{begins_identifier, is_in_identifier, IsIdentifier, CanBeQuoted}
-use Rattle.nc_schema.specs.PathTexts.{quote, apostrophe, dot, equals, opening, closing, slash, mark_round, quoted, key_name, key_predicate, key_predicates, value_predicate}
+use Rattle.std.specs.List.{All, list_all, list_any, flat_map}
+use Rattle.nc_schema.specs.Names.{is_in_identifier, IsIdentifier, CanBeQuoted}
+use Rattle.nc_schema.specs.PathTexts.{quote, apostrophe, dot, equals, opening, closing, slash, mark_round, quoted, key_name, key_predicates, value_predicate}
 use Rattle.nc_schema.specs.Tables.{Tables}
 
 -- of two tests that both hold, each holds
@@ -81,6 +81,7 @@ quoted_once value other rest more can could e =
     let lacks : list_any (λ sign. sign == m) other ≡ false = subst (λ (k : ℕ). list_any (λ sign. sign == k) other ≡ false) (sym marks) (lacks_mark other could) in
     let parts = cut_once (λ sign. not (sign == m)) value other (m ∷ rest) (n ∷ more) (all_but m value (lacks_mark value can)) (all_but m other lacks) (ap not (eq-eqb m m refl)) (ap not (eq-eqb n m (sym marks))) level in
     (parts.0, (let both : m ∷ rest ≡ n ∷ more = parts.1 in cc))
+
 -- the text of what follows a step: it is at its end, or the next step begins
 abbrev pub EndsStep : List ℕ → Type 0
 EndsStep [] = Unit {0}
@@ -106,7 +107,7 @@ regroup lead value behind rest = simp append_assoc
 predicate_once : (lead value other behind after rest more : List ℕ) → CanBeQuoted value → CanBeQuoted other → (((lead ++ quoted value) ++ closing ∷ []) ++ behind) ++ rest ≡ (((lead ++ quoted other) ++ closing ∷ []) ++ after) ++ more → (value ≡ other) × (behind ++ rest ≡ after ++ more)
 predicate_once lead value other behind after rest more can could e =
     let whole : lead ++ (quoted value ++ closing ∷ (behind ++ rest)) ≡ lead ++ (quoted other ++ closing ∷ (after ++ more)) =
-        sym (regroup lead (quoted value) behind rest) ∙ e ∙ regroup lead (quoted other) after more in
+    sym (regroup lead (quoted value) behind rest) ∙ e ∙ regroup lead (quoted other) after more in
     let level = cancel lead (quoted value ++ closing ∷ (behind ++ rest)) (quoted other ++ closing ∷ (after ++ more)) whole in
     let first = quoted_once value other (closing ∷ (behind ++ rest)) (closing ∷ (after ++ more)) can could level in
     (first.0, same_rest (behind ++ rest) (after ++ more) first.1)

@@ -85,15 +85,19 @@ StandsOneCase tables rows =
     row.path.steps ≡ above ++ step ∷ rest → other.path.steps ≡ above ++ beside ∷ others →
     IsInCase tables step.node choice case → IsInCase tables beside.node choice another → case ≡ another
 
--- a configuration. `IsCanonical` says of a data node's number and a text whether the text is the
--- canonical one of a value of the node's type (RFC 7950 9.1)
-pub record IsConfiguration (IsCanonical : ℕ → List ℕ → Type 0) (tables : Tables) (rows : List Row) : Type 0 where
+-- a data tree of the schema (RFC 7950 3), as the list of its rows
+pub record IsDataTree (tables : Tables) (rows : List Row) : Type 0 where
   pub paths : All (λ row. IsPathOf tables row.path) rows
   pub distinct : AllPairs (λ row later. row.path ≢ later.path) rows
   pub ordered : AllPairs (λ row later. ¬ IsBefore tables later.path row.path) rows
   pub together : StandTogether rows
   pub values : All (HasItsValue tables) rows
-  pub canonical : All (HasCanonicalValue IsCanonical tables) rows
   pub keys : KeysFollow tables rows
   pub ancestors : AncestorsStand tables rows
   pub cases : StandsOneCase tables rows
+
+-- a configuration: a data tree whose values are canonical. `IsCanonical` says of a data node's number
+-- and a text whether the text is the canonical one of a value of the node's type (RFC 7950 9.1)
+pub record IsConfiguration (IsCanonical : ℕ → List ℕ → Type 0) (tables : Tables) (rows : List Row) : Type 0 where
+  pub tree : IsDataTree tables rows
+  pub canonical : All (HasCanonicalValue IsCanonical tables) rows

@@ -1,7 +1,9 @@
 -- What follows from the definitions.
-use Rattle.std.specs.Prelude.{◌≡◌, ◌⊎◌}
-use Rattle.std.specs.List.{All}
+use Rattle.std.specs.Prelude.{◌≡◌, ◌⊎◌, ◌↔◌, List, []}
+use Rattle.std.specs.List.{All, AllPairs, Contains}
 use Rattle.nc_names.specs.declared.path.Path.{Path}
+use Rattle.nc_names.specs.declared.path.Row.{Row}
+use Rattle.nc_schema.specs.Configuration.{IsDataTree}
 use Rattle.nc_schema.specs.Tables.{Tables}
 use Rattle.nc_schema.specs.Names.{HasProperNames, HasQuotableKeys}
 use Rattle.nc_schema.specs.Paths.{NamesNodeOf}
@@ -29,3 +31,20 @@ TextNamesOnePath =
     (tables : Tables) (path other : Path) → HasProperNames tables →
     NamesNodeOf tables path → NamesNodeOf tables other → HasQuotableKeys path → HasQuotableKeys other →
     path_text_of tables path ≡ path_text_of tables other → path ≡ other
+
+-- without a row there is a data tree
+abbrev pub EmptyIsDataTree : Type 0
+EmptyIsDataTree = (tables : Tables) → IsDataTree tables []
+
+-- where the system orders every node, each row of a data tree is before all later ones
+abbrev pub RowsRise : Type 0
+RowsRise =
+    (tables : Tables) (rows : List Row) → IsDataTree tables rows → All (λ row. IsSystemOrderedPath tables row.path) rows →
+    AllPairs (λ row later. IsBefore tables row.path later.path) rows
+
+-- so there is one list of the same rows
+abbrev pub RowsAreOneList : Type 0
+RowsAreOneList =
+    (tables : Tables) (rows others : List Row) → IsDataTree tables rows → IsDataTree tables others →
+    All (λ row. IsSystemOrderedPath tables row.path) rows → All (λ row. IsSystemOrderedPath tables row.path) others →
+    ((row : Row) → Contains rows row ↔ Contains others row) → rows ≡ others

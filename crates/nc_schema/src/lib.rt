@@ -14,7 +14,10 @@ mod path_text;
 mod schema;
 mod value_type;
 
-pub use laws::{order_is_strict, order_is_total, text_names_one_path};
+pub use laws::{
+    empty_is_data_tree, order_is_strict, order_is_total, rows_are_one_list, rows_rise,
+    text_names_one_path,
+};
 pub use nc_names::Module;
 pub use node::{Case, Choice, Deny, Kind, Node};
 pub use schema::Schema;

@@ -1,4 +1,5 @@
 pub mod BeganLemmas
+pub mod IndexLemmas
 pub mod OrderLemmas
 pub mod PathTextLemmas
 pub mod TextLemmas

@@ -1,6 +1,7 @@
 pub mod Began
 pub mod Children
 pub mod Configuration
+pub mod Index
 pub mod Laws
 pub mod Names
 pub mod Order

@@ -7,6 +7,7 @@
 //! (RFC 7950 7.5 to 7.9).
 #![tactic(auto)]
 
+mod index;
 mod laws;
 mod node;
 mod nodes;

@@ -1,10 +1,12 @@
 -- What becomes of an index with the next node.
-use Rattle.std.proofs.Common.{◌≡◌, ◌≢◌, ◌⊎◌, ◌==◌, ◌&&◌, ◌+◌, ◌<◌, ℕ, zero, suc, Bool, true, false, eqb, List, [], ◌∷◌, ◌++◌, Option, Some, None, option_and_then, length, set, take, slice_get, IfSome, refl, sym, ap, subst, ◌∙◌, inl, inr, arith}
+use Rattle.std.proofs.Common.{◌≡◌, ◌≢◌, ◌⊎◌, ◌==◌, ◌&&◌, ◌+◌, ◌<◌, ◌≤◌, ℕ, zero, suc, Bool, true, false, eqb, List, [], ◌∷◌, ◌++◌, Option, Some, None, option_and_then, length, set, get_or, take, slice_get, IfSome, refl, sym, ap, subst, ◌∙◌, inl, inr, arith}
 use Rattle.std.proofs.Math.ListN.{length-set}
+use Rattle.std.proofs.Math.Seq.{take-set-lt}
+use Rattle.std.proofs.lemmas.Bool.{cases_lt, cases_order}
 use Rattle.std.proofs.lemmas.Bool.Decides.{eqb_tells}
-use Rattle.std.proofs.lemmas.List.{take_all, take-append-le, length_push}
-use Rattle.std.proofs.lemmas.List.Elements.{All-push}
-use Rattle.std.proofs.lemmas.Option.{slice_get_within}
+use Rattle.std.proofs.lemmas.List.{take_all, take-set-le, take-append-le, length_push}
+use Rattle.std.proofs.lemmas.List.Elements.{All-push, All-set}
+use Rattle.std.proofs.lemmas.Option.{slice_get-get_or, get_or_from_slice_get, slice_get_past, slice_get_within}
 use Rattle.std.proofs.lemmas.Slice.Eq.{bytes_eq-Decides}
 use Rattle.std.specs.Cmp.Lexicographic.{pointwise}
 use Rattle.std.specs.List.{All}
@@ -13,8 +15,8 @@ use Rattle.indexmap.specs.IndexMap.{IsEmpty}
 use Rattle.nc_names.specs.declared.name.QName.{QName}
 use Rattle.nc_schema.specs.declared.index.Index.{Index}
 use Rattle.nc_schema.specs.declared.node.Node.{Node}
-use Rattle.nc_schema.specs.Children.{IsChild, IsFirstChild}
-use Rattle.nc_schema.specs.Index.{Names, is_same_name, number_of, with_entry, HasEntry, known_child, IsIndexOf}
+use Rattle.nc_schema.specs.Children.{IsChild, IsFirstChild, IsAbove, HasLowerParents, HasRoom, IsListOfNodes}
+use Rattle.nc_schema.specs.Index.{Names, is_same_name, number_of, with_entry, HasEntry, known_child, IsIndexOf, IsIndexed, KeepsName}
 
 -- ---- an element of a list that grew or changed in one place
 get_kept : {X : Type 0} (xs : List X) (x : X) (i : ℕ) → i < length xs → slice_get (xs ++ x ∷ []) i ≡ slice_get xs i
@@ -145,3 +147,86 @@ module _ (nodes : List Node) (node : Node) (old new : Index) (fresh : Names) (em
 -- the parent's number is below the bound on it
 pub above_is : (parent : Option ℕ) (above : ℕ) (bound : ℕ) → parent ≡ Some above → IfSome parent (λ p. p < bound) → above < bound
 above_is parent above bound e low = subst (λ (o : Option ℕ). IfSome o (λ p. p < bound)) e low
+
+-- a node's parent is lower than its place
+pub above_at : (nodes : List Node) (place : ℕ) (node : Node) (bound : ℕ) → HasLowerParents nodes → place < length nodes → node ≡ get_or nodes place node → bound ≡ place → IfSome node.parent (λ above. above < bound)
+above_at nodes place node bound lower within here same =
+    let at : slice_get nodes place ≡ Some node = slice_get-get_or nodes place node within ∙ ap Some (sym here) in
+    subst (λ (n : ℕ). IfSome node.parent (λ above. above < n)) (sym same) (subst (λ (o : Option Node). IfSome o (λ n. IsAbove n.parent place)) at (lower place))
+
+-- ---- a node in the place of another of its name and parent
+get_taken : {X : Type 0} (xs : List X) (n i : ℕ) → i < n → slice_get (take n xs) i ≡ slice_get xs i
+get_taken [] zero i less = absurd (omega (arith, less))
+get_taken [] (suc n) i less = refl
+get_taken (x ∷ xs) zero i less = absurd (omega (arith, less))
+get_taken (x ∷ xs) (suc n) zero less = refl
+get_taken (x ∷ xs) (suc n) (suc i) less = get_taken xs n i (omega (arith, less))
+
+all_at : {X : Type 0} (P : X → Type 0) (xs : List X) (i : ℕ) (x : X) → All P xs → slice_get xs i ≡ Some x → P x
+all_at P xs i x all at = subst P (get_or_from_slice_get xs i x x at) (all i x (slice_get_within xs i x at))
+
+module _ (nodes : List Node) (number : ℕ) (node old : Node) (at : slice_get nodes number ≡ Some old) (kept : IsChild old.parent old.name node) where
+  other_too : (parent : Option ℕ) (name : QName) → ¬ IsChild parent name old → ¬ IsChild parent name node
+  other_too parent name other child = other (sym kept.0 ∙ child.0, sym kept.1 ∙ child.1)
+
+  first_in_place : (parent : Option ℕ) (name : QName) (o : Option ℕ) → IsFirstChild nodes parent name o → IsFirstChild (set nodes number node) parent name o
+  first_in_place parent name None none =
+      All-set (λ (n : Node). ¬ IsChild parent name n) nodes number node (other_too parent name (all_at (λ (n : Node). ¬ IsChild parent name n) nodes number old none at)) none
+  first_in_place parent name (Some first) ((child, stands, is), earlier) = (here (eqb_tells number first), before (cases_lt number first))
+    where
+      here : ((eqb number first ≡ true) × (number ≡ first)) ⊎ ((eqb number first ≡ false) × (number ≢ first)) → (n : Node) × (slice_get (set nodes number node) first ≡ Some n) × IsChild parent name n
+      here (inl (e, same)) =
+          let one : old ≡ child = (let both : Some old ≡ Some child = sym at ∙ ap (slice_get nodes) same ∙ stands in cc) in
+          (node, ap (slice_get (set nodes number node)) (sym same) ∙ get_set_same nodes number node (slice_get_within nodes number old at), (kept.0 ∙ ap (λ (n : Node). n.parent) one ∙ is.0, kept.1 ∙ ap (λ (n : Node). n.name) one ∙ is.1))
+      here (inr (e, other)) = (child, get_set_other nodes number first node other ∙ stands, is)
+
+      before : (number < first) ⊎ (first ≤ number) → All (λ (n : Node). ¬ IsChild parent name n) (take first (set nodes number node))
+      before (inl less) =
+          subst (All (λ (n : Node). ¬ IsChild parent name n)) (sym (take-set-lt first nodes number node less))
+          (All-set (λ (n : Node). ¬ IsChild parent name n) (take first nodes) number node (other_too parent name (all_at (λ (n : Node). ¬ IsChild parent name n) (take first nodes) number old earlier (get_taken nodes first number less ∙ at))) earlier)
+      before (inr not_less) = subst (All (λ (n : Node). ¬ IsChild parent name n)) (sym (take-set-le first nodes number node not_less)) earlier
+
+  pub index_in_place : (index : Index) → IsIndexOf nodes index → IsIndexOf (set nodes number node) index
+  index_in_place index is = record {
+    many = is.many ∙ sym (length-set nodes number node);
+    exact = λ parent name. first_in_place parent name (known_child index parent name) (is.exact parent name);
+  }
+
+-- ---- parents stay lower
+abbrev IsLowAt : List Node → ℕ → Type 0
+IsLowAt nodes number = IfSome (slice_get nodes number) (λ node. IsAbove node.parent number)
+
+low_at : (nodes : List Node) (number : ℕ) (o : Option Node) → slice_get nodes number ≡ o → IfSome o (λ node. IsAbove node.parent number) → IsLowAt nodes number
+low_at nodes number o e low = subst (λ (p : Option Node). IfSome p (λ node. IsAbove node.parent number)) (sym e) low
+
+pub list_more : (nodes : List Node) (node : Node) → IsListOfNodes nodes → HasRoom nodes → IsAbove node.parent (length nodes) → IsListOfNodes (nodes ++ node ∷ [])
+list_more nodes node list room above = record {
+  few = omega (arith, length_push nodes node, room);
+  lower = λ number. by number (cases_order number (length nodes));
+}
+  where
+    by : (number : ℕ) → (number ≡ length nodes) ⊎ ((number < length nodes) ⊎ (length nodes < number)) → IsLowAt (nodes ++ node ∷ []) number
+    by number (inl last) = low_at (nodes ++ node ∷ []) number (Some node) (ap (slice_get (nodes ++ node ∷ [])) last ∙ get_pushed nodes node) (subst (λ (n : ℕ). IsAbove node.parent n) (sym last) above)
+    by number (inr (inl within)) = low_at (nodes ++ node ∷ []) number (slice_get nodes number) (get_kept nodes node number within) (list.lower number)
+    by number (inr (inr past)) = low_at (nodes ++ node ∷ []) number None (slice_get_past (nodes ++ node ∷ []) number (omega (arith, length_push nodes node, past))) tt
+
+pub list_in_place : (nodes : List Node) (place : ℕ) (node : Node) → IsListOfNodes nodes → place < length nodes → IsAbove node.parent place → IsListOfNodes (set nodes place node)
+list_in_place nodes place node list within above = record {
+  few = omega (arith, length-set nodes place node, list.few);
+  lower = λ number. by number (eqb_tells place number);
+}
+  where
+    by : (number : ℕ) → ((eqb place number ≡ true) × (place ≡ number)) ⊎ ((eqb place number ≡ false) × (place ≢ number)) → IsLowAt (set nodes place node) number
+    by number (inl (e, same)) = low_at (set nodes place node) number (Some node) (ap (slice_get (set nodes place node)) (sym same) ∙ get_set_same nodes place node within) (subst (λ (n : ℕ). IsAbove node.parent n) same above)
+    by number (inr (e, other)) = low_at (set nodes place node) number (slice_get nodes number) (get_set_other nodes place number node other) (list.lower number)
+
+-- what the code keeps, with the next node
+pub indexed_more : (nodes : List Node) (node : Node) (index : Index) (stale : Bool) → IsListOfNodes nodes → HasRoom nodes → IsAbove node.parent (length nodes) → IsIndexOf (nodes ++ node ∷ []) index → IsIndexed (nodes ++ node ∷ []) index stale
+indexed_more nodes node index stale list room above is = record { list = list_more nodes node list room above; fresh = λ e. is }
+
+-- and with a node in the place of another
+pub indexed_in_place : (nodes : List Node) (place : ℕ) (node : Node) (index : Index) (stale now kept : Bool) → place < length nodes → IsAbove node.parent place → IsIndexed nodes index stale → (now ≡ false → (stale ≡ false) × (kept ≡ true)) → (kept ≡ true → KeepsName nodes place node) → IsIndexed (set nodes place node) index now
+indexed_in_place nodes place node index stale now kept within above is from keeps = record {
+  list = list_in_place nodes place node is.list within above;
+  fresh = λ e. (let (was, does) = from e in let (old, at, same) = keeps does in index_in_place nodes place node old at same index (is.fresh was));
+}

@@ -1,5 +1,5 @@
 -- An index of data nodes by their parents and names.
-use Rattle.std.specs.Prelude.{◌≡◌, ◌==◌, ◌&&◌, ℕ, Bool, List, Option, Some, None, cond, length, slice_get, option_and_then}
+use Rattle.std.specs.Prelude.{◌≡◌, ◌==◌, ◌&&◌, ℕ, Bool, false, List, Option, Some, None, cond, length, slice_get, option_and_then}
 use Rattle.std.specs.Cmp.Lexicographic.{pointwise}
 use Rattle.std.specs.declared.hash.BuildHasherDefault.{BuildHasherDefault}
 use Rattle.std.specs.declared.hash.FoldHasher.{FoldHasher}
@@ -7,7 +7,7 @@ use Rattle.indexmap.specs.IndexMap.{IndexMap, get}
 use Rattle.nc_names.specs.declared.name.QName.{QName}
 use Rattle.nc_schema.specs.declared.index.Index.{Index}
 use Rattle.nc_schema.specs.declared.node.Node.{Node}
-use Rattle.nc_schema.specs.Children.{IsFirstChild}
+use Rattle.nc_schema.specs.Children.{IsChild, IsFirstChild, IsListOfNodes}
 
 -- whether two names are the same
 abbrev pub is_same_name : QName → QName → Bool
@@ -38,3 +38,12 @@ known_child index (Some above) name = option_and_then (λ names. number_of names
 pub record IsIndexOf (nodes : List Node) (index : Index) : Type 0 where
   pub many : length index.below.items ≡ length nodes
   pub exact : (parent : Option ℕ) (name : QName) → IsFirstChild nodes parent name (known_child index parent name)
+
+-- the list of a schema's nodes with their index, which is of these nodes unless it is stale
+pub record IsIndexed (nodes : List Node) (index : Index) (stale : Bool) : Type 0 where
+  pub list : IsListOfNodes nodes
+  pub fresh : stale ≡ false → IsIndexOf nodes index
+
+-- the node has the name and the parent of the one in that place
+abbrev pub KeepsName : List Node → ℕ → Node → Type 0
+KeepsName nodes number node = (old : Node) × (slice_get nodes number ≡ Some old) × IsChild old.parent old.name node

@@ -1,5 +1,6 @@
 //! An index of data nodes by their parents and names, which finds a child without a walk.
 ghost use Rattle.std.specs.Prelude.{OnOk};
+ghost use Rattle.nc_schema.specs.Index.{HasEntry};
 
 use crate::Node;
 use indexmap::IndexMap;
@@ -17,8 +18,9 @@ pub(crate) struct Index {
 }
 
 impl Index {
-    ghost use Rattle.std.specs.Prelude.{◌≡◌, ◌<◌, ◌^◌, ◌++◌, [], ◌∷◌, length, List, IfSome, OnOk};
+    ghost use Rattle.std.specs.Prelude.{◌≡◌, ◌<◌, ◌^◌, ◌++◌, [], ◌∷◌, length, List, IfSome, IfOk, OnOk};
     ghost use Rattle.nc_schema.specs.declared.node.Node.{Node};
+    ghost use Rattle.nc_schema.specs.Children.{IsListOfNodes};
     ghost use Rattle.nc_schema.specs.Index.{IsIndexOf, known_child};
 
     /// The index of no nodes.
@@ -29,6 +31,18 @@ impl Index {
             top: IndexMap::new(alloc),
             below: Vec::new(alloc),
         }
+    }
+
+    /// The index of these nodes.
+    pub(crate) fn of(alloc: Global, nodes: &[Node]) -> Result<Index, Memory>
+        requires { IsListOfNodes nodes.now }
+        ensures { IfOk result (IsIndexOf nodes.now) }
+    {
+        let mut index = Index::new(alloc);
+        for node in nodes {
+            index.add(node)?;
+        }
+        Ok(index)
     }
 
     /// The number of the child of that name in that parent.
@@ -43,11 +57,12 @@ impl Index {
     }
 
     /// Adds the next node. Where memory is wanting, the index is of no use any more.
-    pub(crate) fn add(&mut self, alloc: Global, node: &Node) -> Result<(), Memory>
+    pub(crate) fn add(&mut self, node: &Node) -> Result<(), Memory>
         requires few { length self.old.below.items < 2 ^ 32 }
         requires above { IfSome node.now.parent (λ above. above < length self.old.below.items) }
         ensures { OnOk result ((nodes : List Node) → IsIndexOf nodes self.old → IsIndexOf (nodes ++ node.now ∷ []) self.new) }
     {
+        let alloc = *self.below.allocator();
         let number = self.below.len() as u32;
         match node.parent {
             None => enter(&mut self.top, &node.name, number)?,
@@ -57,8 +72,6 @@ impl Index {
         Ok(())
     }
 }
-
-ghost use Rattle.nc_schema.specs.Index.{HasEntry};
 
 /// Enters a number under a name that has none.
 fn enter(names: &mut IndexMap<QName, u32>, name: &QName, number: u32) -> Result<(), Memory>

@@ -1,9 +1,12 @@
 //! The data nodes of a schema, with an index from a parent and a name to the node.
-ghost use Rattle.std.specs.Prelude.{◌≡◌, ◌<◌, ◌^◌, ◌↔◌, [], ◌∷◌, ◌++◌, length, slice_get, slice_set, IsTrue, OnOk, OnErr};
+ghost use Rattle.std.specs.Prelude.{◌≡◌, ◌<◌, ◌^◌, ◌↔◌, false, [], ◌∷◌, ◌++◌, length, slice_get, slice_set, IsTrue, OnOk, OnErr};
 ghost use Rattle.std.specs.Option.{option_copied};
-ghost use Rattle.nc_schema.specs.Children.{IsChild, IsFirstChild, IsAbove, HasLowerParents, HasRoom};
+ghost use Rattle.std.specs.Bool.{OnTrue};
+ghost use Rattle.nc_schema.specs.Index.{IsIndexOf, KeepsName};
+ghost use Rattle.nc_schema.specs.Children.{IsChild, IsFirstChild, IsAbove, HasLowerParents, HasRoom, IsListOfNodes};
 
 use crate::Node;
+use crate::index::Index;
 use nc_names::{Many, Memory, QName, same_name};
 use std::alloc::Global;
 use std::marker::Model;
@@ -12,6 +15,9 @@ use std::marker::Model;
 #[derive(Drop)]
 pub(crate) struct Nodes {
     items: Many<Node>,
+    index: Index,
+    /// Whether a node may have got another name or parent since the index was made.
+    stale: bool,
 }
 
 impl Model for Nodes {
@@ -20,11 +26,11 @@ impl Model for Nodes {
 
     ghost Value = { List Node };
 
-    ghost use Rattle.nc_schema.specs.Children.{IsListOfNodes};
+    ghost use Rattle.nc_schema.specs.Index.{IsIndexed};
 
     ghost view = { λ n. n.items };
 
-    ghost invariant = { λ n. IsListOfNodes n.items };
+    ghost invariant = { λ n. IsIndexed n.items n.index n.stale };
 }
 
 impl Nodes {
@@ -34,6 +40,8 @@ impl Nodes {
     {
         Nodes {
             items: Many::new(alloc),
+            index: Index::new(alloc),
+            stale: false,
         }
     }
 
@@ -56,7 +64,11 @@ impl Nodes {
     pub(crate) fn child(&self, parent: Option<u32>, name: &QName) -> Option<u32>
         ensures { IsFirstChild self.now parent name.now result }
     {
-        first_child(self.items.as_slice(), parent, name)
+        if self.stale {
+            first_child(self.items.as_slice(), parent, name)
+        } else {
+            self.index.child(parent, name)
+        }
     }
 
     /// Puts a node behind the others.
@@ -66,7 +78,13 @@ impl Nodes {
         ensures ok { OnOk result (self.new ≡ self.old ++ node ∷ []) }
         ensures err { OnErr result (self.new ≡ self.old) }
     {
-        self.items.push(node)
+        let stale = self.stale;
+        self.stale = true;
+        refresh(&mut self.index, stale, self.items.as_slice())?;
+        self.index.add(&node)?;
+        self.items.push(node)?;
+        self.stale = false;
+        Ok(())
     }
 
     /// Puts a node in the place of another.
@@ -75,7 +93,32 @@ impl Nodes {
         requires above { IsAbove node.parent number }
         ensures { self.new ≡ slice_set self.old number node }
     {
+        let kept = keeps_name(self.items.as_slice(), number, &node);
+        self.stale = self.stale || !kept;
         self.items.set(number as usize, node);
+    }
+}
+
+/// Makes the index anew where it is stale.
+fn refresh(index: &mut Index, stale: bool, nodes: &[Node]) -> Result<(), Memory>
+    requires list { IsListOfNodes nodes.now }
+    requires fresh { stale ≡ false → IsIndexOf nodes.now index.old }
+    ensures { OnOk result (IsIndexOf nodes.now index.new) }
+{
+    if stale {
+        let alloc = *index.below.allocator();
+        *index = Index::of(alloc, nodes)?;
+    }
+    Ok(())
+}
+
+/// Whether the node has the name and the parent of the one in that place.
+fn keeps_name(nodes: &[Node], number: u32, node: &Node) -> bool
+    ensures { OnTrue result (KeepsName nodes.now number node.now) }
+{
+    match nodes.get(number as usize) {
+        Some(old) => is_child(node, old.parent, &old.name),
+        None => false,
     }
 }
 

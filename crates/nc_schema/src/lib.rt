@@ -13,6 +13,8 @@ mod node;
 mod nodes;
 mod path_text;
 mod schema;
+#[cfg(test)]
+mod tests;
 mod value_type;
 
 pub use laws::{

@@ -14,7 +14,7 @@ pub enum Kind {
     List,
 }
 
-/// What access control denies at a node without a rule (RFC 8341 3.2.2 and 3.4.1).
+/// What access control denies at a node without a rule (RFC 8341 3.4.5).
 #[derive(Clone, Copy, PartialEq, Eq, Debug)]
 pub enum Deny {
     /// The node has neither statement.

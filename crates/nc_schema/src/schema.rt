@@ -84,7 +84,7 @@ impl Schema {
         }
     }
 
-    /// Adds a module and answers its number.
+    /// Adds a module and answers its number. With it there are fewer than 2^32.
     pub fn add_module(&mut self, added: Module) -> Result<u32, Memory>
         requires { HasRoom self.old.modules }
         ensures number { IfOk result (λ number. number ≡ length self.old.modules) }
@@ -96,7 +96,7 @@ impl Schema {
         Ok(number)
     }
 
-    /// Adds a choice and answers its number.
+    /// Adds a choice and answers its number. With it there are fewer than 2^32.
     pub fn add_choice(&mut self, choice: Choice) -> Result<u32, Memory>
         requires { HasRoom self.old.choices }
         ensures number { IfOk result (λ number. number ≡ length self.old.choices) }
@@ -108,7 +108,7 @@ impl Schema {
         Ok(number)
     }
 
-    /// Adds a type and answers its number.
+    /// Adds a type and answers its number. With it there are fewer than 2^32.
     pub fn add_type(&mut self, value_type: ValueType) -> Result<u32, Memory>
         requires { HasRoom self.old.types }
         ensures number { IfOk result (λ number. number ≡ length self.old.types) }
@@ -120,7 +120,8 @@ impl Schema {
         Ok(number)
     }
 
-    /// Adds a data node, whose parent has a lower number, and answers its number.
+    /// Adds a data node, whose parent has a lower number, and answers its number. With it there are
+    /// fewer than 2^32.
     pub fn add_node(&mut self, node: Node) -> Result<u32, Memory>
         requires room { HasRoom self.old.nodes }
         requires above { IsAbove node.parent (length self.old.nodes) }

@@ -23,7 +23,7 @@ pub enum ValueType {
         among: Many<Between>,
     },
     /// A string whose length in characters is in one of the ranges (RFC 7950 9.4). Where `starless`
-    /// it may not begin with `*` (group names, RFC 8341 3.5).
+    /// it may not begin with `*` (group names, RFC 8341 3.5.2).
     Chars {
         lengths: Many<Between>,
         starless: bool,
@@ -64,7 +64,7 @@ pub enum ValueType {
     Instance {
         required: bool,
     },
-    /// A path to a node of the data tree, in which keys may be left out (RFC 8341 3.5,
+    /// A path to a node of the data tree, in which keys may be left out (RFC 8341 3.5.2,
     /// `node-instance-identifier`).
     NodeInstance,
 }

@@ -1,0 +1,118 @@
+-- Streams of messages (RFC 6242 4.2 and 4.3), as relations between bytes and messages.
+use Rattle.std.specs.Prelude.{◌≡◌, ◌≢◌, ℕ, ◌+◌, ◌<◌, ◌≤◌, List, [], ◌∷◌, ◌++◌, length, map}
+use Rattle.std.specs.List.{flat_map, concat, AllByRecursion}
+pub use Rattle.nc_names.specs.Mark.{mark, HasNoMark, IsMarked, with_mark}
+use Rattle.std.specs.Fmt.{decimal}
+
+-- how the messages of a stream are framed
+pub data Mode : Type 0 where
+  Marks : Mode
+  Chunks : Mode
+
+-- the bytes are these messages, each with its mark behind it, and then no whole one
+pub record EndOfMessage (bytes : List ℕ) (messages : List (List ℕ)) (rest : List ℕ) : Type 0 where
+  pub whole : bytes ≡ flat_map with_mark messages ++ rest
+  pub each : AllByRecursion IsMarked messages
+  pub partial : HasNoMark rest
+
+-- RFC 6242 4.2: LF # size LF octets, and LF # # LF behind the last chunk
+abbrev pub chunk : List ℕ → List ℕ
+chunk octets = (10 ∷ 35 ∷ decimal (length octets)) ++ 10 ∷ octets
+
+abbrev pub end_of_chunks : List ℕ
+end_of_chunks = 10 ∷ 35 ∷ 35 ∷ 10 ∷ []
+
+abbrev pub in_chunks : List (List ℕ) → List ℕ
+in_chunks chunks = flat_map chunk chunks ++ end_of_chunks
+
+-- what a size may be
+abbrev pub IsSize : ℕ → Type 0
+IsSize size = (0 < size) × (size ≤ 4294967295)
+
+abbrev pub IsChunk : List ℕ → Type 0
+IsChunk octets = IsSize (length octets)
+
+-- the chunks of a message: one or more
+abbrev pub AreChunks : List (List ℕ) → Type 0
+AreChunks chunks = (chunks ≢ []) × AllByRecursion IsChunk chunks
+
+-- the bytes are the beginning of a message in chunks, or the whole of one
+pub record BeginsChunks (bytes : List ℕ) : Type 0 where
+  pub chunks : List (List ℕ)
+  pub each : AreChunks chunks
+  pub more : List ℕ
+  pub whole : in_chunks chunks ≡ bytes ++ more
+
+-- the bytes are a proper beginning of a message in chunks
+pub record IsPartialChunks (bytes : List ℕ) : Type 0 where
+  pub chunks : List (List ℕ)
+  pub each : AreChunks chunks
+  pub more : List ℕ
+  pub some : more ≢ []
+  pub whole : in_chunks chunks ≡ bytes ++ more
+
+-- the bytes are these messages, each in chunks, and then no whole one
+pub record Chunked (bytes : List ℕ) (messages : List (List ℕ)) (rest : List ℕ) : Type 0 where
+  pub chunks : List (List (List ℕ))
+  pub each : AllByRecursion AreChunks chunks
+  pub messages_are : messages ≡ map concat chunks
+  pub whole : bytes ≡ flat_map in_chunks chunks ++ rest
+  pub partial : IsPartialChunks rest
+
+-- the bytes are this one message as it stands in a stream
+pub record IsInChunks (bytes message : List ℕ) : Type 0 where
+  pub chunks : List (List ℕ)
+  pub each : AreChunks chunks
+  pub bytes_are : bytes ≡ in_chunks chunks
+  pub message_is : message ≡ concat chunks
+
+abbrev pub IsFramed : Mode → List ℕ → List ℕ → Type 0
+IsFramed Marks bytes message = (bytes ≡ with_mark message) × IsMarked message
+IsFramed Chunks bytes message = IsInChunks bytes message
+
+-- the bytes are no whole message
+abbrev pub IsPartial : Mode → List ℕ → Type 0
+IsPartial Marks bytes = HasNoMark bytes
+IsPartial Chunks bytes = IsPartialChunks bytes
+
+-- 4,194,310 bytes hold no whole mark: the message has a byte of this place
+pub record IsTooLong (bytes : List ℕ) (place : ℕ) : Type 0 where
+  pub front : List ℕ
+  pub rest : List ℕ
+  pub bytes_are : bytes ≡ front ++ rest
+  pub many : length front ≡ 4194310
+  pub unmarked : HasNoMark front
+  pub place_is : place ≡ 4194304
+
+-- the announced sizes of the message are more than 4,194,304 in sum, with the size that the LF of this
+-- place ends
+pub record AnnouncesTooMuch (bytes : List ℕ) (place : ℕ) : Type 0 where
+  pub chunks : List (List ℕ)
+  pub each : AllByRecursion IsChunk chunks
+  pub size : ℕ
+  pub is_size : IsSize size
+  pub rest : List ℕ
+  pub bytes_are : bytes ≡ (flat_map chunk chunks ++ (10 ∷ 35 ∷ decimal size)) ++ 10 ∷ rest
+  pub before : length (concat chunks) ≤ 4194304
+  pub after : 4194304 < length (concat chunks) + size
+  pub place_is : place ≡ length (flat_map chunk chunks ++ (10 ∷ 35 ∷ decimal size))
+
+-- the message that begins with the bytes is too big, as its byte of this place shows
+abbrev pub IsTooBig : Mode → List ℕ → ℕ → Type 0
+IsTooBig Marks bytes place = IsTooLong bytes place
+IsTooBig Chunks bytes place = AnnouncesTooMuch bytes place
+
+-- no whole message, and no fault
+pub record IsUnfinished (mode : Mode) (bytes : List ℕ) : Type 0 where
+  pub partial : IsPartial mode bytes
+  pub small : (place : ℕ) → ¬ IsTooBig mode bytes place
+
+-- the byte of this place is the first that no message in chunks has there
+pub record IsBad (bytes : List ℕ) (place : ℕ) : Type 0 where
+  pub before : List ℕ
+  pub byte : ℕ
+  pub rest : List ℕ
+  pub bytes_are : bytes ≡ before ++ byte ∷ rest
+  pub unfinished : IsUnfinished Chunks before
+  pub wrong : ¬ BeginsChunks (before ++ byte ∷ [])
+  pub place_is : place ≡ length before

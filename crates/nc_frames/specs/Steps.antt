@@ -1,0 +1,68 @@
+-- The reading of chunks byte by byte. The relations of Framing stand apart from it, and laws tie both.
+use Rattle.std.specs.Prelude.{◌≡◌, ℕ, zero, suc, ◌+◌, ◌-◌, ◌*◌, nat_lt, nat_le, ◌==◌, ◌&&◌, if◌then◌else◌, List, [], ◌∷◌, ◌++◌, length, Option, Some, None}
+use Rattle.std.specs.Option.{option_and_then}
+use Rattle.nc_frames.specs.declared.header.Header.{Header}
+use Rattle.nc_frames.specs.declared.header.Header.TheVariants.{Start, Line, Hash, Size, Close}
+use Rattle.nc_frames.specs.declared.header.Step.{Step}
+use Rattle.nc_frames.specs.declared.header.Step.TheVariants.{On, Octets, Stop as Stops}
+use Rattle.nc_frames.specs.declared.header.Stop.{Stop}
+use Rattle.nc_frames.specs.declared.header.Stop.TheVariants.{End, Bad, TooBig}
+
+-- the byte behind LF #, after this many octets of the message
+abbrev pub hash_step : ℕ → ℕ → Step
+hash_step octets byte =
+    if byte == 35 && nat_lt 0 octets then On Close
+    else (if nat_lt 48 byte && nat_le byte 57 then On (Size (byte - 48)) else Stops Bad)
+
+-- the byte behind the digits of a size
+abbrev pub size_step : ℕ → ℕ → ℕ → Step
+size_step size octets byte =
+    if byte == 10 then (if nat_lt (4194304 - octets) size then Stops TooBig else Octets size)
+    else (if nat_le 48 byte && nat_le byte 57
+    then (if nat_lt 4294967295 (size * 10 + (byte - 48)) then Stops Bad else On (Size (size * 10 + (byte - 48))))
+    else Stops Bad)
+
+-- the byte behind this much of a header
+abbrev pub header_step : Header → ℕ → ℕ → Step
+header_step Start octets byte = if byte == 10 then On Line else Stops Bad
+header_step Line octets byte = if byte == 35 then On Hash else Stops Bad
+header_step Hash octets byte = hash_step octets byte
+header_step (Size size) octets byte = size_step size octets byte
+header_step Close octets byte = if byte == 10 then Stops End else Stops Bad
+
+-- how far the reading of a message has come: what there is of a header, how many octets of the chunk
+-- are still to come, and the octets of the message so far
+pub record Reading : Type 0 where
+  pub header : Header
+  pub left : ℕ
+  pub message : List ℕ
+
+abbrev pub start_of : List ℕ → Reading
+start_of message = record { header = Start; left = 0; message = message }
+
+abbrev pub start : Reading
+start = start_of []
+
+-- one step further, where the byte leads further
+abbrev pub stepped : Step → List ℕ → Option Reading
+stepped (On header) message = Some (record { header = header; left = 0; message = message })
+stepped (Octets left) message = Some (record { header = Start; left = left; message = message })
+stepped (Stops why) message = None
+
+abbrev pub step_at : Header → ℕ → List ℕ → ℕ → Option Reading
+step_at header zero message byte = stepped (header_step header (length message) byte) message
+step_at header (suc left) message byte =
+    Some (record { header = header; left = left; message = message ++ byte ∷ [] })
+
+unfoldable pub step : Reading → ℕ → Option Reading
+step s byte = step_at s.header s.left s.message byte
+
+-- the bytes, as far as each leads further
+unfoldable pub run : List ℕ → Reading → Option Reading
+run [] s = Some s
+run (byte ∷ bytes) s = option_and_then (λ t. run bytes t) (step s byte)
+
+-- the byte leads nowhere
+pub record StopsAt (s : Reading) (byte : ℕ) (why : Stop) : Type 0 where
+  pub left : s.left ≡ 0
+  pub stops : header_step s.header (length s.message) byte ≡ Stops why

@@ -1,0 +1,77 @@
+//! The writing of messages (RFC 6242 4.2 and 4.3).
+ghost use Rattle.std.specs.Prelude.{◌≡◌, ◌<◌, ◌≤◌, ◌++◌, length, OnOk, OnErr};
+ghost use Rattle.nc_frames.specs.Framing.{with_mark, chunk};
+ghost use Rattle.nc_frames.specs.Writing.{AppendsChunks, AppendsPart};
+
+use crate::marks::MARK;
+use crate::source::tail;
+use itoa::Buffer;
+use nc_names::{Bytes, Memory};
+
+/// How many octets the chunks have that are written, but for the last of a message.
+const CHUNK: usize = 65_536;
+
+/// Appends a message with the end-of-message mark behind it (RFC 6242 4.3). The body with the mark
+/// has to hold the mark only at its end, or it is read as other messages. `Memory` changes nothing.
+pub fn write_eom(body: &[u8], out: &mut Bytes) -> Result<(), Memory>
+    ensures ok { OnOk result (out.new ≡ out.old ++ with_mark body.now) }
+    ensures err { OnErr result (out.new ≡ out.old) }
+{
+    let len = out.len();
+    let written = push_marked(body, out);
+    if written.is_err() {
+        out.truncate(len);
+    }
+    written
+}
+
+fn push_marked(body: &[u8], out: &mut Bytes) -> Result<(), Memory>
+    ensures ok { OnOk result (out.new ≡ out.old ++ with_mark body.now) }
+    ensures err { OnErr result (AppendsPart out.old out.new) }
+{
+    out.push_slice(body)?;
+    out.push_slice(MARK)
+}
+
+/// Appends a message in chunks of 65,536 octets and a last one with the rest (RFC 6242 4.2).
+/// `Memory` changes nothing.
+pub fn write_chunks(body: &[u8], out: &mut Bytes) -> Result<(), Memory>
+    requires { 0 < length body.now }
+    ensures ok { OnOk result (AppendsChunks 65536 out.old out.new body.now) }
+    ensures err { OnErr result (out.new ≡ out.old) }
+{
+    let len = out.len();
+    let written = push_chunks(body, CHUNK, out);
+    if written.is_err() {
+        out.truncate(len);
+    }
+    written
+}
+
+/// Appends a message in chunks of so many octets and a last one with the rest.
+fn push_chunks(body: &[u8], size: usize, out: &mut Bytes) -> Result<(), Memory>
+    requires some { 0 < length body.now }
+    requires size { 0 < size }
+    ensures ok { OnOk result (AppendsChunks size out.old out.new body.now) }
+    ensures err { OnErr result (AppendsPart out.old out.new) }
+{
+    let mut rest = body;
+    while rest.len() > size {
+        push_chunk(&rest[..size], out)?;
+        rest = tail(rest, size);
+    }
+    push_chunk(rest, out)?;
+    out.push_slice(b"\n##\n")
+}
+
+/// Appends one chunk.
+fn push_chunk(octets: &[u8], out: &mut Bytes) -> Result<(), Memory>
+    ensures ok { OnOk result (out.new ≡ out.old ++ chunk octets.now) }
+    ensures err { OnErr result (AppendsPart out.old out.new) }
+{
+    let mut buffer = Buffer::new();
+    out.push_slice(b"\n#")?;
+    out.push_slice(buffer.format(octets.len()).as_bytes())?;
+    out.push_slice(b"\n")?;
+    out.push_slice(octets)
+}

@@ -1,0 +1,5 @@
+use Rattle.nc_schema.proofs.OrderLemmas as lemmas
+use Rattle.nc_schema.proofs.laws.order_is_strict.Goals as goal
+
+pub returns : goal.returns
+returns c = lemmas.order_is_strict

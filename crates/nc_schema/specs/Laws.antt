@@ -1,0 +1,50 @@
+-- What follows from the definitions.
+use Rattle.std.specs.Prelude.{◌≡◌, ◌⊎◌, ◌↔◌, List, []}
+use Rattle.std.specs.List.{All, AllPairs, Contains}
+use Rattle.nc_names.specs.declared.path.Path.{Path}
+use Rattle.nc_names.specs.declared.path.Row.{Row}
+use Rattle.nc_schema.specs.Configuration.{IsDataTree}
+use Rattle.nc_schema.specs.Tables.{Tables}
+use Rattle.nc_schema.specs.Names.{HasProperNames, HasQuotableKeys}
+use Rattle.nc_schema.specs.Paths.{NamesNodeOf}
+use Rattle.nc_schema.specs.PathTexts.{path_text_of}
+use Rattle.nc_schema.specs.Order.{IsSystemOrdered, IsBefore}
+
+-- no path is before itself, and what is before a path is before all that the path is before
+pub record OrderIsStrict : Type 0 where
+  pub irreflexive : (tables : Tables) (path : Path) → ¬ IsBefore tables path path
+  pub transitive : (tables : Tables) (path middle other : Path) → IsBefore tables path middle → IsBefore tables middle other → IsBefore tables path other
+
+-- the system orders each node on the path
+abbrev pub IsSystemOrderedPath : Tables → Path → Type 0
+IsSystemOrderedPath tables path = All (λ step. IsSystemOrdered tables step.node) path.steps
+
+-- of two paths on which the system orders each node, one is before the other, or they are one
+abbrev pub OrderIsTotal : Type 0
+OrderIsTotal =
+    (tables : Tables) (path other : Path) → IsSystemOrderedPath tables path →
+    IsBefore tables path other ⊎ (path ≡ other) ⊎ IsBefore tables other path
+
+-- in a schema of proper names a path text names one path
+abbrev pub TextNamesOnePath : Type 0
+TextNamesOnePath =
+    (tables : Tables) (path other : Path) → HasProperNames tables →
+    NamesNodeOf tables path → NamesNodeOf tables other → HasQuotableKeys path → HasQuotableKeys other →
+    path_text_of tables path ≡ path_text_of tables other → path ≡ other
+
+-- without a row there is a data tree
+abbrev pub EmptyIsDataTree : Type 0
+EmptyIsDataTree = (tables : Tables) → IsDataTree tables []
+
+-- where the system orders every node, each row of a data tree is before all later ones
+abbrev pub RowsRise : Type 0
+RowsRise =
+    (tables : Tables) (rows : List Row) → IsDataTree tables rows → All (λ row. IsSystemOrderedPath tables row.path) rows →
+    AllPairs (λ row later. IsBefore tables row.path later.path) rows
+
+-- so there is one list of the same rows
+abbrev pub RowsAreOneList : Type 0
+RowsAreOneList =
+    (tables : Tables) (rows others : List Row) → IsDataTree tables rows → IsDataTree tables others →
+    All (λ row. IsSystemOrderedPath tables row.path) rows → All (λ row. IsSystemOrderedPath tables row.path) others →
+    ((row : Row) → Contains rows row ↔ Contains others row) → rows ≡ others

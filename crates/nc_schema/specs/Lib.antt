@@ -1,0 +1,10 @@
+pub mod Began
+pub mod Children
+pub mod Configuration
+pub mod Index
+pub mod Laws
+pub mod Names
+pub mod Order
+pub mod Paths
+pub mod PathTexts
+pub mod Tables

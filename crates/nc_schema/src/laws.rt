@@ -1,0 +1,34 @@
+//! What follows from the definitions in `specs/`, each as the contract of a function that does
+//! nothing. A call of one makes its law known to the caller.
+ghost use Rattle.nc_schema.specs.Laws.{OrderIsStrict, OrderIsTotal, TextNamesOnePath, EmptyIsDataTree, RowsRise, RowsAreOneList};
+
+/// Document order is irreflexive and transitive.
+pub fn order_is_strict()
+    ensures { OrderIsStrict }
+{}
+
+/// Of two paths on which the system orders each node, one is before the other, or they are one.
+pub fn order_is_total()
+    ensures { OrderIsTotal }
+{}
+
+/// In a schema of proper names the text of a path names that path alone, where each key lacks one of
+/// the two kinds of quotation mark.
+pub fn text_names_one_path()
+    ensures { TextNamesOnePath }
+{}
+
+/// Without a row there is a data tree.
+pub fn empty_is_data_tree()
+    ensures { EmptyIsDataTree }
+{}
+
+/// Where the system orders every node, each row of a data tree is before all later ones.
+pub fn rows_rise()
+    ensures { RowsRise }
+{}
+
+/// Where the system orders every node, two data trees of the same rows are one list.
+pub fn rows_are_one_list()
+    ensures { RowsAreOneList }
+{}

@@ -1,0 +1,27 @@
+//! The schema of a data tree: its data nodes, choices, types and modules by their numbers, the
+//! child of a node by its name, and the path text of a node. It stands on the plain types of
+//! `nc_names`.
+//!
+//! Its specifications hold what every crate above shares: what a path of a schema is, the text of a
+//! path (RFC 7950 9.13, RFC 7951 6.11), document order, and what list of rows is a configuration
+//! (RFC 7950 7.5 to 7.9).
+#![tactic(auto)]
+
+mod index;
+mod laws;
+mod node;
+mod nodes;
+mod path_text;
+mod schema;
+#[cfg(test)]
+mod tests;
+mod value_type;
+
+pub use laws::{
+    empty_is_data_tree, order_is_strict, order_is_total, rows_are_one_list, rows_rise,
+    text_names_one_path,
+};
+pub use nc_names::Module;
+pub use node::{Case, Choice, Deny, Kind, Node};
+pub use schema::Schema;
+pub use value_type::{Between, ValueType};

@@ -1,0 +1,156 @@
+//! The text of a path (RFC 7950 9.13, RFC 7951 6.11).
+ghost use Rattle.std.specs.Prelude.{◌≡◌, [], ◌∷◌, ◌++◌, ◌==◌, IsTrue, OnOk, OnErr};
+ghost use Rattle.std.specs.List.{flat_map, list_any};
+ghost use Rattle.nc_schema.specs.Began.{Began};
+ghost use Rattle.nc_schema.specs.PathTexts.{prefixed_name, module_name, mark_round, quoted, apostrophe, key_name, key_predicate, key_predicates, value_predicate, step_predicates, step_text, path_text_of};
+
+use crate::{Kind, Schema};
+use nc_names::{Memory, Path, Step, Text};
+
+impl Schema {
+    /// Puts the text of a path of this schema at the end of `out`: an instance identifier in which
+    /// every step and every key has its module's name as prefix. Where memory is wanting, `out` has
+    /// got a beginning of the text.
+    pub fn path_text(&self, path: &Path, out: &mut Text) -> Result<(), Memory>
+        ensures ok { OnOk result (out.new ≡ out.old ++ path_text_of self.now path.now) }
+        ensures err { OnErr result (Began out.old out.new (path_text_of self.now path.now)) }
+    {
+        for step in path.steps.as_slice() {
+            write_step(self, step, out)?;
+        }
+        Ok(())
+    }
+}
+
+/// Writes one step with its predicates.
+#[tactic(auto, using(crate::proofs::BeganLemmas::began_first, crate::proofs::BeganLemmas::began_second))]
+fn write_step(schema: &Schema, step: &Step, out: &mut Text) -> Result<(), Memory>
+    ensures ok { OnOk result (out.new ≡ out.old ++ step_text schema.now step.now) }
+    ensures err { OnErr result (Began out.old out.new (step_text schema.now step.now)) }
+{
+    out.push('/')?;
+    write_name(schema, step.node, out)?;
+    write_predicates(schema, step, out)
+}
+
+/// Writes the name of a data node with its module's name as prefix.
+#[tactic(auto, using(crate::proofs::BeganLemmas::began_first, crate::proofs::BeganLemmas::began_second))]
+fn write_name(schema: &Schema, number: u32, out: &mut Text) -> Result<(), Memory>
+    ensures ok { OnOk result (out.new ≡ out.old ++ prefixed_name schema.now number) }
+    ensures err { OnErr result (Began out.old out.new (prefixed_name schema.now number)) }
+{
+    let Some(node) = schema.node(number) else {
+        return Ok(());
+    };
+    write_module(schema, node.module, out)?;
+    out.push(':')?;
+    out.push_str(node.name.name.as_str())
+}
+
+/// Writes the name of a module.
+#[tactic(auto, using(crate::proofs::BeganLemmas::began_first, crate::proofs::BeganLemmas::began_second))]
+fn write_module(schema: &Schema, number: u32, out: &mut Text) -> Result<(), Memory>
+    ensures ok { OnOk result (out.new ≡ out.old ++ module_name schema.now number) }
+    ensures err { OnErr result (Began out.old out.new (module_name schema.now number)) }
+{
+    match schema.module(number) {
+        Some(found) => out.push_str(found.name.as_str()),
+        None => Ok(()),
+    }
+}
+
+/// Writes the predicates of a step to an entry.
+#[tactic(auto, using(crate::proofs::BeganLemmas::began_first, crate::proofs::BeganLemmas::began_second))]
+fn write_predicates(schema: &Schema, step: &Step, out: &mut Text) -> Result<(), Memory>
+    ensures ok { OnOk result (out.new ≡ out.old ++ step_predicates schema.now step.now) }
+    ensures err { OnErr result (Began out.old out.new (step_predicates schema.now step.now)) }
+{
+    let Some(node) = schema.node(step.node) else {
+        return Ok(());
+    };
+    match node.kind {
+        Kind::List => write_keys(schema, node.keys.as_slice(), step.keys.as_slice(), out),
+        Kind::LeafList => write_values(step.keys.as_slice(), out),
+        Kind::Container { .. } | Kind::Leaf => Ok(()),
+    }
+}
+
+/// Writes the predicates of a list entry.
+#[tactic(auto, using(crate::proofs::BeganLemmas::began_first, crate::proofs::BeganLemmas::began_second))]
+fn write_keys(schema: &Schema, keys: &[u32], values: &[Text], out: &mut Text) -> Result<(), Memory>
+    ensures ok { OnOk result (out.new ≡ out.old ++ key_predicates schema.now keys.now values.now) }
+    ensures err { OnErr result (Began out.old out.new (key_predicates schema.now keys.now values.now)) }
+{
+    for (key, value) in keys.iter().zip(values) {
+        write_key(schema, *key, value, out)?;
+    }
+    Ok(())
+}
+
+/// Writes the predicate of one key.
+#[tactic(auto, using(crate::proofs::BeganLemmas::began_first, crate::proofs::BeganLemmas::began_second))]
+fn write_key(schema: &Schema, key: u32, value: &Text, out: &mut Text) -> Result<(), Memory>
+    ensures ok { OnOk result (out.new ≡ out.old ++ key_predicate schema.now key value.now) }
+    ensures err { OnErr result (Began out.old out.new (key_predicate schema.now key value.now)) }
+{
+    write_key_name(schema, key, out)?;
+    write_quoted(value, out)?;
+    out.push(']')
+}
+
+/// Writes the predicate of a key up to its value.
+#[tactic(auto, using(crate::proofs::BeganLemmas::began_first, crate::proofs::BeganLemmas::began_second))]
+fn write_key_name(schema: &Schema, key: u32, out: &mut Text) -> Result<(), Memory>
+    ensures ok { OnOk result (out.new ≡ out.old ++ key_name schema.now key) }
+    ensures err { OnErr result (Began out.old out.new (key_name schema.now key)) }
+{
+    out.push('[')?;
+    write_name(schema, key, out)?;
+    out.push('=')
+}
+
+/// Writes the predicate of a leaf-list entry.
+#[tactic(auto, using(crate::proofs::BeganLemmas::began_first, crate::proofs::BeganLemmas::began_second))]
+fn write_values(values: &[Text], out: &mut Text) -> Result<(), Memory>
+    ensures ok { OnOk result (out.new ≡ out.old ++ flat_map value_predicate values.now) }
+    ensures err { OnErr result (Began out.old out.new (flat_map value_predicate values.now)) }
+{
+    for value in values {
+        write_value(value, out)?;
+    }
+    Ok(())
+}
+
+/// Writes the predicate of a value of a leaf-list.
+#[tactic(auto, using(crate::proofs::BeganLemmas::began_first, crate::proofs::BeganLemmas::began_second))]
+fn write_value(value: &Text, out: &mut Text) -> Result<(), Memory>
+    ensures ok { OnOk result (out.new ≡ out.old ++ value_predicate value.now) }
+    ensures err { OnErr result (Began out.old out.new (value_predicate value.now)) }
+{
+    out.push_str("[.=")?;
+    write_quoted(value, out)?;
+    out.push(']')
+}
+
+/// Writes a value between two marks: apostrophes, unless it holds one.
+#[tactic(auto, using(crate::proofs::BeganLemmas::began_first, crate::proofs::BeganLemmas::began_second))]
+fn write_quoted(value: &Text, out: &mut Text) -> Result<(), Memory>
+    ensures ok { OnOk result (out.new ≡ out.old ++ quoted value.now) }
+    ensures err { OnErr result (Began out.old out.new (quoted value.now)) }
+{
+    let mark = mark_round(value);
+    out.push(mark)?;
+    out.push_str(value.as_str())?;
+    out.push(mark)
+}
+
+/// The mark round a value.
+fn mark_round(value: &Text) -> char
+    ensures { result ≡ mark_round value.now }
+{
+    if value.as_str().as_bytes().contains(&39) {
+        '"'
+    } else {
+        '\''
+    }
+}

@@ -1,0 +1,10 @@
+pub mod Places
+pub mod Signs
+pub mod Pieces
+pub mod Doubles
+pub mod Tokens
+pub mod Keywords
+pub mod Grammar
+pub mod Laws
+pub mod Spelling
+pub mod Lines

@@ -1,0 +1,66 @@
+//! Keywords (RFC 7950 6.1.2 and 6.2).
+ghost use Rattle.std.specs.Prelude.{◌≡◌};
+ghost use Rattle.std.specs.List.{list_all};
+ghost use Rattle.nc_yang_words.specs.Keywords.{begins_name, goes_on_name, is_identifier, is_keyword, is_plus};
+
+/// Whether an identifier may begin with the byte.
+fn begins_name(byte: u8) -> bool
+    ensures { result ≡ begins_name byte }
+{
+    matches!(byte, b'A'..=b'Z' | b'a'..=b'z' | b'_')
+}
+
+/// Whether an identifier may go on with the byte.
+fn goes_on_name(byte: u8) -> bool
+    ensures { result ≡ goes_on_name byte }
+{
+    begins_name(byte) || matches!(byte, b'0'..=b'9' | b'-' | b'.')
+}
+
+/// Whether an identifier may go on with the bytes.
+fn all_go_on(bytes: &[u8]) -> bool
+    ensures { result ≡ list_all goes_on_name bytes.now }
+{
+    bytes.iter().all(|byte| goes_on_name(*byte))
+}
+
+/// Whether the word is an identifier.
+fn is_identifier(word: &[u8]) -> bool
+    ensures { result ≡ is_identifier word.now }
+{
+    let Some((first, rest)) = word.split_first() else {
+        return false;
+    };
+    begins_name(*first) && all_go_on(rest)
+}
+
+/// Whether the word is a keyword: an identifier, or two joined by one colon.
+pub(crate) fn is_keyword(word: &[u8]) -> bool
+    ensures { result ≡ is_keyword word.now }
+{
+    let Some((first, rest)) = word.split_first() else {
+        return false;
+    };
+    if !begins_name(*first) {
+        return false;
+    }
+    for (place, byte) in rest.iter().enumerate() {
+        if *byte == b':' {
+            return is_identifier(&rest[place + 1..]);
+        }
+        if !goes_on_name(*byte) {
+            return false;
+        }
+    }
+    true
+}
+
+/// Whether the word is the sign between the parts of a quoted string.
+pub(crate) fn is_plus(word: &[u8]) -> bool
+    ensures { result ≡ is_plus word.now }
+{
+    match word {
+        [only] => *only == b'+',
+        _ => false,
+    }
+}

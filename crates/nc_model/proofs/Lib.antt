@@ -1,0 +1,7 @@
+pub mod Example
+pub mod HistoryLemmas
+pub mod ListLemmas
+pub mod PayloadLemmas
+pub mod GoodLemmas
+pub mod Orders
+pub mod SameLemmas

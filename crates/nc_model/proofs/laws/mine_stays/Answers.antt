@@ -1,0 +1,5 @@
+use Rattle.nc_model.proofs.HistoryLemmas as lemmas
+use Rattle.nc_model.proofs.laws.mine_stays.Goals as goal
+
+pub returns : goal.returns
+returns c = lemmas.mine_stays

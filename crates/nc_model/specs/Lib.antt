@@ -1,0 +1,14 @@
+pub mod Applied
+pub mod Desks
+pub mod Edited
+pub mod History
+pub mod Laws
+pub mod Payload
+pub mod Proper
+pub mod Same
+pub mod Standing
+pub mod State
+pub mod Step
+pub mod Unchecked
+pub mod Verdict
+pub mod Words

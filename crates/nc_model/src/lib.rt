@@ -1,0 +1,38 @@
+//! The server in plain terms: who asks for what, what is answered, and how the state of the
+//! datastores and sessions follows from it (RFC 6241, RFC 5717, RFC 8341).
+//!
+//! The types are what the parts of the server hand to one another. The specifications beside them
+//! are the definitions by which those parts are proved: the state, one step of it, histories of
+//! steps, and one edit of a configuration.
+#![tactic(auto)]
+
+mod access;
+mod asked;
+mod datastore;
+mod desk;
+mod edit;
+mod entry;
+mod event;
+mod laws;
+mod peer;
+mod request;
+mod same;
+#[cfg(test)]
+mod tests;
+mod verdict;
+
+pub use access::{By, Decision, Rights, Sees, Unchecked};
+pub use asked::{Asked, Default3, ErrorOption, Operation, Select, TestOption};
+pub use datastore::{Datastore, Origin};
+pub use desk::{Desk, DeskFault, Spent};
+pub use edit::{Action, Edit};
+pub use entry::{Bears, Entry};
+pub use event::{Event, Outcome};
+pub use laws::{
+    child_is_element, good_stays, histories_join, legal_histories_join, mine_grows, mine_stays,
+    one_entry_is_legal, opening_is_good,
+};
+pub use peer::Peer;
+pub use request::{Cause, Request};
+pub use same::same_rows;
+pub use verdict::Verdict;

@@ -334,6 +334,32 @@ fn faulty_words_and_setups_have_their_status(rt: HostRuntime) -> Result<(), Fail
     Ok(())
 }
 
+/// The client's hello, and the first so many bytes of a request with its mark.
+fn cut_at(alloc: Global, count: usize) -> Result<Text, Memory> {
+    let mut text = Text::from_text(alloc, HELLO)?;
+    for sign in GET.chars().take(count) {
+        text.push(sign)?;
+    }
+    Ok(text)
+}
+
+#[test]
+fn a_request_cut_at_any_byte_is_not_answered(rt: HostRuntime) -> Result<(), Fail> {
+    let alloc = rt.alloc();
+    for count in 0..GET.len() {
+        let input = cut_at(alloc, count)?;
+        let case = Case {
+            input: input.as_str(),
+            ..SAMPLE
+        };
+        assert!(rt;
+            ends_with(alloc, &case, 0, &[SERVER_HELLO])?,
+            "{count} bytes"
+        );
+    }
+    Ok(())
+}
+
 /// The client's hello, and so many bytes of a message without a mark.
 fn unfinished(alloc: Global, count: usize) -> Result<Text, Memory> {
     let mut text = Text::from_text(alloc, HELLO)?;

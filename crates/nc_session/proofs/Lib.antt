@@ -1,4 +1,5 @@
 pub mod Fetching
+pub mod NarrowAttrs
 pub mod NarrowCode
 pub mod NarrowContent
 pub mod NarrowFronts

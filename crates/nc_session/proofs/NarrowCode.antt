@@ -9,8 +9,8 @@ use Rattle.nc_message.specs.declared.tree.Attr.{Attr}
 use Rattle.nc_message.specs.declared.tree.Elem.{Elem}
 use Rattle.nc_message.specs.declared.tree.Part.{Part}
 use Rattle.nc_message.specs.declared.tree.Part.TheVariants.{Child}
-use Rattle.nc_session.specs.Narrow.{is_blank, begins_name, continues_name, is_value_byte, is_text_byte, has_section_end, is_declaration, space_in, attrs_in}
-use Rattle.nc_session.specs.NarrowReadings.{after_blanks, first_passes, prepend, attribute, attributes, run, chars_of, element, content}
+use Rattle.nc_session.specs.Narrow.{is_blank, begins_name, continues_name, is_value_byte, is_text_byte, is_declaration, space_in}
+use Rattle.nc_session.specs.NarrowReadings.{attrs_left, has_section_end, after_blanks, first_passes, prepend, attribute, attributes, run, chars_of, element, content}
 use Rattle.nc_session.proofs.NarrowFronts.{prefix_passes}
 
 -- what passes these tests is ASCII
@@ -58,7 +58,7 @@ attr_at xs i a less e =
 
 -- no declaration so far
 pub record Undeclared (xs : List Attr) (i : ℕ) : Type 0 where
-  pub attrs : attrs_in xs ≡ take i xs ++ attrs_in (drop i xs)
+  pub attrs : attrs_left xs ≡ take i xs ++ attrs_left (drop i xs)
   pub space : (above : List ℕ) → space_in above xs ≡ space_in above (drop i xs)
 
 -- What is read so far: these items, and what is left to read is in this text. The readings of both

@@ -1,5 +1,5 @@
 -- Elements and content: the readings give exactly what is spelled so.
-use Rattle.std.proofs.Common.{◌≡◌, ◌≢◌, ℕ, zero, suc, ◌+◌, ◌-◌, ◌<◌, ◌≤◌, inl, inr, Bool, true, false, cond, eqb, List, [], ◌∷◌, ◌++◌, map, length, take, drop, Option, None, Some, option_and_then, refl, sym, ap, subst, ◌∙◌, append_assoc, append-nil, take-append-drop, length-append, arith}
+use Rattle.std.proofs.Common.{◌≡◌, ◌≢◌, ℕ, zero, suc, ◌+◌, ◌-◌, ◌<◌, ◌≤◌, ◌||◌, inl, inr, Bool, true, false, cond, eqb, List, [], ◌∷◌, ◌++◌, map, length, take, drop, Option, None, Some, option_and_then, refl, sym, ap, subst, ◌∙◌, append_assoc, append-nil, take-append-drop, length-append, arith}
 use Rattle.std.specs.List.{prefix_len, starts_with, AllPass}
 use Rattle.std.proofs.lemmas.List.Elements.{All-nil}
 use Rattle.std.proofs.lemmas.Bool.Decides.{nat_tests, Decides-eqb}
@@ -8,11 +8,40 @@ use Rattle.nc_message.specs.declared.tree.Attr.{Attr}
 use Rattle.nc_message.specs.declared.tree.Elem.{Elem}
 use Rattle.nc_message.specs.declared.tree.Part.{Part}
 use Rattle.nc_message.specs.declared.tree.Part.TheVariants.{Child, Chars}
-use Rattle.nc_session.specs.Narrow.{is_blank, begins_name, is_text_byte, has_section_end, IsName, IsText, Tag, Ending, Alone, Closed, Content, Nothing, Run, Element, IsTag, IsEnding, IsContent, attr_of, spelled_tag, spelled_end, spelled, space_in, elem_of, parts_of}
-use Rattle.nc_session.specs.NarrowReadings.{after, piece, split, first_passes, prepend, start, Started, inside, element, chars_of, run, content}
+use Rattle.nc_session.specs.Narrow.{is_blank, begins_name, is_text_byte, IsName, IsText, Tag, Ending, Alone, Closed, Content, Nothing, Run, Element, IsTag, IsEnding, IsContent, attr_of, spelled_tag, spelled_end, spelled, space_in, bounds_of, elem_of, parts_of}
+use Rattle.nc_session.specs.NarrowReadings.{elem_read, has_section_end, after, piece, split, first_passes, prepend, start, Started, inside, element, chars_of, run, content}
 use Rattle.nc_session.proofs.NarrowFronts.{bind_some, bind_is, passes_all, prefix_passes, split_seam, after-is, after-gives, blanks_of, blanks_pass, piece-is, piece-gives}
 use Rattle.nc_session.proofs.NarrowCode.{behind_run, run_read, no_tag}
+use Rattle.nc_session.proofs.NarrowAttrs.{left_same}
 use Rattle.nc_session.proofs.NarrowTags.{prepend_some, choice, closing, started, start-is, StartRead, start-gives, tag_longer}
+
+or_false : (a b : Bool) → (a || b) ≡ false → (a ≡ false) × (b ≡ false)
+or_false true b h = absurd (let f : true ≡ false = h in cc f)
+or_false false b h = (refl, h)
+
+not_true : (b : Bool) → (b ≡ true → ⊥) → b ≡ false
+not_true true h = absurd (h refl)
+not_true false h = refl
+
+-- `]]>`
+abbrev mark : List ℕ
+mark = 93 ∷ 93 ∷ 62 ∷ []
+
+-- `]]>` stands nowhere where it begins at no place
+absent : (run : List ℕ) → has_section_end run ≡ false → (before behind : List ℕ) → run ≢ before ++ 93 ∷ 93 ∷ 62 ∷ behind
+absent [] none [] behind e = cc e
+absent [] none (b ∷ bs) behind e = cc e
+absent (c ∷ cs) none [] behind e =
+    let clash : true ≡ false = sym ((starts_is Decides-eqb (c ∷ cs) mark _ refl).1 behind e) ∙ (or_false (starts_with eqb (c ∷ cs) mark) (has_section_end cs) none).0 in cc clash
+absent (c ∷ cs) none (b ∷ bs) behind e =
+    let below : cs ≡ bs ++ 93 ∷ 93 ∷ 62 ∷ behind = cc e in
+    absent cs (or_false (starts_with eqb (c ∷ cs) mark) (has_section_end cs) none).1 bs behind below
+
+end_absent : (run : List ℕ) → ((before behind : List ℕ) → run ≢ before ++ 93 ∷ 93 ∷ 62 ∷ behind) → has_section_end run ≡ false
+end_absent [] h = refl
+end_absent (c ∷ cs) h =
+    let here : starts_with eqb (c ∷ cs) mark ≡ false = not_true _ (λ t. h [] (drop 3 (c ∷ cs)) ((starts_is Decides-eqb (c ∷ cs) mark _ refl).0 t)) in
+    ap (λ b. b || has_section_end cs) here ∙ end_absent cs (λ before behind e. h (c ∷ before) behind (ap (λ l. c ∷ l) e))
 
 -- text up to a byte that is none of text
 run-is : (t rest : List ℕ) → IsText t → first_passes is_text_byte rest ≡ false → run (t ++ rest) ≡ Some (t, rest)
@@ -21,7 +50,7 @@ run-is t rest is stops =
     let whole = t ++ rest in
     let n = prefix_len is_text_byte whole in
     let cut : split n whole ≡ (t, rest) = ap (λ k. split k whole) (passes_all is_text_byte t rest is.bytes stops) ∙ split_seam t rest in
-    let fine : has_section_end (take n whole) ≡ false = ap (λ p. has_section_end p.0) cut ∙ is.no_end in
+    let fine : has_section_end (take n whole) ≡ false = ap (λ p. has_section_end p.0) cut ∙ end_absent t is.no_end in
     ap (λ b. cond b None (Some (split n whole))) fine ∙ ap Some cut
 
 none_some : {A : Type 0} (b : Bool) (x v : A) → cond b None (Some x) ≡ Some v → (b ≡ false) × (x ≡ v)
@@ -35,7 +64,7 @@ run-gives t rest text e =
     let both = none_some (has_section_end (take n text)) (split n text) (t, rest) e in
     let front : take n text ≡ t = ap (λ p. p.0) both.1 in
     let behind : drop n text ≡ rest = ap (λ p. p.1) both.1 in (
-      record { bytes = subst (AllPass is_text_byte) front (prefix_passes is_text_byte text); no_end = sym (ap has_section_end front) ∙ both.0 },
+      record { bytes = subst (AllPass is_text_byte) front (prefix_passes is_text_byte text); no_end = absent t (sym (ap has_section_end front) ∙ both.0) },
       sym (take-append-drop n text) ∙ ap (λ l. l ++ drop n text) front ∙ ap (λ l. t ++ l) behind,
     )
 
@@ -51,10 +80,6 @@ element_no_blank tag (Closed blanks) inner more rest = refl
 element_no_text : (tag : Tag) (ending : Ending) (inner more : Content) (rest : List ℕ) → first_passes is_text_byte (spelled (Element tag ending inner more) rest) ≡ false
 element_no_text tag Alone inner more rest = refl
 element_no_text tag (Closed blanks) inner more rest = refl
-
-not_true : (b : Bool) → (b ≡ true → ⊥) → b ≡ false
-not_true true h = absurd (h refl)
-not_true false h = refl
 
 no_slash : (c : ℕ) → begins_name c ≡ true → c ≡ 47 → ⊥
 no_slash c h e = let clash : false ≡ true = sym (ap begins_name e) ∙ h in cc clash
@@ -105,14 +130,25 @@ attrs tag = map attr_of tag.attributes
 abbrev pub written : List ℕ → Tag → Content → Elem
 written above tag inner = elem_of above tag.name (attrs tag) (parts_of (space_in above (attrs tag)) inner)
 
+-- the element that is read is the one that is meant
+elem_same : (above : List ℕ) (tag : Tag) (parts : List Part) → IsTag tag → elem_read above tag.name (attrs tag) parts ≡ elem_of above tag.name (attrs tag) parts
+elem_same above tag parts is =
+    let made : List Attr → Elem = λ l. record {
+      name = record { space = space_in above (attrs tag); name = tag.name };
+      bounds = bounds_of (space_in above (attrs tag));
+      attrs = l;
+      parts = parts;
+    } in
+    ap made (left_same (attrs tag) is.differ)
+
 some_depth : (depth : ℕ) → 0 < depth → eqb depth 0 ≡ false
 some_depth depth h = grind (arith, nat_tests)
 
 -- how an element is read on behind its tag
 abbrev behind_start : (ℕ → List ℕ → List ℕ → Option (List Part × List ℕ)) → ℕ → List ℕ → Started × List ℕ → Option (Elem × List ℕ)
 behind_start read depth above s =
-    cond s.0.alone (Some (elem_of above s.0.name s.0.attrs [], s.1))
-    (option_and_then (λ p. Some (elem_of above s.0.name s.0.attrs p.0, p.1)) (inside read (depth - 1) (space_in above s.0.attrs) s.0.name s.1))
+    cond s.0.alone (Some (elem_read above s.0.name s.0.attrs [], s.1))
+    (option_and_then (λ p. Some (elem_read above s.0.name s.0.attrs p.0, p.1)) (inside read (depth - 1) (space_in above s.0.attrs) s.0.name s.1))
 
 element_read : (read : ℕ → List ℕ → List ℕ → Option (List Part × List ℕ)) (depth : ℕ) (above text : List ℕ) (s : Started × List ℕ)
     → 0 < depth → start text ≡ Some s → element read depth above text ≡ behind_start read depth above s
@@ -127,13 +163,14 @@ pub element-is : (read : ℕ → List ℕ → List ℕ → Option (List Part × 
     → element read depth above (spelled (Element tag ending inner Nothing) rest) ≡ Some (written above tag inner, rest)
 element-is read depth above tag Alone inner rest some is ends inside_read =
     element_read read depth above (spelled_tag tag (closing true rest)) (started tag true, rest) some (start-is tag true rest is)
-    ∙ ap (λ c. Some (written above tag c, rest)) (sym ends)
+    ∙ ap (λ x. Some (x, rest)) (elem_same above tag [] is) ∙ ap (λ c. Some (written above tag c, rest)) (sym ends)
 element-is read depth above tag (Closed blanks) inner rest some is ends inside_read =
     let space = space_in above (attrs tag) in
     let text = spelled inner (spelled_end tag.name blanks rest) in
     let within = inside-is read (depth - 1) space tag.name text blanks rest (parts_of space inner) (inside_read blanks refl) ends in
     element_read read depth above (spelled_tag tag (closing false text)) (started tag false, text) some (start-is tag false text is)
-    ∙ ap (option_and_then (λ (p : List Part × List ℕ). Some (elem_of above tag.name (attrs tag) p.0, p.1))) within
+    ∙ ap (option_and_then (λ (p : List Part × List ℕ). Some (elem_read above tag.name (attrs tag) p.0, p.1))) within
+    ∙ ap (λ x. Some (x, rest)) (elem_same above tag (parts_of space inner) is)
 
 -- what is read as content is spelled so
 pub record ContentRead (depth : ℕ) (space text : List ℕ) (parts : List Part) (rest : List ℕ) : Type 0 where
@@ -160,14 +197,15 @@ cond_none : {A : Type 0} (b : Bool) (o : Option A) (v : A) → cond b None o ≡
 cond_none true o v e = absurd (let f : None ≡ Some v = e in cc f)
 cond_none false o v e = (refl, e)
 
-elem_named : (above : List ℕ) (tag : Tag) (s : Started) (inner : Content) → started tag s.alone ≡ s → written above tag inner ≡ elem_of above s.name s.attrs (parts_of (space_in above s.attrs) inner)
-elem_named above tag s inner e = ap (λ (x : Started). elem_of above x.name x.attrs (parts_of (space_in above x.attrs) inner)) e
+elem_named : (above : List ℕ) (tag : Tag) (s : Started) (inner : Content) → IsTag tag → started tag s.alone ≡ s → written above tag inner ≡ elem_read above s.name s.attrs (parts_of (space_in above s.attrs) inner)
+elem_named above tag s inner is e = sym (elem_same above tag (parts_of (space_in above (attrs tag)) inner) is)
+    ∙ ap (λ (x : Started). elem_read above x.name x.attrs (parts_of (space_in above x.attrs) inner)) e
 
 alone_read : (depth : ℕ) (above text behind rest : List ℕ) (s : Started) (e : Elem) → 0 < depth → StartRead text s behind → s.alone ≡ true
-    → ◌≡◌ {A = Elem × List ℕ} (elem_of above s.name s.attrs [], behind) (e, rest) → ElementRead depth above text e rest
+    → ◌≡◌ {A = Elem × List ℕ} (elem_read above s.name s.attrs [], behind) (e, rest) → ElementRead depth above text e rest
 alone_read depth above text behind rest s e some st alone pair =
     let last : behind ≡ rest = ap (λ p. p.1) pair in
-    let one : elem_of above s.name s.attrs [] ≡ e = ap (λ p. p.0) pair in
+    let one : elem_read above s.name s.attrs [] ≡ e = ap (λ p. p.0) pair in
     record {
       tag = st.tag;
       ending = Alone;
@@ -176,16 +214,16 @@ alone_read depth above text behind rest s e some st alone pair =
       is = st.is;
       ends = refl;
       well = tt;
-      same = elem_named above st.tag s Nothing st.same ∙ one;
+      same = elem_named above st.tag s Nothing st.is st.same ∙ one;
       whole = st.whole ∙ ap (λ b. spelled_tag st.tag (closing b behind)) alone ∙ ap (λ l. spelled_tag st.tag (closing true l)) last;
     }
 
 closed_read : (read : ℕ → List ℕ → List ℕ → Option (List Part × List ℕ)) → ((d : ℕ) (space text : List ℕ) (parts : List Part) (rest : List ℕ) → read d space text ≡ Some (parts, rest) → ContentRead d space text parts rest)
     → (depth : ℕ) (above text behind rest rest2 : List ℕ) (s : Started) (parts : List Part) (e : Elem) → 0 < depth → StartRead text s behind → s.alone ≡ false
-    → inside read (depth - 1) (space_in above s.attrs) s.name behind ≡ Some (parts, rest2) → ◌≡◌ {A = Elem × List ℕ} (elem_of above s.name s.attrs parts, rest2) (e, rest) → ElementRead depth above text e rest
+    → inside read (depth - 1) (space_in above s.attrs) s.name behind ≡ Some (parts, rest2) → ◌≡◌ {A = Elem × List ℕ} (elem_read above s.name s.attrs parts, rest2) (e, rest) → ElementRead depth above text e rest
 closed_read read sound depth above text behind rest rest2 s parts e some st alone within pair =
     let last : rest2 ≡ rest = ap (λ p. p.1) pair in
-    let one : elem_of above s.name s.attrs parts ≡ e = ap (λ p. p.0) pair in
+    let one : elem_read above s.name s.attrs parts ≡ e = ap (λ p. p.0) pair in
     let got = inside-gives read (depth - 1) (space_in above s.attrs) s.name behind rest2 parts within in
     let inner = sound (depth - 1) (space_in above s.attrs) behind parts (spelled_end s.name got.0 rest2) got.2 in
     let named : s.name ≡ st.tag.name = sym (ap (λ (x : Started). x.name) st.same) in
@@ -197,7 +235,7 @@ closed_read read sound depth above text behind rest rest2 s parts e some st alon
       is = st.is;
       ends = got.1;
       well = inner.well;
-      same = elem_named above st.tag s inner.inner st.same ∙ ap (elem_of above s.name s.attrs) inner.same ∙ one;
+      same = elem_named above st.tag s inner.inner st.is st.same ∙ ap (elem_read above s.name s.attrs) inner.same ∙ one;
       whole =
           st.whole ∙ ap (λ b. spelled_tag st.tag (closing b behind)) alone
           ∙ ap (λ l. spelled_tag st.tag (62 ∷ l)) (inner.whole ∙ ap (λ n. spelled inner.inner (spelled_end n got.0 rest2)) named ∙ ap (λ l. spelled inner.inner (spelled_end st.tag.name got.0 l)) last);
@@ -213,10 +251,10 @@ element-gives read sound depth above text e rest h =
     let s = first.0.0 in
     let behind = first.0.1 in
     let st = start-gives text s behind first.1.0 in
-    elim (choice s.alone (elem_of above s.name s.attrs [], behind) (option_and_then (λ p. Some (elem_of above s.name s.attrs p.0, p.1)) (inside read (depth - 1) (space_in above s.attrs) s.name behind)) (e, rest) first.1.1) [
+    elim (choice s.alone (elem_read above s.name s.attrs [], behind) (option_and_then (λ p. Some (elem_read above s.name s.attrs p.0, p.1)) (inside read (depth - 1) (space_in above s.attrs) s.name behind)) (e, rest) first.1.1) [
       | inl w ↦ alone_read depth above text behind rest s e some st w.0 w.1
-      | inr w ↦ let step = bind_some (inside read (depth - 1) (space_in above s.attrs) s.name behind) (λ p. Some (elem_of above s.name s.attrs p.0, p.1)) (e, rest) w.1 in
-          closed_read read sound depth above text behind rest step.0.1 s step.0.0 e some st w.0 step.1.0 (let pair : ◌≡◌ {A = Elem × List ℕ} (elem_of above s.name s.attrs step.0.0, step.0.1) (e, rest) = cc step.1.1 in pair)
+      | inr w ↦ let step = bind_some (inside read (depth - 1) (space_in above s.attrs) s.name behind) (λ p. Some (elem_read above s.name s.attrs p.0, p.1)) (e, rest) w.1 in
+          closed_read read sound depth above text behind rest step.0.1 s step.0.0 e some st w.0 step.1.0 (let pair : ◌≡◌ {A = Elem × List ℕ} (elem_read above s.name s.attrs step.0.0, step.0.1) (e, rest) = cc step.1.1 in pair)
     ]
 
 -- text before content
@@ -326,7 +364,7 @@ chars_some [] some = absurd (some refl)
 chars_some (c ∷ cs) some = refl
 
 no_text : IsText []
-no_text = record { bytes = All-nil (λ c. is_text_byte c ≡ true); no_end = refl }
+no_text = record { bytes = All-nil (λ c. is_text_byte c ≡ true); no_end = absent [] refl }
 
 -- an end tag stands next
 abbrev pub ended : List ℕ → List ℕ

@@ -150,6 +150,20 @@ attribute-is a rest is =
 abbrev pub made : List ℕ → List ℕ → Attr
 made n v = record { name = record { space = []; name = n }; prefix = []; value = v }
 
+-- an attribute that is read, step by step
+attribute_of : (before text r1 r2 rest n v : List ℕ) (mark : ℕ) → AllPass is_blank before → before ≢ [] → IsName n → IsMark mark → AllPass (is_value_byte mark) v
+    → text ≡ n ++ r1 → r1 ≡ blanks_of r1 ++ 61 ∷ r2 → after_blanks r2 ≡ mark ∷ (v ++ mark ∷ rest)
+    → (a : Attribute) × IsAttribute a × (attr_of a ≡ made n v) × (before ++ text ≡ spelled_attribute a rest)
+attribute_of before text r1 r2 rest n v mark all some named is pass e1 e2 e3 =
+    let right : r2 ≡ blanks_of r2 ++ mark ∷ (v ++ mark ∷ rest) = blanks_first r2 ∙ ap (λ l. blanks_of r2 ++ l) e3 in
+    let behind : text ≡ n ++ (blanks_of r1 ++ 61 ∷ (blanks_of r2 ++ mark ∷ (v ++ mark ∷ rest))) =
+    e1 ∙ ap (λ l. n ++ l) e2 ∙ ap (λ l. n ++ (blanks_of r1 ++ 61 ∷ l)) right in (
+      record { before = before; name = n; left = blanks_of r1; right = blanks_of r2; mark = mark; value = v },
+      record { apart = some; before = all; name = named; left = blanks_pass r1; right = blanks_pass r2; mark = is; value = pass },
+      refl,
+      ap (λ l. before ++ l) behind,
+    )
+
 attribute-gives : (before text rest : List ℕ) (x : Attr) → AllPass is_blank before → before ≢ [] → attribute text ≡ Some (x, rest)
     → (a : Attribute) × IsAttribute a × (attr_of a ≡ x) × (before ++ text ≡ spelled_attribute a rest)
 unfolding attribute
@@ -157,22 +171,11 @@ attribute-gives before text rest x all some e =
     let step1 = bind_some (name text) _ (x, rest) e in
     let step2 = bind_some (piece (61 ∷ []) step1.0.1) _ (x, rest) step1.1.1 in
     let step3 = bind_some (quoted (after_blanks step2.0)) _ (x, rest) step2.1.1 in
-    let n = step1.0.0 in
-    let v = step3.0.0 in
-    let pair : ◌≡◌ {A = Attr × List ℕ} (made n v, step3.0.1) (x, rest) = cc step3.1.1 in
-    let one : made n v ≡ x = ap (λ p. p.0) pair in
-    let two : step3.0.1 ≡ rest = ap (λ p. p.1) pair in
-    let named = name-gives n step1.0.1 text step1.1.0 in
-    let q = quoted-gives v step3.0.1 (after_blanks step2.0) step3.1.0 in
-    let left : step1.0.1 ≡ blanks_of step1.0.1 ++ 61 ∷ step2.0 = piece-gives (61 ∷ []) step1.0.1 step2.0 step2.1.0 in
-    let right : step2.0 ≡ blanks_of step2.0 ++ q.0 ∷ (v ++ q.0 ∷ rest) =
-    blanks_first step2.0 ∙ ap (λ l. blanks_of step2.0 ++ l) (q.3 ∙ ap (λ r. q.0 ∷ (v ++ q.0 ∷ r)) two) in
-    let a : Attribute = record { before = before; name = n; left = blanks_of step1.0.1; right = blanks_of step2.0; mark = q.0; value = v } in (
-      a,
-      record { apart = some; before = all; name = named.0; left = blanks_pass step1.0.1; right = blanks_pass step2.0; mark = q.1; value = q.2 },
-      one,
-      ap (λ l. before ++ l) (named.1 ∙ ap (λ l. n ++ l) (left ∙ ap (λ l. blanks_of step1.0.1 ++ 61 ∷ l) right)),
-    )
+    let pair : ◌≡◌ {A = Attr × List ℕ} (made step1.0.0 step3.0.0, step3.0.1) (x, rest) = cc step3.1.1 in
+    let named = name-gives step1.0.0 step1.0.1 text step1.1.0 in
+    let q = quoted-gives step3.0.0 step3.0.1 (after_blanks step2.0) step3.1.0 in
+    let got = attribute_of before text step1.0.1 step2.0 step3.0.1 step1.0.0 step3.0.0 q.0 all some named.0 q.1 q.2 named.1 (piece-gives (61 ∷ []) step1.0.1 step2.0 step2.1.0) q.3 in
+    (got.0, got.1, got.2 ∙ ap (λ p. p.0) pair, got.3 ∙ ap (λ p. spelled_attribute got.0 p.1) pair)
 
 -- attributes, up to what ends the tag
 longer : (a : Attribute) (rest : List ℕ) (m : ℕ) → length (spelled_attribute a rest) < suc m → length rest < m

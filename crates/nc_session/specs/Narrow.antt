@@ -1,8 +1,8 @@
 -- Narrow messages: XML 1.0 and Namespaces in XML 1.0 over line feeds and the bytes 20 to 7E, without a
 -- declaration, comments, processing instructions, CDATA sections, a document type, references, and
 -- prefixes. A message is stated by how it is written, by the text that this gives, and by its tree.
-use Rattle.std.specs.Prelude.{◌≡◌, ◌≢◌, ◌<◌, ◌-◌, ◌==◌, ◌&&◌, ◌||◌, ◌⊎◌, ℕ, Bool, true, false, not, nat_le, nat_eq, List, [], ◌∷◌, ◌++◌, codes, map, if◌then◌else◌}
-use Rattle.std.specs.List.{AllPass, list_any, starts_with}
+use Rattle.std.specs.Prelude.{◌≡◌, ◌≢◌, ◌<◌, ◌-◌, ◌==◌, ◌&&◌, ◌||◌, ◌⊎◌, ℕ, Bool, true, false, not, nat_le, List, [], ◌∷◌, ◌++◌, codes, map, filter, if◌then◌else◌}
+use Rattle.std.specs.List.{AllPass, list_any}
 use Rattle.std.specs.Char.{is_ascii_alphabetic, is_ascii_alphanumeric}
 use Rattle.std.specs.Str.{bytes_eq}
 use Rattle.nc_names.specs.declared.name.Bound.{Bound}
@@ -41,15 +41,10 @@ is_value_byte mark c = is_plain c && not (c == mark)
 abbrev pub is_text_byte : ℕ → Bool
 is_text_byte c = is_plain c || c == 10
 
--- whether `]]>` begins at some place
-abbrev pub has_section_end : List ℕ → Bool
-has_section_end [] = false
-has_section_end (c ∷ cs) = starts_with nat_eq (c ∷ cs) (93 ∷ 93 ∷ 62 ∷ []) || has_section_end cs
-
 -- text, in which `]]>` does not stand (XML 1.0, 2.4)
 pub record IsText (run : List ℕ) : Type 0 where
   pub bytes : AllPass is_text_byte run
-  pub no_end : has_section_end run ≡ false
+  pub no_end : (before behind : List ℕ) → run ≢ before ++ 93 ∷ 93 ∷ 62 ∷ behind
 
 -- an attribute as it is written (XML 1.0, 3.1): white space, its name, white space, `=`, white space,
 -- a quotation mark, its value, and the mark again
@@ -159,10 +154,9 @@ abbrev pub space_in : (above : List ℕ) → List Attr → List ℕ
 space_in above [] = above
 space_in above (a ∷ more) = if is_declaration a then a.value else space_in above more
 
--- the attributes but the declaration, of which there is at most one
+-- the attributes but the declaration, in their order
 abbrev pub attrs_in : List Attr → List Attr
-attrs_in [] = []
-attrs_in (a ∷ more) = if is_declaration a then more else a ∷ attrs_in more
+attrs_in attrs = filter (λ a. not (is_declaration a)) attrs
 
 -- the bindings in force: that of the default namespace, if there is one
 abbrev pub bounds_of : List ℕ → List Bound

@@ -6,7 +6,7 @@ use Rattle.nc_message.specs.declared.tree.Elem.{Elem}
 use Rattle.nc_message.specs.declared.tree.Tree.{Tree}
 use Rattle.nc_message.specs.declared.tree.Part.{Part}
 use Rattle.nc_message.specs.declared.tree.Part.TheVariants.{Child, Chars}
-use Rattle.nc_session.specs.Narrow.{is_blank, begins_name, continues_name, is_value_byte, is_text_byte, has_section_end, all_differ, space_in, elem_of}
+use Rattle.nc_session.specs.Narrow.{is_blank, begins_name, continues_name, is_value_byte, is_text_byte, all_differ, is_declaration, space_in, bounds_of}
 
 infixl 10 ◌>>=◌
 abbrev pub ◌>>=◌ : {A B : Type 0} → Option A → (A → Option B) → Option B
@@ -90,17 +90,35 @@ inside read depth space name text = do
   rest ← piece (62 ∷ []) s
   Some (inner.0, rest)
 
+-- the attributes without the first declaration
+abbrev pub attrs_left : List Attr → List Attr
+attrs_left [] = []
+attrs_left (a ∷ more) = if is_declaration a then more else a ∷ attrs_left more
+
+abbrev pub elem_read : (above name : List ℕ) → List Attr → List Part → Elem
+elem_read above name attrs parts = record {
+  name = record { space = space_in above attrs; name = name };
+  bounds = bounds_of (space_in above attrs);
+  attrs = attrs_left attrs;
+  parts = parts;
+}
+
 -- an element, whose content is read by `read`
 unfoldable pub element : (ℕ → List ℕ → List ℕ → Option (List Part × List ℕ)) → ℕ → (above text : List ℕ) → Option (Elem × List ℕ)
 element read depth above text =
     if depth == 0 then None
     else (start text >>= (λ s.
-    if s.0.alone then Some (elem_of above s.0.name s.0.attrs [], s.1)
-    else (inside read (depth - 1) (space_in above s.0.attrs) s.0.name s.1 >>= (λ p. Some (elem_of above s.0.name s.0.attrs p.0, p.1)))))
+    if s.0.alone then Some (elem_read above s.0.name s.0.attrs [], s.1)
+    else (inside read (depth - 1) (space_in above s.0.attrs) s.0.name s.1 >>= (λ p. Some (elem_read above s.0.name s.0.attrs p.0, p.1)))))
 
 abbrev pub chars_of : List ℕ → List Part
 chars_of [] = []
 chars_of (c ∷ cs) = Chars (c ∷ cs) ∷ []
+
+-- whether `]]>` begins at some place
+abbrev pub has_section_end : List ℕ → Bool
+has_section_end [] = false
+has_section_end (c ∷ cs) = starts_with nat_eq (c ∷ cs) (93 ∷ 93 ∷ 62 ∷ []) || has_section_end cs
 
 -- the text up to a byte that is none of text
 unfoldable pub run : List ℕ → Option (List ℕ × List ℕ)

@@ -24,10 +24,10 @@ fn is_declaration(attr: &Attr) -> bool
 
 /// Where the declaration of the default namespace stands.
 fn find_declaration(attrs: &[Attr]) -> Option<usize>
-    ensures none { IfNone result (shapes.attrs_in attrs.now ≡ attrs.now) }
+    ensures none { IfNone result (readings.attrs_left attrs.now ≡ attrs.now) }
     ensures above { IfNone result ((above : List ℕ) → shapes.space_in above attrs.now ≡ above) }
     ensures within { IfSome result (λ place. place < length attrs.now) }
-    ensures rest { IfSome result (λ place. shapes.attrs_in attrs.now ≡ remove attrs.now place) }
+    ensures rest { IfSome result (λ place. readings.attrs_left attrs.now ≡ remove attrs.now place) }
     ensures space { IfSome result (λ place. (above : List ℕ) (attr : Attr) → slice_get attrs.now place ≡ Some attr → shapes.space_in above attrs.now ≡ attr.value) }
 {
     for (place, attr) in attrs.iter().enumerate() {
@@ -41,7 +41,7 @@ fn find_declaration(attrs: &[Attr]) -> Option<usize>
 /// Takes the declaration of the default namespace from the attributes of an element, and gives the
 /// default namespace in it.
 fn take_space(attrs: &mut Many<Attr>, above: &Text) -> Result<Text, Memory>
-    ensures { IfOk result (λ space. (space ≡ shapes.space_in above.now attrs.old) × (attrs.new ≡ shapes.attrs_in attrs.old)) }
+    ensures { IfOk result (λ space. (space ≡ shapes.space_in above.now attrs.old) × (attrs.new ≡ readings.attrs_left attrs.old)) }
 {
     let Some(place) = find_declaration(attrs.as_slice()) else {
         return above.copy();

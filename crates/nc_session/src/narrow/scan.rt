@@ -2,6 +2,7 @@
 ghost use Rattle.std.specs.Prelude.{◌≡◌, ◌≤◌, length, drop, IfOk};
 ghost use Rattle.std.specs.List.{prefix_len};
 ghost use Rattle.nc_session.specs.Narrow as shapes;
+ghost use Rattle.nc_session.specs.NarrowReadings as readings;
 ghost use Rattle.std.specs.Str.{IsAscii};
 
 use nc_names::{Memory, Text};
@@ -111,7 +112,7 @@ fn tail(bytes: &[u8], place: usize) -> &[u8]
 
 /// Whether `]]>` begins at some place (XML 1.0, 2.4).
 pub(crate) fn has_section_end(bytes: &[u8]) -> bool
-    ensures { result ≡ shapes.has_section_end bytes.now }
+    ensures { result ≡ readings.has_section_end bytes.now }
 {
     for place in 0..bytes.len() {
         if tail(bytes, place).starts_with(b"]]>") {

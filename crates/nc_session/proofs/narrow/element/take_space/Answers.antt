@@ -1,6 +1,7 @@
 use Rattle.std.proofs.Common.{◌≡◌, ◌∙◌, Some, sym, ap}
 use Rattle.std.specs.List.{remove, slice_get}
-use Rattle.nc_session.specs.Narrow.{space_in, attrs_in}
+use Rattle.nc_session.specs.Narrow.{space_in}
+use Rattle.nc_session.specs.NarrowReadings.{attrs_left}
 use Rattle.nc_session.proofs.narrow.element.take_space.Goals as goal
 
 pub returns : goal.returns
@@ -10,5 +11,5 @@ returns c =
     let at : slice_get c.as_slice.result.now place ≡ Some c.remove-value.result = ap (λ l. slice_get l place) here ∙ c.remove-value.ensures.item in
     let space = c.in-Some.ensures.space c.args.above.now c.remove-value.result at in (
       sym (sym (ap (space_in c.args.above.now) here) ∙ space),
-      c.remove-value.ensures.rest ∙ ap (λ l. remove l place) (sym here) ∙ sym c.in-Some.ensures.rest ∙ ap attrs_in here,
+      c.remove-value.ensures.rest ∙ ap (λ l. remove l place) (sym here) ∙ sym c.in-Some.ensures.rest ∙ ap attrs_left here,
     )

@@ -5,3 +5,4 @@ pub mod PayloadLemmas
 pub mod GoodLemmas
 pub mod Orders
 pub mod SameLemmas
+pub mod PlaceLemmas

@@ -7,21 +7,21 @@ use Rattle.nc_names.specs.declared.path.Row.{Row}
 use Rattle.nc_names.specs.declared.path.Step.{Step}
 use Rattle.nc_model.specs.Same.{is_same_keys, is_same_step, is_same_path, is_same_value, is_same_row, is_same_rows}
 
-first_true : (a b : Bool) → (a && b) ≡ true → a ≡ true
+pub first_true : (a b : Bool) → (a && b) ≡ true → a ≡ true
 first_true true b e = refl
 first_true false b e = e
 
-second_true : (a b : Bool) → (a && b) ≡ true → b ≡ true
+pub second_true : (a b : Bool) → (a && b) ≡ true → b ≡ true
 second_true true b e = e
 second_true false b e = cc
 
-both_true : (a b : Bool) → a ≡ true → b ≡ true → (a && b) ≡ true
+pub both_true : (a b : Bool) → a ≡ true → b ≡ true → (a && b) ≡ true
 both_true a b e f = cc
 
 keys_decide : (a b : List (List ℕ)) → Decides (is_same_keys a b) (a ≡ b)
 keys_decide = pointwise_decides bytes_decides
 
-step_decide : (a b : Step) → Decides (is_same_step a b) (a ≡ b)
+pub step_decide : (a b : Step) → Decides (is_same_step a b) (a ≡ b)
 step_decide a b =
     let numbers = Decides-eqb a.node b.node in
     let keys = keys_decide a.keys b.keys in (

@@ -1,14 +1,20 @@
 -- What follows from the definitions.
-use Rattle.std.specs.Prelude.{◌≡◌, ◌↔◌, ◌+◌, ℕ, List, [], ◌∷◌, ◌++◌, length, Option, Some}
+use Rattle.std.specs.Prelude.{◌≡◌, ◌↔◌, ◌+◌, ℕ, true, List, [], ◌∷◌, ◌++◌, length, Option, Some}
 use Rattle.nc_message.specs.declared.tree.Elem.{Elem}
 use Rattle.nc_message.specs.declared.tree.Part.TheVariants.{Child}
+use Rattle.nc_names.specs.declared.path.Path.{Path}
+use Rattle.nc_names.specs.declared.path.Place.{Place}
 use Rattle.nc_names.specs.declared.path.Row.{Row}
 use Rattle.nc_names.specs.declared.path.Step.{Step}
-use Rattle.nc_schema.specs.Configuration.{IsDataTree}
+use Rattle.nc_schema.specs.Configuration.{IsAtOrBelow, IsDataTree}
+use Rattle.nc_schema.specs.Laws.{IsSystemOrderedPath}
+use Rattle.nc_schema.specs.Order.{IsBefore}
 use Rattle.nc_schema.specs.Tables.{Tables}
 use Rattle.nc_model.specs.declared.asked.Asked.{Asked}
 use Rattle.nc_model.specs.declared.entry.Entry.{Entry}
 use Rattle.nc_model.specs.Payload.{part_edits, elem_edits}
+use Rattle.nc_model.specs.Same.{is_at_or_below}
+use Rattle.nc_model.specs.Standing.{steps_before}
 use Rattle.nc_model.specs.State.{State, IsGood, opening}
 use Rattle.nc_model.specs.Step.{Rules, Fits}
 use Rattle.nc_model.specs.History.{after, IsLegal, IsMineIn}
@@ -64,3 +70,13 @@ abbrev pub ChildIsElement : Type 0
 ChildIsElement =
     (tables : Tables) (above : List Step) (parent : Option ℕ) (earlier : List ℕ) (e : Elem) →
     part_edits tables above parent earlier (Child e) ≡ elem_edits tables above parent earlier e
+
+-- the test for a node at or below another is what it says
+abbrev pub BelowIsBelow : Type 0
+BelowIsBelow = (steps : List Step) (path : Path) → (is_at_or_below steps path ≡ true) ↔ IsAtOrBelow steps path
+
+-- where the system orders each node on a path, rows are placed in document order
+abbrev pub PlacesAreInOrder : Type 0
+PlacesAreInOrder =
+    (tables : Tables) (rows : List Row) (place : Place) (path other : Path) → IsSystemOrderedPath tables path →
+    (steps_before tables rows place [] path.steps other.steps ≡ true) ↔ IsBefore tables path other

@@ -1,6 +1,6 @@
 //! What follows from the definitions in `specs/`, each as the contract of a function that does
 //! nothing. A call of one makes its law known to the caller.
-ghost use Rattle.nc_model.specs.Laws.{HistoriesJoin, LegalHistoriesJoin, OneEntryIsLegal, MineStays, MineGrows, ChildIsElement, OpeningIsGood, GoodStays};
+ghost use Rattle.nc_model.specs.Laws.{HistoriesJoin, LegalHistoriesJoin, OneEntryIsLegal, MineStays, MineGrows, ChildIsElement, OpeningIsGood, GoodStays, BelowIsBelow, PlacesAreInOrder};
 
 /// The state after a history is that after its rest, from the state after its front.
 pub fn histories_join()
@@ -40,4 +40,14 @@ pub fn opening_is_good()
 /// A good state stays good over every legal history, where edits leave data trees.
 pub fn good_stays()
     ensures { GoodStays }
+{}
+
+/// The test for a node at or below another is what it says.
+pub fn below_is_below()
+    ensures { BelowIsBelow }
+{}
+
+/// Where the system orders each node on a path, rows are placed in document order.
+pub fn places_are_in_order()
+    ensures { PlacesAreInOrder }
 {}

@@ -1,8 +1,8 @@
 //! Each call once with ample memory.
 use crate::{
-    By, Decision, DeskFault, Peer, Rights, Sees, Unchecked, child_is_element, good_stays,
-    histories_join, legal_histories_join, mine_grows, mine_stays, one_entry_is_legal,
-    opening_is_good, same_rows,
+    By, Decision, DeskFault, Peer, Rights, Sees, Unchecked, below_is_below, child_is_element,
+    good_stays, histories_join, legal_histories_join, mine_grows, mine_stays, one_entry_is_legal,
+    opening_is_good, places_are_in_order, same_rows,
 };
 use nc_names::{Copies, Many, Memory, Path, Right, Row, Text};
 use std::test::Fail;
@@ -52,6 +52,8 @@ fn laws_take_nothing(_rt: HostRuntime) -> Result<(), Fail> {
     child_is_element();
     opening_is_good();
     good_stays();
+    below_is_below();
+    places_are_in_order();
     Ok(())
 }
 

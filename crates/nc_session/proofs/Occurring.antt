@@ -110,3 +110,13 @@ module _ (bytes new : List ℕ) (start searched : ℕ) (none : Nowhere (OccursAt
       let here : OccursAt (drop start bytes ++ more) mark k = subst N new_is occ in
       let within : k + 6 ≤ length (drop start bytes) = omega (arith, settled, length-drop start bytes) in
       none (start + k) (omega arith) (omega arith) (occurs_drop bytes start k (occurs_front (drop start bytes) more k within here))
+
+-- Some bytes are put behind the others.
+module _ (bytes new : List ℕ) (start searched : ℕ) (none : Nowhere (OccursAt bytes mark) start searched)
+    (settled : searched ≤ max start (length bytes - 5)) (more : List ℕ) (new_is : new ≡ bytes ++ more) where
+  pub pushed : Nowhere (OccursAt new mark) start searched
+  pushed k low high occ =
+      let N : List ℕ → Type 0 = λ b. OccursAt b mark k in
+      let here : OccursAt (bytes ++ more) mark k = subst N new_is occ in
+      let within : k + 6 ≤ length bytes = omega (arith, settled, low, high) in
+      none k low high (occurs_front bytes more k within here)

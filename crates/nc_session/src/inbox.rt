@@ -75,9 +75,28 @@ impl Inbox {
         ensures err { OnErr result (self.new.bytes ≡ self.old.bytes) }
         ensures place { self.new.place ≡ self.old.place }
     {
+        self.drop_passed();
+        self.push(piece)
+    }
+
+    /// Lets go of the bytes that were passed over, if there are any. What waits is moved to their place.
+    fn drop_passed(&mut self)
+        ensures { self.new ≡ self.old }
+    {
+        if self.start == 0 {
+            return;
+        }
         self.bytes.drop_front(self.start);
         self.searched -= self.start;
         self.start = 0;
+    }
+
+    /// Puts bytes behind those that are held.
+    fn push(&mut self, piece: &[u8]) -> Result<(), Memory>
+        ensures ok { OnOk result (self.new.bytes ≡ self.old.bytes ++ piece.now) }
+        ensures err { OnErr result (self.new.bytes ≡ self.old.bytes) }
+        ensures place { self.new.place ≡ self.old.place }
+    {
         self.bytes.push_slice(piece)?;
         Ok(())
     }

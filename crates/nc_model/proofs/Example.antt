@@ -24,7 +24,7 @@ use Rattle.nc_model.specs.declared.edit.Edit.{Edit}
 use Rattle.nc_model.specs.Applied.{applied}
 use Rattle.nc_model.specs.Payload.{edits_of}
 
-node : (name : List ℕ) (parent : Option ℕ) (kind : Kind) (keys : List ℕ) → Node
+unfoldable pub node : (name : List ℕ) (parent : Option ℕ) (kind : Kind) (keys : List ℕ) → Node
 node name parent kind keys = record {
   name = record { space = codes "urn:ex"; name = name };
   «module» = 0;
@@ -43,7 +43,7 @@ node name parent kind keys = record {
 }
 
 -- container top { list port { key name; leaf name } }
-tables : Tables
+unfoldable pub tables : Tables
 tables = record {
   nodes = node (codes "top") None (Container false) [] ∷ node (codes "port") (Some 0) ListKind (2 ∷ []) ∷ node (codes "name") (Some 1) Leaf [] ∷ [];
   choices = [];
@@ -54,10 +54,10 @@ tables = record {
 top : Path
 top = record { steps = record { node = 0; keys = [] } ∷ [] }
 
-port : List ℕ → Path
+unfoldable pub port : List ℕ → Path
 port key = record { steps = record { node = 0; keys = [] } ∷ record { node = 1; keys = key ∷ [] } ∷ [] }
 
-name : List ℕ → Path
+unfoldable pub name : List ℕ → Path
 name key = record { steps = record { node = 0; keys = [] } ∷ record { node = 1; keys = key ∷ [] } ∷ record { node = 2; keys = [] } ∷ [] }
 
 merge : Path → Option (List ℕ) → Edit
@@ -66,7 +66,7 @@ merge path value = record { path = path; action = Merge value; place = Kept }
 everything : Path → Right → Decision
 everything path right = record { permit = true; by = Recovery }
 
-rows_of_port : List ℕ → List Row
+unfoldable pub rows_of_port : List ℕ → List Row
 rows_of_port key = record { path = port key; value = None } ∷ record { path = name key; value = Some key } ∷ []
 
 one_port_is_merged :
@@ -84,7 +84,7 @@ another_port_is_merged :
 unfolding node tables top port name merge everything rows_of_port
 another_port_is_merged = refl
 
-element : List ℕ → List Part → Elem
+unfoldable pub element : List ℕ → List Part → Elem
 element name parts = record { name = record { space = codes "urn:ex"; name = name }; bounds = []; attrs = []; parts = parts }
 
 -- <config> <top><port><name>b</name></port></top></config>, and one whose port has no name

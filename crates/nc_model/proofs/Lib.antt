@@ -6,3 +6,4 @@ pub mod GoodLemmas
 pub mod Orders
 pub mod SameLemmas
 pub mod PlaceLemmas
+pub mod Worked

@@ -1,0 +1,106 @@
+-- A session merges port b and then port a into the candidate, and commits; and a commit that the disk
+-- refuses, and the next one.
+use Rattle.std.proofs.Common.{◌≡◌, ℕ, List, [], ◌∷◌, ◌++◌, refl}
+use Rattle.std.specs.Prelude.{codes, Option, Some, None, Ok, false, true}
+use Rattle.nc_message.specs.declared.tree.Elem.{Elem}
+use Rattle.nc_message.specs.declared.tree.Part.TheVariants.{Child, Chars}
+use Rattle.nc_message.specs.declared.tree.Part.TheBlock.{hidden-the_row-Part-0, hidden-the_row-Elem-1}
+use Rattle.nc_message.specs.declared.tree.Tree.{Tree}
+use denote.Hole.Carrier.{hidden}
+use Rattle.nc_names.specs.declared.cause.CauseKind.TheVariants.{DiskFault}
+use Rattle.nc_names.specs.declared.path.Row.{Row}
+use Rattle.nc_model.specs.declared.asked.Asked.{Asked}
+use Rattle.nc_model.specs.declared.asked.Asked.TheVariants.{EditConfig as AsksEditConfig, Commit as AsksCommit}
+use Rattle.nc_model.specs.declared.asked.Default3.TheVariants.{Merge as MergesAll}
+use Rattle.nc_model.specs.declared.asked.ErrorOption.TheVariants.{Stop}
+use Rattle.nc_model.specs.declared.asked.Operation.{Operation}
+use Rattle.nc_model.specs.declared.asked.Operation.TheVariants.{EditConfig, Commit}
+use Rattle.nc_model.specs.declared.asked.TestOption.TheVariants.{Set}
+use Rattle.nc_model.specs.declared.datastore.Datastore.TheVariants.{Candidate}
+use Rattle.nc_model.specs.declared.entry.Entry.{Entry}
+use Rattle.nc_model.specs.declared.event.Event.{Event}
+use Rattle.nc_model.specs.declared.event.Event.TheVariants.{Start, Request as Requested}
+use Rattle.nc_model.specs.declared.event.Outcome.{Outcome}
+use Rattle.nc_model.specs.declared.event.Outcome.TheVariants.{Started, Answered}
+use Rattle.nc_model.specs.declared.peer.Peer.{Peer}
+use Rattle.nc_model.specs.declared.verdict.Verdict.{Verdict}
+use Rattle.nc_model.specs.declared.verdict.Verdict.TheVariants.{Done, Refused}
+use Rattle.nc_model.specs.History.{after}
+use Rattle.nc_model.specs.State.{State, opening}
+use Rattle.nc_model.specs.Step.{Rules, outcome_of}
+use Rattle.nc_model.specs.Verdict.{rules_with}
+use Rattle.nc_model.proofs.Example.{node, tables, port, name, element, rows_of_port}
+
+reply : Tree
+reply = record { root = element (codes "rpc-reply") [] }
+
+rules : Rules
+rules = rules_with (λ schema request made. reply)
+
+alice : Peer
+alice = record { user = codes "alice"; groups = []; recovery = false }
+
+-- <config><top><port><name>..</name></port></top></config>
+with_port : List ℕ → Elem
+with_port key = element (codes "config") (Child (element (codes "top") (Child (element (codes "port") (Child (element (codes "name") (Chars key ∷ [])) ∷ [])) ∷ [])) ∷ [])
+
+request : Operation → Asked → Event
+request operation asked = Requested 1 (record { attributes = []; operation = Some operation; asked = Ok asked })
+
+merges : List ℕ → Event
+merges key = request EditConfig (AsksEditConfig Candidate MergesAll Set Stop (with_port key))
+
+commits : Event
+commits = request Commit (AsksCommit false 600 None None)
+
+-- an entry a millisecond after the one before
+entry : ℕ → Event → Outcome → (before now : ℕ) → Entry
+entry number event outcome before now =
+    record { number = number; at = number; event = event; outcome = outcome; faults_before = before; faults_after = now }
+
+state : List Row → Option (List Row) → (now faults : ℕ) → State
+state running candidate now faults = record {
+  schema = tables;
+  running = running;
+  candidate = candidate;
+  sessions = record { number = 1; peer = alice } ∷ [];
+  now = now;
+  last = 1;
+  faults = faults;
+}
+
+both : List Row
+both = rows_of_port (codes "a") ++ rows_of_port (codes "b")
+
+merged : List Entry
+merged =
+    entry 0 (Start alice) (Started 1) 0 0
+    ∷ entry 1 (merges (codes "b")) (Answered Done reply) 0 0
+    ∷ entry 2 (merges (codes "a")) (Answered Done reply) 0 0 ∷ []
+
+refused : Verdict
+refused = Refused (record { kind = DiskFault; path = None; names = [] } ∷ [])
+
+ports_are_in_candidate : after rules (opening tables [] 0) merged ≡ state [] (Some both) 2 0
+unfolding node tables port name element rows_of_port reply rules alice with_port request merges commits entry state both merged hidden-the_row-Part-0 hidden-the_row-Elem-1 hidden
+ports_are_in_candidate = refl
+
+commit_is_done : outcome_of rules (state [] (Some both) 2 0) commits false ≡ Answered Done reply
+unfolding node tables port name element rows_of_port reply rules alice request commits state both
+commit_is_done = refl
+
+ports_are_in_running : after rules (state [] (Some both) 2 0) (entry 3 commits (Answered Done reply) 0 0 ∷ []) ≡ state both None 3 0
+unfolding node tables port name element rows_of_port reply rules alice request commits entry state both
+ports_are_in_running = refl
+
+failed_commit_is_refused : outcome_of rules (state [] (Some both) 2 0) commits true ≡ Answered refused reply
+unfolding node tables port name element rows_of_port reply rules alice request commits state both refused
+failed_commit_is_refused = refl
+
+failed_commit_changes_nothing : after rules (state [] (Some both) 2 0) (entry 3 commits (Answered refused reply) 0 1 ∷ []) ≡ state [] (Some both) 3 1
+unfolding node tables port name element rows_of_port reply rules alice request commits entry state both refused
+failed_commit_changes_nothing = refl
+
+next_commit_is_done : after rules (state [] (Some both) 3 1) (entry 4 commits (Answered Done reply) 1 1 ∷ []) ≡ state both None 4 1
+unfolding node tables port name element rows_of_port reply rules alice request commits entry state both
+next_commit_is_done = refl

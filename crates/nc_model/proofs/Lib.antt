@@ -7,3 +7,4 @@ pub mod Orders
 pub mod SameLemmas
 pub mod PlaceLemmas
 pub mod Worked
+pub mod DataTree

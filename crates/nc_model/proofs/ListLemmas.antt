@@ -7,13 +7,13 @@ pub fold_join : {A B : Type 0} (f : B → A → B) (b : B) (xs ys : List A) → 
 fold_join f b [] ys = refl
 fold_join f b (x ∷ xs) ys = fold_join f (f b x) xs ys
 
-heads_same : {X : Type 0} (x y : X) (xs ys : List X) → x ∷ xs ≡ y ∷ ys → x ≡ y
+pub heads_same : {X : Type 0} (x y : X) (xs ys : List X) → x ∷ xs ≡ y ∷ ys → x ≡ y
 heads_same x y xs ys e = cc
 
-tails_same : {X : Type 0} (x y : X) (xs ys : List X) → x ∷ xs ≡ y ∷ ys → xs ≡ ys
+pub tails_same : {X : Type 0} (x y : X) (xs ys : List X) → x ∷ xs ≡ y ∷ ys → xs ≡ ys
 tails_same x y xs ys e = cc
 
-no_element : {X : Type 0} (before behind : List X) (x : X) → ¬ ([] ≡ before ++ x ∷ behind)
+pub no_element : {X : Type 0} (before behind : List X) (x : X) → ¬ ([] ≡ before ++ x ∷ behind)
 no_element [] behind x e = cc
 no_element (b ∷ before) behind x e = cc
 

@@ -25,12 +25,12 @@ below_is_below steps path =
     let starts = starts_is step_decide path.steps steps _ refl in
     ((λ e. (drop (length steps) path.steps, starts.0 e)), (λ below. starts.1 below.0 below.1))
 
-last_of : {X : Type 0} (o : Option X) (xs : List X) (x : X) → last_or o (xs ++ x ∷ []) ≡ Some x
+pub last_of : {X : Type 0} (o : Option X) (xs : List X) (x : X) → last_or o (xs ++ x ∷ []) ≡ Some x
 last_of o [] x = refl
 last_of o (y ∷ ys) x = last_of (Some y) ys x
 
 -- no step is before itself
-step_irreflexive : (tables : Tables) (at : Option ℕ) (step : Step) → ¬ StepBefore tables at step step
+pub step_irreflexive : (tables : Tables) (at : Option ℕ) (step : Step) → ¬ StepBefore tables at step step
 step_irreflexive tables at step (inl less) = omega (arith, less)
 step_irreflexive tables at step (inr (same, system, less)) =
     let tied = tied_itself (lists_total nat_list_cmp_total) step.keys in

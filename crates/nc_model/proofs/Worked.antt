@@ -25,10 +25,11 @@ use Rattle.nc_model.specs.declared.event.Outcome.TheVariants.{Started, Answered}
 use Rattle.nc_model.specs.declared.peer.Peer.{Peer}
 use Rattle.nc_model.specs.declared.verdict.Verdict.{Verdict}
 use Rattle.nc_model.specs.declared.verdict.Verdict.TheVariants.{Done, Refused}
-use Rattle.nc_model.specs.History.{after}
+use Rattle.nc_model.specs.History.{after, IsLegal}
 use Rattle.nc_model.specs.State.{State, opening}
-use Rattle.nc_model.specs.Step.{Rules, outcome_of}
+use Rattle.nc_model.specs.Step.{Rules, Fits, outcome_of}
 use Rattle.nc_model.specs.Verdict.{rules_with}
+use Rattle.nc_model.proofs.HistoryLemmas.{legal_histories_join, one_entry_is_legal}
 use Rattle.nc_model.proofs.Example.{node, tables, port, name, element, rows_of_port}
 
 reply : Tree
@@ -104,3 +105,32 @@ failed_commit_changes_nothing = refl
 next_commit_is_done : after rules (state [] (Some both) 3 1) (entry 4 commits (Answered Done reply) 1 1 ∷ []) ≡ state both None 4 1
 unfolding node tables port name element rows_of_port reply rules alice request commits entry state both
 next_commit_is_done = refl
+
+began : State
+began = state [] None 0 0
+
+with_b : State
+with_b = state [] (Some (rows_of_port (codes "b"))) 1 0
+
+start_fits : Fits rules (opening tables [] 0) (entry 0 (Start alice) (Started 1) 0 0)
+unfolding rules alice entry
+start_fits = record { outcome = refl; before = refl; faults = refl }
+
+first_fits : Fits rules began (entry 1 (merges (codes "b")) (Answered Done reply) 0 0)
+unfolding node tables port name element rows_of_port reply rules alice with_port request merges entry state began hidden-the_row-Part-0 hidden-the_row-Elem-1 hidden
+first_fits = record { outcome = refl; before = refl; faults = refl }
+
+second_fits : Fits rules with_b (entry 2 (merges (codes "a")) (Answered Done reply) 0 0)
+unfolding node tables port name element rows_of_port reply rules alice with_port request merges entry state with_b hidden-the_row-Part-0 hidden-the_row-Elem-1 hidden
+second_fits = record { outcome = refl; before = refl; faults = refl }
+
+merged_is_legal : IsLegal rules 0 (opening tables [] 0) merged
+unfolding node tables port name element rows_of_port reply rules alice with_port request merges entry state began with_b merged hidden-the_row-Part-0 hidden-the_row-Elem-1 hidden
+merged_is_legal =
+    let start = entry 0 (Start alice) (Started 1) 0 0 in
+    let first = entry 1 (merges (codes "b")) (Answered Done reply) 0 0 in
+    let second = entry 2 (merges (codes "a")) (Answered Done reply) 0 0 in
+    let later = (legal_histories_join rules 1 began (first ∷ []) (second ∷ [])).1
+    ((one_entry_is_legal rules 1 began first).1 (refl, first_fits), (one_entry_is_legal rules 2 with_b second).1 (refl, second_fits)) in
+    (legal_histories_join rules 0 (opening tables [] 0) (start ∷ []) (first ∷ second ∷ [])).1
+    ((one_entry_is_legal rules 0 (opening tables [] 0) start).1 (refl, start_fits), later)

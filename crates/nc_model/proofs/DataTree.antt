@@ -10,7 +10,7 @@ use Rattle.nc_schema.specs.Configuration.{key_rows, StandTogether, IsRowValue, H
 use Rattle.nc_schema.specs.Order.{IsBefore}
 use Rattle.nc_schema.specs.Paths.{HasAllKeys, IsPathOf}
 use Rattle.nc_model.proofs.Example.{node, tables, port, name, rows_of_port}
-use Rattle.nc_model.proofs.ListLemmas.{heads_same, tails_same, no_element}
+use Rattle.nc_model.proofs.ListLemmas.{heads_same, tails_same, no_element, some_same}
 use Rattle.nc_model.proofs.PlaceLemmas.{last_of, step_irreflexive}
 
 all_two : {X : Type 0} (P : X → Type 0) (x y : X) → P x → P y → All P (x ∷ y ∷ [])
@@ -78,9 +78,6 @@ stand_together first between last row other steps is below beyond k d within =
 -- the last step of a path
 last_step : (steps above : List Step) (step : Step) → steps ≡ above ++ step ∷ [] → last_or None steps ≡ Some step
 last_step steps above step is = ap (last_or None) is ∙ last_of None above step
-
-some_same : {X : Type 0} (x y : X) → Some x ≡ Some y → x ≡ y
-some_same x y e = cc
 
 node_at : (step other : Step) (node : Node) → step ≡ other → slice_get tables.nodes other.node ≡ Some node → slice_get tables.nodes step.node ≡ Some node
 node_at step other node same is = subst (λ (s : Step). slice_get tables.nodes s.node ≡ Some node) (sym same) is

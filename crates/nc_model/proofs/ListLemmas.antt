@@ -1,11 +1,16 @@
--- Lists: where two that are joined are cut, and what holds of each element.
-use Rattle.std.proofs.Common.{◌≡◌, ◌⊎◌, ◌≤◌, ◌+◌, Bool, true, false, cond, ℕ, zero, suc, List, [], ◌∷◌, ◌++◌, length, refl, sym, inl, inr, arith}
-use Rattle.std.specs.List.{All, AllPairs, Contains, filter, fold}
-
--- a fold over two lists is one over the second, from what that over the first gives
-pub fold_join : {A B : Type 0} (f : B → A → B) (b : B) (xs ys : List A) → fold f b (xs ++ ys) ≡ fold f (fold f b xs) ys
-fold_join f b [] ys = refl
-fold_join f b (x ∷ xs) ys = fold_join f (f b x) xs ys
+-- Lists: where two that are joined are cut, and what holds of each element; what std proves has a plain name here.
+use Rattle.std.proofs.Common.{◌≡◌, ◌⊎◌, ◌≤◌, ◌+◌, Bool, true, false, cond, ℕ, zero, suc, List, [], ◌∷◌, ◌++◌, length, Some, refl, sym, ap, ◌∙◌, inl, inr, arith}
+use Rattle.std.proofs.lemmas.Bool.{false_from_ne_true}
+use Rattle.std.proofs.lemmas.List.Elements.{All-filter, Contains-append_right}
+use Rattle.std.proofs.lemmas.List.Folds.{list_any_at}
+use Rattle.std.proofs.lemmas.Option.{get_or_from_slice_get, slice_get_within}
+use Rattle.std.specs.List.{All, Contains, filter, list_any}
+use Rattle.std.specs.Prelude.{slice_get}
+pub use Rattle.std.proofs.lemmas.List.Elements.{All-append as all_append, All-cons as all_cons, Contains-append_left as contains_more}
+pub use Rattle.std.proofs.lemmas.List.Kept.{AllPairs-cons as pairs_cons, AllPairs-filter as pairs_filter}
+pub use Rattle.std.proofs.lemmas.List.Quantifiers.{all_pairs_push as pairs_last}
+pub use Rattle.std.proofs.lemmas.List.Sums.{fold-append as fold_join}
+pub use Rattle.std.proofs.lemmas.Option.{same_Some as some_same}
 
 pub heads_same : {X : Type 0} (x y : X) (xs ys : List X) → x ∷ xs ≡ y ∷ ys → x ≡ y
 heads_same x y xs ys e = cc
@@ -16,6 +21,11 @@ tails_same x y xs ys e = cc
 pub no_element : {X : Type 0} (before behind : List X) (x : X) → ¬ ([] ≡ before ++ x ∷ behind)
 no_element [] behind x e = cc
 no_element (b ∷ before) behind x e = cc
+
+-- no list goes on from itself
+pub too_long : {X : Type 0} (xs : List X) (y : X) (ys more : List X) → ¬ (xs ≡ (xs ++ y ∷ ys) ++ more)
+too_long [] y ys more e = cc
+too_long (x ∷ xs) y ys more e = too_long xs y ys more (tails_same x x xs ((xs ++ y ∷ ys) ++ more) e)
 
 -- an element of two lists that are joined stands in the first or in the second
 pub split : {X : Type 0} (xs ys before behind : List X) (e : X) → xs ++ ys ≡ before ++ e ∷ behind →
@@ -37,36 +47,34 @@ pub one_element : {X : Type 0} (e x : X) (before behind : List X) → e ∷ [] �
 one_element e x [] behind is = (refl, heads_same e x [] behind is)
 one_element e x (y ∷ before) behind is = absurd (no_element before behind x (tails_same e y [] (before ++ x ∷ behind) is))
 
+-- a list that ends in an element, cut in two
+pub last_cut : {X : Type 0} (xs ys rest : List X) (x : X) → xs ++ x ∷ [] ≡ ys ++ rest → (rest ≡ []) ⊎ ((more : List X) × (xs ≡ ys ++ more))
+last_cut xs [] rest x e = inr (xs, refl)
+last_cut [] (y ∷ []) [] x e = inl refl
+last_cut [] (y ∷ []) (r ∷ rest) x e = absurd (no_element [] rest r (tails_same x y [] (r ∷ rest) e))
+last_cut [] (y ∷ z ∷ ys) rest x e = absurd (no_element [] (ys ++ rest) z (tails_same x y [] (z ∷ (ys ++ rest)) e))
+last_cut {X} (a ∷ xs) (y ∷ ys) rest x e = by (last_cut xs ys rest x (tails_same a y _ _ e))
+  where
+    by : (rest ≡ []) ⊎ ((more : List X) × (xs ≡ ys ++ more)) → (rest ≡ []) ⊎ ((more : List X) × (a ∷ xs ≡ y ∷ (ys ++ more)))
+    by (inl none) = inl none
+    by (inr (more, is)) = inr (more, (λ i. heads_same a y _ _ e i ∷ is i))
+
 pub all_one : {X : Type 0} (P : X → Type 0) (x : X) → P x → All P (x ∷ [])
 all_one P x p zero d within = p
 all_one P x p (suc k) d within = absurd (omega (arith, within))
 
-pub all_append : {X : Type 0} (P : X → Type 0) (xs ys : List X) → All P xs → All P ys → All P (xs ++ ys)
-all_append P [] ys a b k d within = b k d within
-all_append P (x ∷ xs) ys a b zero d within = a 0 d (omega arith)
-all_append P (x ∷ xs) ys a b (suc k) d within = all_append P xs ys (λ j c w. a (suc j) c (omega (arith, w))) b k d (omega (arith, within))
-
--- pairs with one more at the end
-pub pairs_last : {X : Type 0} (R : X → X → Type 0) (xs : List X) (e : X) → AllPairs R xs → All (λ x. R x e) xs → AllPairs R (xs ++ e ∷ [])
-pairs_last R [] e p a i j d less within = absurd (omega (arith, less, within))
-pairs_last R (x ∷ xs) e p a zero zero d less within = absurd (omega (arith, less))
-pairs_last R (x ∷ xs) e p a zero (suc j) d less within =
-    all_append (R x) xs (e ∷ []) (λ k c w. p 0 (suc k) c (omega arith) (omega (arith, w))) (all_one (R x) e (a 0 e (omega arith))) j d (omega (arith, within))
-pairs_last R (x ∷ xs) e p a (suc i) zero d less within = absurd (omega (arith, less))
-pairs_last R (x ∷ xs) e p a (suc i) (suc j) d less within =
-    pairs_last R xs e (λ k l c m w. p (suc k) (suc l) c (omega (arith, m)) (omega (arith, w))) (λ k c w. a (suc k) c (omega (arith, w))) i j d (omega (arith, less)) (omega (arith, within))
-
-contains_behind : {X : Type 0} (y : X) (xs : List X) (x : X) → Contains xs x → Contains (y ∷ xs) x
+pub contains_behind : {X : Type 0} (y : X) (xs : List X) (x : X) → Contains xs x → Contains (y ∷ xs) x
 contains_behind y xs x (k, within, here) = (suc k, omega (arith, within), here)
 
-pub contains_more : {X : Type 0} (xs ys : List X) (x : X) → Contains xs x → Contains (xs ++ ys) x
-contains_more [] ys x (k, within, here) = absurd (omega (arith, within))
-contains_more (y ∷ xs) ys x (zero, within, here) = (0, omega arith, here)
-contains_more (y ∷ xs) ys x (suc k, within, here) = contains_behind y (xs ++ ys) x (contains_more xs ys x (k, omega (arith, within), here))
+pub contains_here : {X : Type 0} (before behind : List X) (x : X) → Contains (before ++ x ∷ behind) x
+contains_here before behind x = Contains-append_right before (x ∷ behind) x (0, omega arith, refl)
 
 pub contains_last : {X : Type 0} (xs : List X) (x : X) → Contains (xs ++ x ∷ []) x
-contains_last [] x = (0, omega arith, refl)
-contains_last (y ∷ xs) x = contains_behind y (xs ++ x ∷ []) x (contains_last xs x)
+contains_last xs x = contains_here xs [] x
+
+-- an element that is read at a place
+pub contains_at : {X : Type 0} (xs : List X) (place : ℕ) (x : X) → slice_get xs place ≡ Some x → Contains xs x
+contains_at xs place x is = (place, slice_get_within xs place x is, get_or_from_slice_get xs place x x is)
 
 -- where an element stands
 pub contains_split : {X : Type 0} (xs : List X) (x : X) → Contains xs x → (before : List X) × (behind : List X) × (xs ≡ before ++ x ∷ behind)
@@ -77,34 +85,13 @@ contains_split {X} (y ∷ xs) x (suc k, within, here) = by (contains_split xs x 
     by : (before : List X) × (behind : List X) × (xs ≡ before ++ x ∷ behind) → (before : List X) × (behind : List X) × (y ∷ xs ≡ before ++ x ∷ behind)
     by (before, behind, is) = (y ∷ before, behind, (λ i. y ∷ is i))
 
-all_cons : {X : Type 0} (P : X → Type 0) (x : X) (xs : List X) → P x → All P xs → All P (x ∷ xs)
-all_cons P x xs p a zero d within = p
-all_cons P x xs p a (suc k) d within = a k d (omega (arith, within))
-
-pairs_cons : {X : Type 0} (R : X → X → Type 0) (x : X) (xs : List X) → All (R x) xs → AllPairs R xs → AllPairs R (x ∷ xs)
-pairs_cons R x xs a p zero zero d less within = absurd (omega (arith, less))
-pairs_cons R x xs a p zero (suc j) d less within = a j d (omega (arith, within))
-pairs_cons R x xs a p (suc i) zero d less within = absurd (omega (arith, less))
-pairs_cons R x xs a p (suc i) (suc j) d less within = p i j d (omega (arith, less)) (omega (arith, within))
-
-all_either : {X : Type 0} (P : X → Type 0) (x : X) (xs : List X) (b : Bool) → P x → All P xs → All P (cond b (x ∷ xs) xs)
-all_either P x xs true p a = all_cons P x xs p a
-all_either P x xs false p a = a
-
 pub all_filter : {X : Type 0} (P : X → Type 0) (t : X → Bool) (xs : List X) → All P xs → All P (filter t xs)
-all_filter P t [] a = a
-all_filter P t (x ∷ xs) a =
-    all_either P x (filter t xs) (t x) (a 0 x (omega arith)) (all_filter P t xs (λ k d within. a (suc k) d (omega (arith, within))))
+all_filter P t xs all = All-filter t P xs all
 
-pairs_either : {X : Type 0} (R : X → X → Type 0) (x : X) (xs : List X) (b : Bool) → All (R x) xs → AllPairs R xs → AllPairs R (cond b (x ∷ xs) xs)
-pairs_either R x xs true a p = pairs_cons R x xs a p
-pairs_either R x xs false a p = p
-
-pub pairs_filter : {X : Type 0} (R : X → X → Type 0) (t : X → Bool) (xs : List X) → AllPairs R xs → AllPairs R (filter t xs)
-pairs_filter R t [] p = p
-pairs_filter R t (x ∷ xs) p =
-    pairs_either R x (filter t xs) (t x) (all_filter (R x) t xs (λ k d within. p 0 (suc k) d (omega arith) (omega (arith, within))))
-    (pairs_filter R t xs (λ i j d less within. p (suc i) (suc j) d (omega (arith, less)) (omega (arith, within))))
+-- where no element passes a test, one of them does not
+pub none_passes : {X : Type 0} (p : X → Bool) (xs : List X) (x : X) → list_any p xs ≡ false → Contains xs x → p x ≡ false
+none_passes p xs x none (k, within, here) =
+    false_from_ne_true (p x) (λ passes. let clash : true ≡ false = sym (list_any_at p xs k x within (ap p here ∙ passes)) ∙ none in cc)
 
 either_shorter : {X : Type 0} (x : X) (xs : List X) (b : Bool) (n : ℕ) → length xs ≤ n → length (cond b (x ∷ xs) xs) ≤ n + 1
 either_shorter x xs true n h = omega (arith, h)

@@ -14,7 +14,7 @@ use Rattle.nc_model.specs.declared.request.Cause.{Cause}
 use Rattle.nc_model.specs.Laws.{ChildIsElement}
 use Rattle.nc_model.specs.Payload.{part_edits, parts_edits, list_edits, numbered_edits, child_number, with_more, with_number}
 
-parts_are : (tables : Tables) (above : List Step) (parent : Option ℕ) (earlier : List ℕ) (n : _) (row : Row_of-Part n) →
+pub parts_are : (tables : Tables) (above : List Step) (parent : Option ℕ) (earlier : List ℕ) (n : _) (row : Row_of-Part n) →
     parts_edits tables above parent earlier row ≡ list_edits tables above parent earlier (items-the_row-Part n row)
 parts_are tables above parent earlier n end_of-Part = refl
 parts_are tables above parent earlier n (more_of-Part part rest) =

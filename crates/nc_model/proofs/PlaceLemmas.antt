@@ -37,12 +37,12 @@ step_irreflexive tables at step (inr (same, system, less)) =
     let clash : Less ≡ Equal = sym less ∙ tied in
     cc
 
-less_is : (o : Ordering) → is_less o ≡ true → o ≡ Less
+pub less_is : (o : Ordering) → is_less o ≡ true → o ≡ Less
 less_is Less e = refl
 less_is Equal e = cc
 less_is Greater e = cc
 
-or_cases : (a b : Bool) → (a || b) ≡ true → (a ≡ true) ⊎ (b ≡ true)
+pub or_cases : (a b : Bool) → (a || b) ≡ true → (a ≡ true) ⊎ (b ≡ true)
 or_cases true b e = inl refl
 or_cases false b e = inr e
 
@@ -67,7 +67,7 @@ sibling_to tables at order step other system e = go (or_cases _ _ e)
         let entry = second_true (step.node == other.node) (entry_before tables order step other) both in
         inr ((Decides-eqb step.node other.node).0 number, system, less_is _ (sym (by_keys tables order step other system) ∙ entry))
 
-sibling_from : (tables : Tables) (at : Option ℕ) (order : List (List (List ℕ))) (step other : Step) →
+pub sibling_from : (tables : Tables) (at : Option ℕ) (order : List (List (List ℕ))) (step other : Step) →
     StepBefore tables at step other → sibling_before tables (keys_above tables at) order step other ≡ true
 sibling_from tables at order step other (inl less) = or_first _ _ (lt-ltb _ _ less)
   where

@@ -1,5 +1,5 @@
 -- Two steps, paths, values or rows are the same exactly where they are equal.
-use Rattle.std.proofs.Common.{◌≡◌, ◌==◌, ◌&&◌, ℕ, Bool, true, false, List, refl}
+use Rattle.std.proofs.Common.{◌≡◌, ◌==◌, ◌&&◌, ℕ, Bool, true, false, List, refl, ◌≢◌, sym, ◌∙◌}
 use Rattle.std.specs.Prelude.{Option, Some, None, Decides}
 use Rattle.std.specs.Cmp.Lexicographic.{pointwise_decides, bytes_decides}
 use Rattle.std.proofs.lemmas.Bool.Decides.{Decides-eqb}
@@ -18,7 +18,7 @@ second_true false b e = cc
 pub both_true : (a b : Bool) → a ≡ true → b ≡ true → (a && b) ≡ true
 both_true a b e f = cc
 
-keys_decide : (a b : List (List ℕ)) → Decides (is_same_keys a b) (a ≡ b)
+pub keys_decide : (a b : List (List ℕ)) → Decides (is_same_keys a b) (a ≡ b)
 keys_decide = pointwise_decides bytes_decides
 
 pub step_decide : (a b : Step) → Decides (is_same_step a b) (a ≡ b)
@@ -31,6 +31,13 @@ step_decide a b =
       }),
       (λ e. both_true (a.node == b.node) (is_same_keys a.keys b.keys) (numbers.1 (λ i. (e i).node)) (keys.1 (λ i. (e i).keys))),
     )
+
+pub step_itself : (step : Step) → is_same_step step step ≡ true
+step_itself step = (step_decide step step).1 refl
+
+-- where the test fails, two steps differ
+pub steps_differ : (a b : Step) → is_same_step a b ≡ false → a ≢ b
+steps_differ a b other same = let is = (step_decide a b).1 same in let clash : true ≡ false = sym is ∙ other in cc
 
 path_decide : (a b : List Step) → Decides (is_same_path a b) (a ≡ b)
 path_decide = pointwise_decides step_decide

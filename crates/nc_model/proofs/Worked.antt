@@ -1,7 +1,8 @@
 -- A session merges port b and then port a into the candidate, and commits; and a commit that the disk
 -- refuses, and the next one.
-use Rattle.std.proofs.Common.{◌≡◌, ℕ, List, [], ◌∷◌, ◌++◌, refl}
-use Rattle.std.specs.Prelude.{codes, Option, Some, None, Ok, false, true}
+use Rattle.std.proofs.Common.{◌≡◌, ◌≢◌, ℕ, zero, suc, List, [], ◌∷◌, ◌++◌, refl, sym, ap, subst, ◌∙◌, arith}
+use Rattle.std.specs.List.{AllPairs, Contains}
+use Rattle.std.specs.Prelude.{IsSomeAnd, slice_get, codes, Option, Some, None, Ok, false, true}
 use Rattle.nc_message.specs.declared.tree.Elem.{Elem}
 use Rattle.nc_message.specs.declared.tree.Part.TheVariants.{Child, Chars}
 use Rattle.nc_message.specs.declared.tree.Part.TheBlock.{hidden-the_row-Part-0, hidden-the_row-Elem-1}
@@ -9,6 +10,9 @@ use Rattle.nc_message.specs.declared.tree.Tree.{Tree}
 use denote.Hole.Carrier.{hidden}
 use Rattle.nc_names.specs.declared.cause.CauseKind.TheVariants.{DiskFault}
 use Rattle.nc_names.specs.declared.path.Row.{Row}
+use Rattle.nc_schema.specs.declared.node.Node.{Node}
+use Rattle.nc_schema.specs.ProperNodes.{HoldsNodes, IsKeyIn, HasProperNodes}
+use Rattle.nc_schema.proofs.TreeLemmas.{empty_is_data_tree}
 use Rattle.nc_model.specs.declared.asked.Asked.{Asked}
 use Rattle.nc_model.specs.declared.asked.Asked.TheVariants.{EditConfig as AsksEditConfig, Commit as AsksCommit}
 use Rattle.nc_model.specs.declared.asked.Default3.TheVariants.{Merge as MergesAll}
@@ -26,9 +30,11 @@ use Rattle.nc_model.specs.declared.peer.Peer.{Peer}
 use Rattle.nc_model.specs.declared.verdict.Verdict.{Verdict}
 use Rattle.nc_model.specs.declared.verdict.Verdict.TheVariants.{Done, Refused}
 use Rattle.nc_model.specs.History.{after, IsLegal}
-use Rattle.nc_model.specs.State.{State, opening}
+use Rattle.nc_model.specs.State.{State, IsGood, opening}
 use Rattle.nc_model.specs.Step.{Rules, Fits, outcome_of}
 use Rattle.nc_model.specs.Verdict.{rules_with}
+use Rattle.nc_model.proofs.GoodLemmas.{opening_is_good, good_stays}
+use Rattle.nc_model.proofs.ListLemmas.{some_same}
 use Rattle.nc_model.proofs.HistoryLemmas.{legal_histories_join, one_entry_is_legal}
 use Rattle.nc_model.proofs.Example.{node, tables, port, name, element, rows_of_port}
 
@@ -134,3 +140,48 @@ merged_is_legal =
     ((one_entry_is_legal rules 1 began first).1 (refl, first_fits), (one_entry_is_legal rules 2 with_b second).1 (refl, second_fits)) in
     (legal_histories_join rules 0 (opening tables [] 0) (start ∷ []) (first ∷ second ∷ [])).1
     ((one_entry_is_legal rules 0 (opening tables [] 0) start).1 (refl, start_fits), later)
+
+-- the nodes of the schema are such as modules define
+nodes_are_proper : HasProperNodes tables
+unfolding node tables
+nodes_are_proper = record { parents = parents; keys = keys; keys_apart = keys_apart; cases_apart = cases_apart }
+  where
+    parents : (number above : ℕ) (found over : Node) → slice_get tables.nodes number ≡ Some found → found.parent ≡ Some above → slice_get tables.nodes above ≡ Some over → HoldsNodes over.kind
+    parents zero above found over is parent over_is = let clash : None ≡ Some above = ap (λ n. n.parent) (some_same _ found is) ∙ parent in cc
+    parents (suc zero) above found over is parent over_is =
+        let number : 0 ≡ above = some_same 0 above (ap (λ n. n.parent) (some_same _ found is) ∙ parent) in
+        let same = some_same _ over (ap (slice_get tables.nodes) number ∙ over_is) in
+        subst (λ (n : Node). HoldsNodes n.kind) same tt
+    parents (suc (suc zero)) above found over is parent over_is =
+        let number : 1 ≡ above = some_same 1 above (ap (λ n. n.parent) (some_same _ found is) ∙ parent) in
+        let same = some_same _ over (ap (slice_get tables.nodes) number ∙ over_is) in
+        subst (λ (n : Node). HoldsNodes n.kind) same tt
+    parents (suc (suc (suc number))) above found over is parent over_is = cc
+
+    keys : (number key : ℕ) (found : Node) → slice_get tables.nodes number ≡ Some found → Contains found.keys key → IsSomeAnd (slice_get tables.nodes key) (IsKeyIn number)
+    keys zero key found is has = absurd (omega (arith, (subst (λ (n : Node). Contains n.keys key) (sym (some_same _ found is)) has).1))
+    keys (suc zero) key found is has = by (subst (λ (n : Node). Contains n.keys key) (sym (some_same _ found is)) has)
+      where
+        by : Contains (2 ∷ []) key → IsSomeAnd (slice_get tables.nodes key) (IsKeyIn 1)
+        by (zero, within, here) = subst (λ (k : ℕ). IsSomeAnd (slice_get tables.nodes k) (IsKeyIn 1)) here (record { kind = refl; parent = refl; cases = refl })
+        by (suc k, within, here) = absurd (omega (arith, within))
+    keys (suc (suc zero)) key found is has = absurd (omega (arith, (subst (λ (n : Node). Contains n.keys key) (sym (some_same _ found is)) has).1))
+    keys (suc (suc (suc number))) key found is has = cc
+
+    keys_apart : (number : ℕ) (found : Node) → slice_get tables.nodes number ≡ Some found → AllPairs (λ key later. key ≢ later) found.keys
+    keys_apart zero found is = subst (λ (n : Node). AllPairs (λ key later. key ≢ later) n.keys) (some_same _ found is) (λ i j d less within. absurd (omega (arith, within)))
+    keys_apart (suc zero) found is = subst (λ (n : Node). AllPairs (λ key later. key ≢ later) n.keys) (some_same _ found is) (λ i j d less within. absurd (omega (arith, less, within)))
+    keys_apart (suc (suc zero)) found is = subst (λ (n : Node). AllPairs (λ key later. key ≢ later) n.keys) (some_same _ found is) (λ i j d less within. absurd (omega (arith, within)))
+    keys_apart (suc (suc (suc number))) found is = cc
+
+    cases_apart : (number : ℕ) (found : Node) → slice_get tables.nodes number ≡ Some found → AllPairs (λ one later. one.choice ≢ later.choice) found.cases
+    cases_apart zero found is = subst (λ (n : Node). AllPairs (λ one later. one.choice ≢ later.choice) n.cases) (some_same _ found is) (λ i j d less within. absurd (omega (arith, within)))
+    cases_apart (suc zero) found is = subst (λ (n : Node). AllPairs (λ one later. one.choice ≢ later.choice) n.cases) (some_same _ found is) (λ i j d less within. absurd (omega (arith, within)))
+    cases_apart (suc (suc zero)) found is = subst (λ (n : Node). AllPairs (λ one later. one.choice ≢ later.choice) n.cases) (some_same _ found is) (λ i j d less within. absurd (omega (arith, within)))
+    cases_apart (suc (suc (suc number))) found is = cc
+
+-- so the session leaves a good state
+ports_leave_a_good_state : IsGood (after rules (opening tables [] 0) merged)
+unfolding reply rules
+ports_leave_a_good_state =
+    good_stays (λ schema request made. reply) 0 (opening tables [] 0) merged (opening_is_good tables [] 0 nodes_are_proper (empty_is_data_tree tables)) merged_is_legal

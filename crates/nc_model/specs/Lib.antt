@@ -5,6 +5,7 @@ pub mod History
 pub mod Laws
 pub mod Payload
 pub mod Proper
+pub mod ProperEdit
 pub mod Same
 pub mod Standing
 pub mod State

@@ -4,6 +4,7 @@ use Rattle.std.specs.List.{All, AllPairs, filter, list_any}
 use Rattle.nc_names.specs.declared.path.Row.{Row}
 use Rattle.nc_schema.specs.Tables.{Tables}
 use Rattle.nc_schema.specs.Configuration.{IsDataTree}
+use Rattle.nc_schema.specs.ProperNodes.{HasProperNodes}
 use Rattle.nc_model.specs.declared.peer.Peer.{Peer}
 
 -- a live session: its session-id (RFC 6241 8.1) and its client
@@ -56,6 +57,7 @@ IsSessionId last number = (1 ≤ number) × (number ≤ last)
 
 -- what is true of every state that a good opening state leads to
 pub record IsGood (s : State) : Type 0 where
+  pub schema : HasProperNodes s.schema
   pub running : IsDataTree s.schema s.running
   pub candidate : IfSome s.candidate (IsDataTree s.schema)
   pub given : All (λ session. IsSessionId s.last session.number) s.sessions

@@ -1,6 +1,6 @@
 //! What follows from the definitions in `specs/`, each as the contract of a function that does
 //! nothing. A call of one makes its law known to the caller.
-ghost use Rattle.nc_model.specs.Laws.{HistoriesJoin, LegalHistoriesJoin, OneEntryIsLegal, MineStays, MineGrows, ChildIsElement, OpeningIsGood, GoodStays, BelowIsBelow, PlacesAreInOrder};
+ghost use Rattle.nc_model.specs.Laws.{HistoriesJoin, LegalHistoriesJoin, OneEntryIsLegal, MineStays, MineGrows, ChildIsElement, OpeningIsGood, GoodStays, BelowIsBelow, PlacesAreInOrder, PayloadFits, EditKeepsTree, EditKeepsConfiguration, EditLeaves, EditsKeepTree, RowsStandInOrder};
 
 /// The state after a history is that after its rest, from the state after its front.
 pub fn histories_join()
@@ -32,12 +32,39 @@ pub fn child_is_element()
     ensures { ChildIsElement }
 {}
 
+/// The edits of a payload fit the schema.
+pub fn payload_fits()
+    ensures { PayloadFits }
+{}
+
+/// An edit that fits the schema leaves a data tree, where it is made in one.
+pub fn edit_keeps_tree()
+    ensures { EditKeepsTree }
+{}
+
+/// An edit that fits the schema and brings canonical values leaves a configuration, where it is made
+/// in one.
+pub fn edit_keeps_configuration()
+    ensures { EditKeepsConfiguration }
+{}
+
+/// At and below its node an edit that fits the schema leaves the rows that its action gives, and
+/// elsewhere those that are there, but for the rows of other cases.
+pub fn edit_leaves()
+    ensures { EditLeaves }
+{}
+
+/// Several edits that fit the schema leave a data tree, under every error-option.
+pub fn edits_keep_tree()
+    ensures { EditsKeepTree }
+{}
+
 /// A data tree makes a good opening state.
 pub fn opening_is_good()
     ensures { OpeningIsGood }
 {}
 
-/// A good state stays good over every legal history, where edits leave data trees.
+/// A good state stays good over every legal history.
 pub fn good_stays()
     ensures { GoodStays }
 {}
@@ -50,4 +77,9 @@ pub fn below_is_below()
 /// Where the system orders each node on a path, rows are placed in document order.
 pub fn places_are_in_order()
     ensures { PlacesAreInOrder }
+{}
+
+/// The rows of a data tree stand in document order, which is the user's where the user orders entries.
+pub fn rows_stand_in_order()
+    ensures { RowsStandInOrder }
 {}

@@ -29,8 +29,9 @@ pub use edit::{Action, Edit};
 pub use entry::{Bears, Entry};
 pub use event::{Event, Outcome};
 pub use laws::{
-    below_is_below, child_is_element, good_stays, histories_join, legal_histories_join, mine_grows,
-    mine_stays, one_entry_is_legal, opening_is_good, places_are_in_order,
+    below_is_below, child_is_element, edit_keeps_configuration, edit_keeps_tree, edit_leaves,
+    edits_keep_tree, good_stays, histories_join, legal_histories_join, mine_grows, mine_stays,
+    one_entry_is_legal, opening_is_good, payload_fits, places_are_in_order, rows_stand_in_order,
 };
 pub use peer::Peer;
 pub use request::{Cause, Request};

@@ -1,8 +1,9 @@
 //! Each call once with ample memory.
 use crate::{
     By, Decision, DeskFault, Peer, Rights, Sees, Unchecked, below_is_below, child_is_element,
-    good_stays, histories_join, legal_histories_join, mine_grows, mine_stays, one_entry_is_legal,
-    opening_is_good, places_are_in_order, same_rows,
+    edit_keeps_configuration, edit_keeps_tree, edit_leaves, edits_keep_tree, good_stays,
+    histories_join, legal_histories_join, mine_grows, mine_stays, one_entry_is_legal,
+    opening_is_good, payload_fits, places_are_in_order, rows_stand_in_order, same_rows,
 };
 use nc_names::{Copies, Many, Memory, Path, Right, Row, Text};
 use std::test::Fail;
@@ -54,6 +55,12 @@ fn laws_take_nothing(_rt: HostRuntime) -> Result<(), Fail> {
     good_stays();
     below_is_below();
     places_are_in_order();
+    payload_fits();
+    edit_keeps_tree();
+    edits_keep_tree();
+    edit_keeps_configuration();
+    edit_leaves();
+    rows_stand_in_order();
     Ok(())
 }
 

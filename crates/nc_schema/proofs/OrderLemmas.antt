@@ -19,7 +19,7 @@ abbrev order : IsTotalOrder (slice_cmp (slice_cmp nat_cmp))
 order = lists_total nat_list_cmp_total
 
 -- nodes in one place are one
-same_node : (keys : List ℕ) (a b : ℕ) → sibling_place keys a ≡ sibling_place keys b → a ≡ b
+pub same_node : (keys : List ℕ) (a b : ℕ) → sibling_place keys a ≡ sibling_place keys b → a ≡ b
 same_node [] a b e = e
 same_node (key ∷ keys) a b e = by (eqb a key) (eqb b key) refl refl e (same_node keys a b)
   where
@@ -30,7 +30,7 @@ same_node (key ∷ keys) a b e = by (eqb a key) (eqb b key) refl refl e (same_no
     by false false p q e same = same (omega (arith, e))
 
 -- no step is before itself
-step_irreflexive : (tables : Tables) (above : Option ℕ) (step : Step) → ¬ StepBefore tables above step step
+pub step_irreflexive : (tables : Tables) (above : Option ℕ) (step : Step) → ¬ StepBefore tables above step step
 step_irreflexive tables above step (inl less) = omega (arith, less)
 step_irreflexive tables above step (inr (same, system, less)) =
     let tied = tied_itself order step.keys in
@@ -43,7 +43,7 @@ steps_irreflexive tables above (step ∷ steps) (inl before) = step_irreflexive 
 steps_irreflexive tables above (step ∷ steps) (inr (same, before)) = steps_irreflexive tables (Some step.node) steps before
 
 -- steps before steps that are before others
-step_transitive : (tables : Tables) (above : Option ℕ) (a b c : Step) → StepBefore tables above a b → StepBefore tables above b c → StepBefore tables above a c
+pub step_transitive : (tables : Tables) (above : Option ℕ) (a b c : Step) → StepBefore tables above a b → StepBefore tables above b c → StepBefore tables above a c
 step_transitive tables above a b c (inl p) (inl q) = inl (omega (arith, p, q))
 step_transitive tables above a b c (inl p) (inr (same, system, less)) =
     inl (subst (λ (n : ℕ). sibling_place (keys_above tables above) a.node < sibling_place (keys_above tables above) n) same p)
@@ -71,7 +71,7 @@ order_is_strict = record {
 }
 
 -- of two siblings that the system orders one is before the other, or they are one
-step_total : (tables : Tables) (above : Option ℕ) (a b : Step) → IsSystemOrdered tables a.node → StepBefore tables above a b ⊎ (a ≡ b) ⊎ StepBefore tables above b a
+pub step_total : (tables : Tables) (above : Option ℕ) (a b : Step) → IsSystemOrdered tables a.node → StepBefore tables above a b ⊎ (a ≡ b) ⊎ StepBefore tables above b a
 step_total tables above a b system = by_place (nat_cmp (place a) (place b)) (ranked (place a) (place b) _ refl)
   where
     place : Step → ℕ

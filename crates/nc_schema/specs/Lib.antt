@@ -7,4 +7,5 @@ pub mod Names
 pub mod Order
 pub mod Paths
 pub mod PathTexts
+pub mod ProperNodes
 pub mod Tables

@@ -1,0 +1,83 @@
+-- Edits that fit the schema: each leaves a data tree where it is made in one.
+use Rattle.std.specs.Prelude.{◌≡◌, ◌≢◌, ℕ, List, [], ◌∷◌, ◌++◌, Option, Some, None, IsTrue, slice_get}
+use Rattle.std.specs.List.{All, AllPairs, Contains}
+use Rattle.nc_names.specs.declared.path.Path.{Path}
+use Rattle.nc_names.specs.declared.path.Row.{Row}
+use Rattle.nc_names.specs.declared.path.Step.{Step}
+use Rattle.nc_schema.specs.declared.node.Kind.TheVariants.{List as ListKind}
+use Rattle.nc_schema.specs.declared.node.Node.{Node}
+use Rattle.nc_schema.specs.Configuration.{IsAtOrBelow, StandTogether, IsRowValue, HasItsValue, HasCanonicalValue, KeysFollow, StandsForItself, StandsOneCase}
+use Rattle.nc_schema.specs.Order.{IsBefore}
+use Rattle.nc_schema.specs.Paths.{IsPathOf}
+use Rattle.nc_schema.specs.Tables.{Tables}
+use Rattle.nc_model.specs.declared.edit.Action.{Action}
+use Rattle.nc_model.specs.declared.edit.Action.TheVariants.{Nothing, Merge, Create, Replace, Delete, Remove}
+use Rattle.nc_model.specs.declared.edit.Edit.{Edit}
+use Rattle.nc_model.specs.Edited.{has_value, rows_of_node}
+
+-- each list entry and container with presence above a row, from the top node on, has its row before it
+abbrev pub AncestorsStandFrom : Tables → List Step → List Row → Type 0
+AncestorsStandFrom tables top rows =
+    (before after : List Row) (row : Row) (above : List Step) (step next : Step) (rest : List Step) (node : Node) →
+    rows ≡ before ++ row ∷ after → row.path.steps ≡ above ++ step ∷ next ∷ rest →
+    IsAtOrBelow top (record { steps = above ++ step ∷ [] }) →
+    slice_get tables.nodes step.node ≡ Some node → StandsForItself node.kind →
+    Contains before (record { path = record { steps = above ++ step ∷ [] }; value = None })
+
+-- the rows at and below a top node: a data tree but for what stands above that node
+pub record IsSubtree (tables : Tables) (top : List Step) (rows : List Row) : Type 0 where
+  pub below : All (λ row. IsAtOrBelow top row.path) rows
+  pub paths : All (λ row. IsPathOf tables row.path) rows
+  pub distinct : AllPairs (λ row later. row.path ≢ later.path) rows
+  pub ordered : AllPairs (λ row later. ¬ IsBefore tables later.path row.path) rows
+  pub together : StandTogether rows
+  pub values : All (HasItsValue tables) rows
+  pub keys : KeysFollow tables rows
+  pub ancestors : AncestorsStandFrom tables top rows
+  pub cases : StandsOneCase tables rows
+
+-- the node is the key at that place of the list whose entry is above it
+pub record IsKeyAt (tables : Tables) (path : Path) (entry : Step) (place : ℕ) : Type 0 where
+  pub above : List Step
+  pub key : Step
+  pub node : Node
+  pub steps : path.steps ≡ above ++ entry ∷ key ∷ []
+  pub node_is : slice_get tables.nodes entry.node ≡ Some node
+  pub list : node.kind ≡ ListKind
+  pub key_is : slice_get node.keys place ≡ Some key.node
+
+-- the node is no key
+abbrev pub IsNoKey : Tables → Path → Type 0
+IsNoKey tables path = (entry : Step) (place : ℕ) → ¬ IsKeyAt tables path entry place
+
+-- a value to merge: a leaf has one, a leaf-list entry that in its path, and a key that of its entry
+-- (RFC 7950 7.8.2)
+pub record IsMergeValue (tables : Tables) (path : Path) (value : Option (List ℕ)) : Type 0 where
+  pub own : (above : List Step) (step : Step) (node : Node) → path.steps ≡ above ++ step ∷ [] → slice_get tables.nodes step.node ≡ Some node → IsTrue (has_value node.kind) → IsRowValue node.kind step value
+  pub of_key : (entry : Step) (place : ℕ) → IsKeyAt tables path entry place → value ≡ slice_get entry.keys place
+
+-- an action that fits its node: new rows are those of the node, and no key is created or taken away by
+-- itself
+abbrev pub IsProperAction : Tables → Path → Action → Type 0
+IsProperAction tables path Nothing = Unit {0}
+IsProperAction tables path (Merge value) = IsMergeValue tables path value
+IsProperAction tables path (Create new) = IsNoKey tables path × IsSubtree tables path.steps new
+IsProperAction tables path (Replace new) = IsNoKey tables path × IsSubtree tables path.steps new
+IsProperAction tables path Delete = IsNoKey tables path
+IsProperAction tables path Remove = IsNoKey tables path
+
+-- an edit that fits the schema
+pub record IsProperEdit (tables : Tables) (edit : Edit) : Type 0 where
+  pub path : IsPathOf tables edit.path
+  pub action : IsProperAction tables edit.path edit.action
+
+-- the rows that an edit brings
+abbrev pub rows_brought : Tables → Path → Action → List Row
+rows_brought tables path (Merge value) = rows_of_node tables path value
+rows_brought tables path (Create new) = new
+rows_brought tables path (Replace new) = new
+rows_brought tables path action = []
+
+-- their values are canonical texts at their nodes (RFC 7950 9.1)
+abbrev pub BringsCanonical : (ℕ → List ℕ → Type 0) → Tables → Edit → Type 0
+BringsCanonical IsCanonical tables edit = All (HasCanonicalValue IsCanonical tables) (rows_brought tables edit.path edit.action)

@@ -9,6 +9,7 @@ use Rattle.nc_names.specs.declared.name.QName.{QName}
 use Rattle.nc_names.specs.declared.path.Path.{Path}
 use Rattle.nc_names.specs.declared.path.Place.TheVariants.{Kept}
 use Rattle.nc_names.specs.declared.path.Step.{Step}
+use Rattle.nc_names.specs.Signs.{is_white}
 use Rattle.nc_message.specs.declared.tree.Attr.{Attr}
 use Rattle.nc_message.specs.declared.tree.Elem.{Elem}
 use Rattle.nc_message.specs.declared.tree.Part.{Part, Child', Chars, Row_of-Part, end_of-Part, more_of-Part}
@@ -24,10 +25,6 @@ use Rattle.nc_model.specs.declared.request.Cause.{Cause}
 use Rattle.nc_model.specs.Edited.{has_value}
 use Rattle.nc_model.specs.Same.{is_same_text}
 use Rattle.nc_model.specs.Standing.{cases_of, cases_differ}
-
--- white space (XML 1.0, 2.3)
-abbrev pub is_blank : ℕ → Bool
-is_blank sign = sign == 32 || sign == 9 || sign == 10 || sign == 13
 
 abbrev pub text_of : Part → List ℕ
 text_of (Chars text) = text
@@ -46,7 +43,7 @@ has_child parts = list_any is_child parts
 
 -- there is text that is not white space
 abbrev pub has_text : List Part → Bool
-has_text parts = list_any (λ part. list_any (λ sign. not (is_blank sign)) (text_of part)) parts
+has_text parts = list_any (λ part. list_any (λ sign. not (is_white sign)) (text_of part)) parts
 
 -- the name of an element, and what is in it
 abbrev pub name_in : {n : _} → Row_of-Elem n → Option QName

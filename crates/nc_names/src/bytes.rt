@@ -114,11 +114,14 @@ impl Bytes {
         self.items.clear();
     }
 
-    /// Drops the first `count` bytes; those behind them move up.
+    /// Drops the first `count` bytes; those behind them move up, unless `count` is 0.
     pub fn drop_front(&mut self, count: usize)
         requires { count ≤ length self.old }
         ensures { self.new ≡ drop count self.old }
     {
+        if count == 0 {
+            return;
+        }
         let kept = self.items.len() - count;
         self.items.copy_within(count.., 0);
         self.items.truncate(kept);

@@ -1,5 +1,6 @@
 //! The plain types that every other crate of the server stands on: texts, bytes and lists that
-//! contracts see as lists, qualified names, paths, rows, the kinds of causes, and canonical decimals.
+//! contracts see as lists, qualified names, paths, rows, the kinds of causes, canonical decimals, and
+//! the characters of identifiers and of white space.
 //!
 //! A collection here is equal to another where they hold the same, whatever their capacity, so `≡`
 //! on a struct of them is equality of meaning. What makes a new collection takes the allocator
@@ -17,6 +18,7 @@ mod many;
 mod memory;
 mod name;
 mod path;
+mod signs;
 mod text;
 
 pub use boxed::Boxed;
@@ -28,4 +30,5 @@ pub use many::Many;
 pub use memory::Memory;
 pub use name::{Bound, Module, QName, same_name};
 pub use path::{Path, Place, Right, Row, Step};
+pub use signs::{begins_identifier, is_in_identifier, is_white};
 pub use text::Text;

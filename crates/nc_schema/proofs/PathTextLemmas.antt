@@ -4,11 +4,12 @@ use Rattle.std.specs.List.{All, flat_map}
 use Rattle.std.specs.Option.{option_map_or}
 use Rattle.nc_names.specs.declared.name.Module.{Module}
 use Rattle.nc_names.specs.declared.path.Step.{Step}
+use Rattle.nc_names.specs.Signs.{is_in_identifier}
 use Rattle.nc_schema.specs.declared.node.Kind.{Kind}
 use Rattle.nc_schema.specs.declared.node.Kind.TheVariants.{Container, Leaf, LeafList, List as ListKind}
 use Rattle.nc_schema.specs.declared.node.Node.{Node}
 use Rattle.nc_schema.specs.Laws.{TextNamesOnePath}
-use Rattle.nc_schema.specs.Names.{is_in_identifier, HasProperNames, CanBeQuoted}
+use Rattle.nc_schema.specs.Names.{HasProperNames, CanBeQuoted}
 use Rattle.nc_schema.specs.Paths.{key_count, LeadDown}
 use Rattle.nc_schema.specs.PathTexts.{slash, colon, module_name, prefixed_name, predicates, step_predicates, step_text}
 use Rattle.nc_schema.specs.Tables.{Tables}

@@ -3,7 +3,8 @@ use Rattle.std.proofs.Common.{◌≡◌, ◌≢◌, ◌⊎◌, ◌==◌, ◌&&�
 use Rattle.std.proofs.lemmas.Bool.{eq-eqb}
 use Rattle.std.specs.Char.{is_ascii_digit}
 use Rattle.std.specs.List.{All, list_all, list_any, flat_map}
-use Rattle.nc_schema.specs.Names.{is_in_identifier, IsIdentifier, CanBeQuoted}
+use Rattle.nc_names.specs.Signs.{is_in_identifier}
+use Rattle.nc_schema.specs.Names.{IsIdentifier, CanBeQuoted}
 use Rattle.nc_schema.specs.PathTexts.{quote, apostrophe, dot, equals, opening, closing, slash, mark_round, quoted, key_name, key_predicates, value_predicate}
 use Rattle.nc_schema.specs.Tables.{Tables}
 
@@ -54,7 +55,7 @@ cut_once p (c ∷ a) (d ∷ b) x y in_a in_b at_x at_y e =
 -- an identifier is of signs that may stand in one
 pub all_in_identifier : (name : List ℕ) → IsIdentifier name → list_all is_in_identifier name ≡ true
 all_in_identifier [] h = absurd h
-all_in_identifier (c ∷ cs) h = λ i. (((h.0 i || is_ascii_digit c) || c == 45) || c == dot) && h.1 i
+all_in_identifier (c ∷ cs) h = λ i. (((h.0 i || is_ascii_digit c) || c == 45) || c == 46) && h.1 i
 
 -- a value lacks the mark round it
 lacks_mark : (value : List ℕ) → CanBeQuoted value → list_any (λ sign. sign == mark_round value) value ≡ false

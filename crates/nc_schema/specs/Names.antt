@@ -1,20 +1,14 @@
 -- The names of a schema by which a path text names one path.
-use Rattle.std.specs.Prelude.{◌≡◌, ◌==◌, ◌||◌, ◌⊎◌, ℕ, Bool, List, [], ◌∷◌, Some, IsTrue, IsFalse, IsSome, slice_get}
-use Rattle.std.specs.Char.{is_ascii_alphabetic, is_ascii_digit}
+use Rattle.std.specs.Prelude.{◌≡◌, ◌==◌, ◌⊎◌, ℕ, List, [], ◌∷◌, Some, IsTrue, IsFalse, IsSome, slice_get}
 use Rattle.std.specs.List.{All, list_all, list_any}
 use Rattle.nc_names.specs.declared.name.Module.{Module}
 use Rattle.nc_names.specs.declared.path.Path.{Path}
+use Rattle.nc_names.specs.Signs.{begins_identifier, is_in_identifier}
 use Rattle.nc_schema.specs.declared.node.Node.{Node}
 use Rattle.nc_schema.specs.Tables.{Tables}
-use Rattle.nc_schema.specs.PathTexts.{quote, apostrophe, dot}
+use Rattle.nc_schema.specs.PathTexts.{quote, apostrophe}
 
--- an identifier begins with a letter or `_`, and goes on with these, digits, `-` and `.` (RFC 7950 6.2)
-abbrev pub begins_identifier : ℕ → Bool
-begins_identifier sign = is_ascii_alphabetic sign || sign == 95
-
-abbrev pub is_in_identifier : ℕ → Bool
-is_in_identifier sign = begins_identifier sign || is_ascii_digit sign || sign == 45 || sign == dot
-
+-- an identifier (RFC 7950 6.2)
 abbrev pub IsIdentifier : List ℕ → Type 0
 IsIdentifier [] = ⊥
 IsIdentifier (first ∷ rest) = IsTrue (begins_identifier first) × IsTrue (list_all is_in_identifier rest)

@@ -5,11 +5,12 @@ use Rattle.std.specs.Str.{IsAscii}
 use Rattle.std.proofs.lemmas.Bool.Decides.{nat_tests}
 use Rattle.std.proofs.lemmas.Str.Ascii.{IsAscii-from_all}
 use Rattle.std.proofs.lemmas.Option.{get_or_from_slice_get}
+use Rattle.nc_names.specs.Signs.{begins_identifier, is_in_identifier}
 use Rattle.nc_message.specs.declared.tree.Attr.{Attr}
 use Rattle.nc_message.specs.declared.tree.Elem.{Elem}
 use Rattle.nc_message.specs.declared.tree.Part.{Part}
 use Rattle.nc_message.specs.declared.tree.Part.TheVariants.{Child}
-use Rattle.nc_session.specs.Narrow.{is_blank, begins_name, continues_name, is_value_byte, is_text_byte, is_declaration, space_in}
+use Rattle.nc_session.specs.Narrow.{is_blank, is_value_byte, is_text_byte, is_declaration, space_in}
 use Rattle.nc_session.specs.NarrowReadings.{attrs_left, has_section_end, after_blanks, first_passes, prepend, attribute, attributes, run, chars_of, element, content}
 use Rattle.nc_session.proofs.NarrowFronts.{prefix_passes}
 
@@ -19,7 +20,7 @@ prefix_ascii p xs low =
     let all = prefix_passes p xs in
     IsAscii-from_all (take (prefix_len p xs) xs) (λ k d less. low (get_or (take (prefix_len p xs) xs) k d) (all k d less))
 
-continues_low : (c : ℕ) → continues_name c ≡ true → c < 128
+continues_low : (c : ℕ) → is_in_identifier c ≡ true → c < 128
 continues_low c h = grind (arith, nat_tests)
 
 value_low : (mark c : ℕ) → is_value_byte mark c ≡ true → c < 128
@@ -33,8 +34,8 @@ ascii_of p xs cut n front count low =
     let whole : cut ≡ take (prefix_len p xs) xs = front ∙ ap (λ k. take k xs) count in
     subst IsAscii (sym whole) (prefix_ascii p xs low)
 
-pub ascii_name : (xs cut : List ℕ) (n : ℕ) → cut ≡ take n xs → n ≡ prefix_len continues_name xs → IsAscii cut
-ascii_name xs cut n front count = ascii_of continues_name xs cut n front count continues_low
+pub ascii_name : (xs cut : List ℕ) (n : ℕ) → cut ≡ take n xs → n ≡ prefix_len is_in_identifier xs → IsAscii cut
+ascii_name xs cut n front count = ascii_of is_in_identifier xs cut n front count continues_low
 
 pub ascii_value : (mark : ℕ) (xs cut : List ℕ) (n : ℕ) → cut ≡ take n xs → n ≡ prefix_len (is_value_byte mark) xs → IsAscii cut
 ascii_value mark xs cut n front count = ascii_of (is_value_byte mark) xs cut n front count (value_low mark)
@@ -105,10 +106,10 @@ pub goes_last : {X : Type 0} (read : ℕ → List ℕ → Option (List X × List
 goes_last read most begin items text o g step = last_at read most begin items text o g.fuel g.enough g.same step
 
 -- one more attribute
-pub attributes_more : (text behind next : List ℕ) (a : Attr) → behind ≡ after_blanks text → first_passes begins_name behind ≡ true → first_passes is_blank text ≡ true
+pub attributes_more : (text behind next : List ℕ) (a : Attr) → behind ≡ after_blanks text → first_passes begins_identifier behind ≡ true → first_passes is_blank text ≡ true
     → attribute behind ≡ Some (a, next) → (n : ℕ) → attributes (suc n) text ≡ prepend (a ∷ []) (attributes n next)
 attributes_more text behind next a blanks named parted read n =
-    let one : first_passes begins_name (after_blanks text) ≡ true = ap (first_passes begins_name) (sym blanks) ∙ named in
+    let one : first_passes begins_identifier (after_blanks text) ≡ true = ap (first_passes begins_identifier) (sym blanks) ∙ named in
     let two : attribute (after_blanks text) ≡ Some (a, next) = ap attribute (sym blanks) ∙ read in
     let more = λ (x : Attr × List ℕ). prepend (x.0 ∷ []) (attributes n x.1) in
     ap (λ b. cond b (cond (first_passes is_blank text) (option_and_then more (attribute (after_blanks text))) None) (Some ([], after_blanks text))) one

@@ -4,11 +4,12 @@ use Rattle.std.specs.List.{prefix_len, starts_with, AllPass}
 use Rattle.std.proofs.lemmas.List.Elements.{All-nil}
 use Rattle.std.proofs.lemmas.Bool.Decides.{nat_tests, Decides-eqb}
 use Rattle.std.proofs.lemmas.Slice.Eq.{starts_is}
+use Rattle.nc_names.specs.Signs.{begins_identifier}
 use Rattle.nc_message.specs.declared.tree.Attr.{Attr}
 use Rattle.nc_message.specs.declared.tree.Elem.{Elem}
 use Rattle.nc_message.specs.declared.tree.Part.{Part}
 use Rattle.nc_message.specs.declared.tree.Part.TheVariants.{Child, Chars}
-use Rattle.nc_session.specs.Narrow.{is_blank, begins_name, is_text_byte, IsName, IsText, Tag, Ending, Alone, Closed, Content, Nothing, Run, Element, IsTag, IsEnding, IsContent, attr_of, spelled_tag, spelled_end, spelled, space_in, bounds_of, elem_of, parts_of}
+use Rattle.nc_session.specs.Narrow.{is_blank, is_text_byte, IsName, IsText, Tag, Ending, Alone, Closed, Content, Nothing, Run, Element, IsTag, IsEnding, IsContent, attr_of, spelled_tag, spelled_end, spelled, space_in, bounds_of, elem_of, parts_of}
 use Rattle.nc_session.specs.NarrowReadings.{elem_read, has_section_end, after, piece, split, first_passes, prepend, start, Started, inside, element, chars_of, run, content}
 use Rattle.nc_session.proofs.NarrowFronts.{bind_some, bind_is, passes_all, prefix_passes, split_seam, after-is, after-gives, blanks_of, blanks_pass, piece-is, piece-gives}
 use Rattle.nc_session.proofs.NarrowCode.{behind_run, run_read, no_tag}
@@ -81,8 +82,8 @@ element_no_text : (tag : Tag) (ending : Ending) (inner more : Content) (rest : L
 element_no_text tag Alone inner more rest = refl
 element_no_text tag (Closed blanks) inner more rest = refl
 
-no_slash : (c : ℕ) → begins_name c ≡ true → c ≡ 47 → ⊥
-no_slash c h e = let clash : false ≡ true = sym (ap begins_name e) ∙ h in cc clash
+no_slash : (c : ℕ) → begins_identifier c ≡ true → c ≡ 47 → ⊥
+no_slash c h e = let clash : false ≡ true = sym (ap begins_identifier e) ∙ h in cc clash
 
 tag_no_end : (name rest : List ℕ) → IsName name → starts_with eqb (60 ∷ (name ++ rest)) (60 ∷ 47 ∷ []) ≡ false
 tag_no_end [] rest shape = absurd shape

@@ -5,33 +5,34 @@ use Rattle.std.specs.List.{prefix_len, starts_with, AllPass}
 use Rattle.std.proofs.lemmas.Slice.Eq.{starts_is}
 use Rattle.std.proofs.lemmas.List.Elements.{All-cons, All-head}
 use Rattle.std.proofs.lemmas.Bool.Decides.{nat_tests, Decides-eqb}
+use Rattle.nc_names.specs.Signs.{begins_identifier, is_in_identifier}
 use Rattle.nc_message.specs.declared.tree.Attr.{Attr}
-use Rattle.nc_session.specs.Narrow.{is_blank, begins_name, continues_name, is_value_byte, IsName, Attribute, Tag, IsAttribute, AreAttributes, IsTag, attr_of, all_differ, spelled_attribute, spelled_attributes, spelled_tag}
+use Rattle.nc_session.specs.Narrow.{is_blank, is_value_byte, IsName, Attribute, Tag, IsAttribute, AreAttributes, IsTag, attr_of, all_differ, spelled_attribute, spelled_attributes, spelled_tag}
 use Rattle.nc_session.specs.NarrowReadings.{after_blanks, after, piece, split, first_passes, name, value, quoted, attribute, prepend, attributes, close, start, Started}
 use Rattle.nc_session.proofs.NarrowFronts.{cond_some, bind_some, bind_is, passes_all, prefix_passes, split_seam, after-is, after-gives, blanks_of, blanks_pass, blanks_first, blanks_over, piece-is, piece-gives}
 use Rattle.nc_session.proofs.NarrowCode.{attributes_more}
 
-begins_continues : (c : ℕ) → begins_name c ≡ true → continues_name c ≡ true
+begins_continues : (c : ℕ) → begins_identifier c ≡ true → is_in_identifier c ≡ true
 begins_continues c h = grind (arith, nat_tests)
 
-blank_no_name : (c : ℕ) → is_blank c ≡ true → continues_name c ≡ false
+blank_no_name : (c : ℕ) → is_blank c ≡ true → is_in_identifier c ≡ false
 blank_no_name c h = grind (arith, nat_tests)
 
-begins_no_blank : (c : ℕ) → begins_name c ≡ true → is_blank c ≡ false
+begins_no_blank : (c : ℕ) → begins_identifier c ≡ true → is_blank c ≡ false
 begins_no_blank c h = grind (arith, nat_tests)
 
 mark_stops : (mark : ℕ) → is_value_byte mark mark ≡ false
 mark_stops mark = grind (arith, nat_tests)
 
 -- a name, behind which none of its bytes stands
-pub name-is : (v rest : List ℕ) → IsName v → first_passes continues_name rest ≡ false → name (v ++ rest) ≡ Some (v, rest)
+pub name-is : (v rest : List ℕ) → IsName v → first_passes is_in_identifier rest ≡ false → name (v ++ rest) ≡ Some (v, rest)
 unfolding name
 name-is [] rest shape stops = absurd shape
 name-is (c ∷ cs) rest shape stops =
-    let all : AllPass continues_name (c ∷ cs) = All-cons (λ d. continues_name d ≡ true) c cs (begins_continues c shape.0) shape.1 in
+    let all : AllPass is_in_identifier (c ∷ cs) = All-cons (λ d. is_in_identifier d ≡ true) c cs (begins_continues c shape.0) shape.1 in
     let whole = (c ∷ cs) ++ rest in
-    ap (λ b. cond b (Some (split (prefix_len continues_name whole) whole)) None) shape.0
-    ∙ ap (λ n. Some (split n whole)) (passes_all continues_name (c ∷ cs) rest all stops) ∙ ap Some (split_seam (c ∷ cs) rest)
+    ap (λ b. cond b (Some (split (prefix_len is_in_identifier whole) whole)) None) shape.0
+    ∙ ap (λ n. Some (split n whole)) (passes_all is_in_identifier (c ∷ cs) rest all stops) ∙ ap Some (split_seam (c ∷ cs) rest)
 
 split_gives : (n : ℕ) (text v rest : List ℕ) → Some (split n text) ≡ Some (v, rest) → (take n text ≡ v) × (text ≡ v ++ rest)
 split_gives n text v rest e =
@@ -50,10 +51,10 @@ pub name-gives : (v rest text : List ℕ) → name text ≡ Some (v, rest) → I
 unfolding name
 name-gives v rest [] e = cc
 name-gives v rest (c ∷ cs) e =
-    let both = cond_some (begins_name c) (Some (split (prefix_len continues_name (c ∷ cs)) (c ∷ cs))) (v, rest) e in
-    let parts = split_gives (prefix_len continues_name (c ∷ cs)) (c ∷ cs) v rest both.1 in
-    let front : c ∷ take (prefix_len continues_name cs) cs ≡ v = sym (front_passes continues_name c cs (begins_continues c both.0)) ∙ parts.0 in
-    (subst IsName front (both.0, prefix_passes continues_name cs), parts.1)
+    let both = cond_some (begins_identifier c) (Some (split (prefix_len is_in_identifier (c ∷ cs)) (c ∷ cs))) (v, rest) e in
+    let parts = split_gives (prefix_len is_in_identifier (c ∷ cs)) (c ∷ cs) v rest both.1 in
+    let front : c ∷ take (prefix_len is_in_identifier cs) cs ≡ v = sym (front_passes is_in_identifier c cs (begins_continues c both.0)) ∙ parts.0 in
+    (subst IsName front (both.0, prefix_passes is_in_identifier cs), parts.1)
 
 -- a value, and the quotation mark behind it
 value-is : (mark : ℕ) (v rest : List ℕ) → AllPass (is_value_byte mark) v → value mark (v ++ mark ∷ rest) ≡ Some (v, rest)
@@ -113,7 +114,7 @@ quoted-gives v rest (c ∷ cs) e =
     (c, mark_cases c (or_cases (eqb c 34) (eqb c 39) both.0), inner.0, ap (λ l. c ∷ l) inner.1)
 
 -- behind a name stands a blank or a sign
-name_stops : (blanks : List ℕ) (sign : ℕ) (rest : List ℕ) → AllPass is_blank blanks → continues_name sign ≡ false → first_passes continues_name (blanks ++ sign ∷ rest) ≡ false
+name_stops : (blanks : List ℕ) (sign : ℕ) (rest : List ℕ) → AllPass is_blank blanks → is_in_identifier sign ≡ false → first_passes is_in_identifier (blanks ++ sign ∷ rest) ≡ false
 name_stops [] sign rest all stops = stops
 name_stops (b ∷ bs) sign rest all stops = blank_no_name b (All-head (λ c. is_blank c ≡ true) b bs all)
 
@@ -121,7 +122,7 @@ name_no_blank : (v rest : List ℕ) → IsName v → first_passes is_blank (v ++
 name_no_blank [] rest shape = absurd shape
 name_no_blank (c ∷ cs) rest shape = begins_no_blank c shape.0
 
-name_begins : (v rest : List ℕ) → IsName v → first_passes begins_name (v ++ rest) ≡ true
+name_begins : (v rest : List ℕ) → IsName v → first_passes begins_identifier (v ++ rest) ≡ true
 name_begins [] rest shape = absurd shape
 name_begins (c ∷ cs) rest shape = shape.0
 
@@ -129,7 +130,7 @@ blank_begins : (blanks rest : List ℕ) → AllPass is_blank blanks → blanks �
 blank_begins [] rest all some = absurd (some refl)
 blank_begins (b ∷ bs) rest all some = All-head (λ c. is_blank c ≡ true) b bs all
 
-blank_ends : (blanks rest : List ℕ) → AllPass is_blank blanks → blanks ≢ [] → first_passes continues_name (blanks ++ rest) ≡ false
+blank_ends : (blanks rest : List ℕ) → AllPass is_blank blanks → blanks ≢ [] → first_passes is_in_identifier (blanks ++ rest) ≡ false
 blank_ends [] rest all some = absurd (some refl)
 blank_ends (b ∷ bs) rest all some = blank_no_name b (All-head (λ c. is_blank c ≡ true) b bs all)
 
@@ -182,13 +183,13 @@ longer : (a : Attribute) (rest : List ℕ) (m : ℕ) → length (spelled_attribu
 longer a rest m less = let sum = simp length-append at less in omega (arith, sum)
 
 pub attributes-is : (all : List Attribute) (blanks behind : List ℕ) (n : ℕ) → AreAttributes all → AllPass is_blank blanks
-    → first_passes is_blank behind ≡ false → first_passes begins_name behind ≡ false → length (spelled_attributes all (blanks ++ behind)) < n
+    → first_passes is_blank behind ≡ false → first_passes begins_identifier behind ≡ false → length (spelled_attributes all (blanks ++ behind)) < n
     → attributes n (spelled_attributes all (blanks ++ behind)) ≡ Some (map attr_of all, behind)
 attributes-is [] blanks behind zero are pass no_blank no_name less = absurd (omega (arith, less))
 attributes-is [] blanks behind (suc m) are pass no_blank no_name less =
     let text = blanks ++ behind in
     let over : after_blanks text ≡ behind = blanks_over blanks behind pass no_blank in
-    let none : first_passes begins_name (after_blanks text) ≡ false = ap (first_passes begins_name) over ∙ no_name in
+    let none : first_passes begins_identifier (after_blanks text) ≡ false = ap (first_passes begins_identifier) over ∙ no_name in
     ap (λ b. cond b (cond (first_passes is_blank text) (option_and_then (λ x. prepend (x.0 ∷ []) (attributes m x.1)) (attribute (after_blanks text))) None) (Some ([], after_blanks text))) none
     ∙ ap (λ l. Some ([], l)) over
 attributes-is (a ∷ more) blanks behind zero are pass no_blank no_name less = absurd (omega (arith, less))
@@ -260,7 +261,7 @@ pub attributes-gives : (n : ℕ) (text : List ℕ) (xs : List Attr) (rest : List
 attributes-gives zero text xs rest e = absurd (let f : None ≡ Some (xs, rest) = e in cc f)
 attributes-gives (suc m) text xs rest e =
     let more = λ (x : Attr × List ℕ). prepend (x.0 ∷ []) (attributes m x.1) in
-    elim (way (first_passes begins_name (after_blanks text)) (first_passes is_blank text) (option_and_then more (attribute (after_blanks text))) (Some ([], after_blanks text)) (xs, rest) e) [
+    elim (way (first_passes begins_identifier (after_blanks text)) (first_passes is_blank text) (option_and_then more (attribute (after_blanks text))) (Some ([], after_blanks text)) (xs, rest) e) [
       | inl h ↦ let step = bind_some (attribute (after_blanks text)) more (xs, rest) h.1 in
           let split = prepend_some (step.0.0 ∷ []) xs rest (attributes m step.0.1) step.1.1 in
           one_more text step.0.1 rest step.0.0 split.0 xs h.0 step.1.0 split.2 (attributes-gives m step.0.1 split.0 rest split.1)
@@ -281,7 +282,7 @@ closing_no_blank : (alone : Bool) (rest : List ℕ) → first_passes is_blank (c
 closing_no_blank true rest = refl
 closing_no_blank false rest = refl
 
-closing_no_name : (alone : Bool) (rest : List ℕ) → first_passes begins_name (closing alone rest) ≡ false
+closing_no_name : (alone : Bool) (rest : List ℕ) → first_passes begins_identifier (closing alone rest) ≡ false
 closing_no_name true rest = refl
 closing_no_name false rest = refl
 
@@ -302,7 +303,7 @@ close-gives text alone rest e =
 
 -- a start tag
 tag_stops : (all : List Attribute) (blanks : List ℕ) (alone : Bool) (rest : List ℕ) → AreAttributes all → AllPass is_blank blanks
-    → first_passes continues_name (spelled_attributes all (blanks ++ closing alone rest)) ≡ false
+    → first_passes is_in_identifier (spelled_attributes all (blanks ++ closing alone rest)) ≡ false
 tag_stops [] blanks true rest are pass = name_stops blanks 47 (62 ∷ rest) pass refl
 tag_stops [] blanks false rest are pass = name_stops blanks 62 rest pass refl
 tag_stops (a ∷ more) blanks alone rest are pass = blank_ends a.before _ are.0.before are.0.apart

@@ -3,9 +3,9 @@
 -- prefixes. A message is stated by how it is written, by the text that this gives, and by its tree.
 use Rattle.std.specs.Prelude.{◌≡◌, ◌≢◌, ◌<◌, ◌-◌, ◌==◌, ◌&&◌, ◌||◌, ◌⊎◌, ℕ, Bool, true, false, not, nat_le, List, [], ◌∷◌, ◌++◌, codes, map, filter, if◌then◌else◌}
 use Rattle.std.specs.List.{AllPass, list_any}
-use Rattle.std.specs.Char.{is_ascii_alphabetic, is_ascii_alphanumeric}
 use Rattle.std.specs.Str.{bytes_eq}
 use Rattle.nc_names.specs.declared.name.Bound.{Bound}
+use Rattle.nc_names.specs.Signs.{begins_identifier, is_in_identifier}
 use Rattle.nc_message.specs.declared.tree.Attr.{Attr}
 use Rattle.nc_message.specs.declared.tree.Elem.{Elem}
 use Rattle.nc_message.specs.declared.tree.Tree.{Tree}
@@ -16,18 +16,10 @@ use Rattle.nc_message.specs.declared.tree.Part.TheVariants.{Child, Chars}
 abbrev pub is_blank : ℕ → Bool
 is_blank c = c == 32 || c == 10
 
--- an ASCII letter or `_`
-abbrev pub begins_name : ℕ → Bool
-begins_name c = is_ascii_alphabetic c || c == 95
-
--- an ASCII letter, a digit, `_`, `-` or `.`
-abbrev pub continues_name : ℕ → Bool
-continues_name c = is_ascii_alphanumeric c || c == 95 || c == 45 || c == 46
-
--- a name without a colon (XML 1.0, 2.3; Namespaces in XML 1.0, 3)
+-- a name without a colon (XML 1.0, 2.3; Namespaces in XML 1.0, 3); those of ASCII are identifiers
 abbrev pub IsName : List ℕ → Type 0
 IsName [] = ⊥
-IsName (c ∷ cs) = (begins_name c ≡ true) × AllPass continues_name cs
+IsName (c ∷ cs) = (begins_identifier c ≡ true) × AllPass is_in_identifier cs
 
 -- a printable byte but `<` and `&`
 abbrev pub is_plain : ℕ → Bool

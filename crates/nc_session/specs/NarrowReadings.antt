@@ -1,12 +1,13 @@
 -- How a narrow message is read from its front: each reading gives what it read and what is left.
 use Rattle.std.specs.Prelude.{ℕ, zero, suc, ◌-◌, ◌==◌, ◌||◌, Bool, true, false, nat_eq, List, [], ◌∷◌, ◌++◌, length, take, drop, Option, None, Some, option_and_then, option_map, if◌then◌else◌}
 use Rattle.std.specs.List.{prefix_len, starts_with}
+use Rattle.nc_names.specs.Signs.{begins_identifier, is_in_identifier}
 use Rattle.nc_message.specs.declared.tree.Attr.{Attr}
 use Rattle.nc_message.specs.declared.tree.Elem.{Elem}
 use Rattle.nc_message.specs.declared.tree.Tree.{Tree}
 use Rattle.nc_message.specs.declared.tree.Part.{Part}
 use Rattle.nc_message.specs.declared.tree.Part.TheVariants.{Child, Chars}
-use Rattle.nc_session.specs.Narrow.{is_blank, begins_name, continues_name, is_value_byte, is_text_byte, all_differ, is_declaration, space_in, bounds_of}
+use Rattle.nc_session.specs.Narrow.{is_blank, is_value_byte, is_text_byte, all_differ, is_declaration, space_in, bounds_of}
 
 infixl 10 ◌>>=◌
 abbrev pub ◌>>=◌ : {A B : Type 0} → Option A → (A → Option B) → Option B
@@ -32,7 +33,7 @@ first_passes p [] = false
 first_passes p (c ∷ cs) = p c
 
 unfoldable pub name : List ℕ → Option (List ℕ × List ℕ)
-name text = if first_passes begins_name text then Some (split (prefix_len continues_name text) text) else None
+name text = if first_passes begins_identifier text then Some (split (prefix_len is_in_identifier text) text) else None
 
 -- a value, and the quotation mark behind it
 unfoldable pub value : ℕ → List ℕ → Option (List ℕ × List ℕ)
@@ -57,7 +58,7 @@ prepend xs o = option_map (λ p. (xs ++ p.0, p.1)) o
 abbrev pub attributes : (fuel : ℕ) → List ℕ → Option (List Attr × List ℕ)
 attributes zero text = None
 attributes (suc n) text =
-    if first_passes begins_name (after_blanks text)
+    if first_passes begins_identifier (after_blanks text)
     then (if first_passes is_blank text then (attribute (after_blanks text) >>= (λ a. prepend (a.0 ∷ []) (attributes n a.1))) else None)
     else Some ([], after_blanks text)
 

@@ -1,16 +1,13 @@
 -- The shape of elements of NETCONF's own: names, and content without the white space in it (RFC 6241 3.1).
-use Rattle.std.specs.Prelude.{ℕ, List, [], ◌∷◌, Option, Some, None, Bool, true, false, not, ◌==◌, ◌||◌, ◌&&◌, filter}
+use Rattle.std.specs.Prelude.{ℕ, List, [], ◌∷◌, Option, Some, None, Bool, true, false, not, ◌&&◌, filter}
 use Rattle.std.specs.List.{list_all, list_any}
 use Rattle.std.specs.Str.{bytes_eq}
+use Rattle.nc_names.specs.Signs.{is_white}
 use Rattle.nc_message.specs.declared.tree.Attr.{Attr}
 use Rattle.nc_message.specs.declared.tree.Elem.{Elem}
 use Rattle.nc_message.specs.declared.tree.Part.{Part, out-Part}
 use Rattle.nc_message.specs.declared.tree.Part.TheOpen.{Part-F, Child, Chars}
 use Rattle.nc_session.specs.Words.{base_space}
-
--- white space (XML 1.0, 2.3)
-abbrev pub is_blank : ℕ → Bool
-is_blank c = c == 32 || c == 9 || c == 10 || c == 13
 
 -- an element of that name in the base namespace (RFC 6241 3.1)
 abbrev pub is_base : List ℕ → Elem → Bool
@@ -23,7 +20,7 @@ is_attr name a = bytes_eq a.name.space [] && bytes_eq a.name.name name
 -- a part counts unless it is white space
 abbrev pub counts_in : Part-F Part Elem → Bool
 counts_in (Child e) = true
-counts_in (Chars text) = not (list_all is_blank text)
+counts_in (Chars text) = not (list_all is_white text)
 
 abbrev pub counts : Part → Bool
 counts p = counts_in (out-Part p)

@@ -38,26 +38,26 @@ fn push_features(features: &[Text], out: &mut Text) -> Result<(), Memory>
 }
 
 /// The capability that a module is (RFC 6020 5.6.4).
-fn capability_of(alloc: Global, module: &Module) -> Result<Text, Memory>
-    ensures { IfOk result (λ it. it ≡ module_capability module.now) }
+fn capability_of(alloc: Global, served_module: &Module) -> Result<Text, Memory>
+    ensures { IfOk result (λ it. it ≡ module_capability served_module.now) }
 {
-    let mut text = Text::from_text(alloc, module.space.as_str())?;
+    let mut text = Text::from_text(alloc, served_module.space.as_str())?;
     text.push_str(words::module_query())?;
-    text.push_str(module.name.as_str())?;
-    push_revision(module.revision.as_str(), &mut text)?;
-    push_features(module.features.as_slice(), &mut text)?;
+    text.push_str(served_module.name.as_str())?;
+    push_revision(served_module.revision.as_str(), &mut text)?;
+    push_features(served_module.features.as_slice(), &mut text)?;
     Ok(text)
 }
 
-fn capabilities(alloc: Global, module: &Module) -> Result<Part, Memory>
-    ensures { IfOk result (λ it. it ≡ Child (capabilities_elem module.now)) }
+fn capabilities(alloc: Global, served_module: &Module) -> Result<Part, Memory>
+    ensures { IfOk result (λ it. it ≡ Child (capabilities_elem served_module.now)) }
 {
     let base = Text::from_text(alloc, words::base_capability())?;
     let base = text_part(alloc, words::capability_name(), base)?;
     let own = text_part(
         alloc,
         words::capability_name(),
-        capability_of(alloc, module)?,
+        capability_of(alloc, served_module)?,
     )?;
     base_part(
         alloc,
@@ -75,10 +75,14 @@ fn session_id(alloc: Global, session: u32) -> Result<Part, Memory>
 }
 
 /// The hello of a session: base:1.0 and the module, and the session's number.
-pub(crate) fn hello_message(alloc: Global, module: &Module, session: u32) -> Result<Tree, Memory>
-    ensures { IfOk result (λ it. it ≡ hello_tree module.now session) }
+pub(crate) fn hello_message(
+    alloc: Global,
+    served_module: &Module,
+    session: u32,
+) -> Result<Tree, Memory>
+    ensures { IfOk result (λ it. it ≡ hello_tree served_module.now session) }
 {
-    let capabilities = capabilities(alloc, module)?;
+    let capabilities = capabilities(alloc, served_module)?;
     let number = session_id(alloc, session)?;
     let root = base_element(
         alloc,

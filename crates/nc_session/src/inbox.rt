@@ -83,9 +83,6 @@ impl Inbox {
     fn drop_passed(&mut self)
         ensures { self.new ≡ self.old }
     {
-        if self.start == 0 {
-            return;
-        }
         self.bytes.drop_front(self.start);
         self.searched -= self.start;
         self.start = 0;

@@ -52,13 +52,13 @@ impl Talk {
     }
 
     /// Sends the server's hello.
-    fn greet<K: Sink>(&mut self, module: &Module, sink: &mut K) -> Result<(), SessionEnd>
-        ensures sent { Sends (K.taken sink.old) (K.taken sink.new) (with_mark (written (hello_tree module.now 1))) result }
+    fn greet<K: Sink>(&mut self, served_module: &Module, sink: &mut K) -> Result<(), SessionEnd>
+        ensures sent { Sends (K.taken sink.old) (K.taken sink.new) (with_mark (written (hello_tree served_module.now 1))) result }
         ensures fault { IfErr result (IsSendFault (K.faults sink.old) (K.faults sink.new)) }
         ensures later { K.faults sink.old ≤ K.faults sink.new }
         ensures inbox { self.new.inbox ≡ self.old.inbox }
     {
-        let hello = hello_message(self.alloc, module, 1)?;
+        let hello = hello_message(self.alloc, served_module, 1)?;
         send(&hello, &mut self.out, sink)
     }
 
@@ -96,11 +96,11 @@ impl Talk {
 /// that object's count of faults rose in this call.
 pub fn serve_plain<S: Source, K: Sink>(
     alloc: Global,
-    module: &Module,
+    served_module: &Module,
     source: &mut S,
     sink: &mut K,
 ) -> SessionEnd
-    ensures served { Served module.now (S.left source.old) (S.left source.new) (K.taken sink.old) (K.taken sink.new) result }
+    ensures served { Served served_module.now (S.left source.old) (S.left source.new) (K.taken sink.old) (K.taken sink.new) result }
     ensures read_fault { result ≡ ReadFault → Rose (S.faults source.old) (S.faults source.new) }
     ensures write_fault { result ≡ WriteFault → Rose (K.faults sink.old) (K.faults sink.new) }
     ensures read_later { S.faults source.old ≤ S.faults source.new }
@@ -109,7 +109,7 @@ pub fn serve_plain<S: Source, K: Sink>(
     let Ok(mut talk) = Talk::new(alloc) else {
         return SessionEnd::Memory;
     };
-    if let Err(end) = talk.greet(module, sink) {
+    if let Err(end) = talk.greet(served_module, sink) {
         return end;
     }
     if let Err(end) = talk.turn(true, source, sink) {

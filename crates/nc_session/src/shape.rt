@@ -3,22 +3,18 @@
 ghost use Rattle.std.specs.Prelude.{◌≡◌, ◌≢◌, [], ◌∷◌, filter, MatchOption};
 ghost use Rattle.std.specs.List.{list_any, list_all};
 ghost use Rattle.std.specs.Option.{option_copied};
+ghost use Rattle.nc_names.specs.Signs.{is_white};
 ghost use Rattle.nc_message.specs.declared.tree.Part.{Part};
 ghost use Rattle.nc_session.specs.Shape as shape;
 
 use crate::words;
 use nc_message::{Attr, Elem, Part};
+use nc_names::is_white;
 
-fn is_blank(byte: u8) -> bool
-    ensures { result ≡ shape.is_blank byte }
+fn is_white_text(text: &str) -> bool
+    ensures { result ≡ list_all is_white text.now }
 {
-    byte == b' ' || byte == b'\t' || byte == b'\n' || byte == b'\r'
-}
-
-fn is_blank_text(text: &str) -> bool
-    ensures { result ≡ list_all shape.is_blank text.now }
-{
-    text.as_bytes().iter().all(|byte| is_blank(*byte))
+    text.as_bytes().iter().all(|byte| is_white(*byte))
 }
 
 /// Whether an element is one of this name in the base namespace.
@@ -41,7 +37,7 @@ pub(crate) fn counts(part: &Part) -> bool
 {
     match part {
         Part::Child(_) => true,
-        Part::Chars(text) => !is_blank_text(text.as_str()),
+        Part::Chars(text) => !is_white_text(text.as_str()),
     }
 }
 

@@ -1,27 +1,16 @@
 //! Keywords (RFC 7950 6.1.2 and 6.2).
 ghost use Rattle.std.specs.Prelude.{◌≡◌};
 ghost use Rattle.std.specs.List.{list_all};
-ghost use Rattle.nc_yang_words.specs.Keywords.{begins_name, goes_on_name, is_identifier, is_keyword, is_plus};
+ghost use Rattle.nc_names.specs.Signs.{is_in_identifier};
+ghost use Rattle.nc_yang_words.specs.Keywords.{is_identifier, is_keyword, is_plus};
 
-/// Whether an identifier may begin with the byte.
-fn begins_name(byte: u8) -> bool
-    ensures { result ≡ begins_name byte }
-{
-    matches!(byte, b'A'..=b'Z' | b'a'..=b'z' | b'_')
-}
-
-/// Whether an identifier may go on with the byte.
-fn goes_on_name(byte: u8) -> bool
-    ensures { result ≡ goes_on_name byte }
-{
-    begins_name(byte) || matches!(byte, b'0'..=b'9' | b'-' | b'.')
-}
+use nc_names::{begins_identifier, is_in_identifier};
 
 /// Whether an identifier may go on with the bytes.
 fn all_go_on(bytes: &[u8]) -> bool
-    ensures { result ≡ list_all goes_on_name bytes.now }
+    ensures { result ≡ list_all is_in_identifier bytes.now }
 {
-    bytes.iter().all(|byte| goes_on_name(*byte))
+    bytes.iter().all(|byte| is_in_identifier(*byte))
 }
 
 /// Whether the word is an identifier.
@@ -31,7 +20,7 @@ fn is_identifier(word: &[u8]) -> bool
     let Some((first, rest)) = word.split_first() else {
         return false;
     };
-    begins_name(*first) && all_go_on(rest)
+    begins_identifier(*first) && all_go_on(rest)
 }
 
 /// Whether the word is a keyword: an identifier, or two joined by one colon.
@@ -41,14 +30,14 @@ pub(crate) fn is_keyword(word: &[u8]) -> bool
     let Some((first, rest)) = word.split_first() else {
         return false;
     };
-    if !begins_name(*first) {
+    if !begins_identifier(*first) {
         return false;
     }
     for (place, byte) in rest.iter().enumerate() {
         if *byte == b':' {
             return is_identifier(&rest[place + 1..]);
         }
-        if !goes_on_name(*byte) {
+        if !is_in_identifier(*byte) {
             return false;
         }
     }

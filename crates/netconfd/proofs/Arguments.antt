@@ -4,21 +4,22 @@ use Rattle.std.proofs.Math.Seq.{drop-append_seam, take-append_seam}
 use Rattle.std.specs.List.{prefix_len, AllPass}
 use Rattle.std.proofs.lemmas.List.Elements.{All-cons, All-head}
 use Rattle.std.proofs.lemmas.Bool.Decides.{nat_tests}
-use Rattle.netconfd.specs.NarrowModule.{begins_name, continues_name, is_plain, is_date_byte, IsName, IsSpace, IsDate}
+use Rattle.nc_names.specs.Signs.{begins_identifier, is_in_identifier}
+use Rattle.netconfd.specs.NarrowModule.{is_plain, is_date_byte, IsName, IsSpace, IsDate}
 use Rattle.netconfd.specs.Readings.{after, split, first_passes, name, plain, quoted, is_date_from, date}
 use Rattle.netconfd.proofs.Fronts.{cond_some, bind_some, bind_is, passes_all, prefix_passes, split_seam, after-is, after-gives}
 
-begins_continues : (c : ℕ) → begins_name c ≡ true → continues_name c ≡ true
+begins_continues : (c : ℕ) → begins_identifier c ≡ true → is_in_identifier c ≡ true
 begins_continues c h = grind (arith, nat_tests)
 
 -- an identifier, behind which none of its bytes stands
-pub name-is : (v rest text : List ℕ) → text ≡ v ++ rest → IsName v → first_passes continues_name rest ≡ false → name text ≡ Some (v, rest)
+pub name-is : (v rest text : List ℕ) → text ≡ v ++ rest → IsName v → first_passes is_in_identifier rest ≡ false → name text ≡ Some (v, rest)
 name-is [] rest text e shape stops = absurd shape
 name-is (c ∷ cs) rest text e shape stops =
-    let all : AllPass continues_name (c ∷ cs) = All-cons (λ d. continues_name d ≡ true) c cs (begins_continues c shape.0) shape.1 in
+    let all : AllPass is_in_identifier (c ∷ cs) = All-cons (λ d. is_in_identifier d ≡ true) c cs (begins_continues c shape.0) shape.1 in
     let whole = (c ∷ cs) ++ rest in
-    ap name e ∙ ap (λ b. cond b (Some (split (prefix_len continues_name whole) whole)) None) shape.0
-    ∙ ap (λ n. Some (split n whole)) (passes_all continues_name (c ∷ cs) rest all stops) ∙ ap Some (split_seam (c ∷ cs) rest)
+    ap name e ∙ ap (λ b. cond b (Some (split (prefix_len is_in_identifier whole) whole)) None) shape.0
+    ∙ ap (λ n. Some (split n whole)) (passes_all is_in_identifier (c ∷ cs) rest all stops) ∙ ap Some (split_seam (c ∷ cs) rest)
 
 split_gives : (n : ℕ) (text v rest : List ℕ) → Some (split n text) ≡ Some (v, rest) → (take n text ≡ v) × (text ≡ v ++ rest)
 split_gives n text v rest e =
@@ -37,10 +38,10 @@ front_passes p c cs h = ap (λ b. take (cond b (1 + prefix_len p cs) 0) (c ∷ c
 pub name-gives : (v rest text : List ℕ) → name text ≡ Some (v, rest) → IsName v × (text ≡ v ++ rest)
 name-gives v rest [] e = cc
 name-gives v rest (c ∷ cs) e =
-    let both = cond_some (begins_name c) (Some (split (prefix_len continues_name (c ∷ cs)) (c ∷ cs))) (v, rest) e in
-    let parts = split_gives (prefix_len continues_name (c ∷ cs)) (c ∷ cs) v rest both.1 in
-    let front : c ∷ take (prefix_len continues_name cs) cs ≡ v = sym (front_passes continues_name c cs (begins_continues c both.0)) ∙ parts.0 in
-    (subst IsName front (both.0, prefix_passes continues_name cs), parts.1)
+    let both = cond_some (begins_identifier c) (Some (split (prefix_len is_in_identifier (c ∷ cs)) (c ∷ cs))) (v, rest) e in
+    let parts = split_gives (prefix_len is_in_identifier (c ∷ cs)) (c ∷ cs) v rest both.1 in
+    let front : c ∷ take (prefix_len is_in_identifier cs) cs ≡ v = sym (front_passes is_in_identifier c cs (begins_continues c both.0)) ∙ parts.0 in
+    (subst IsName front (both.0, prefix_passes is_in_identifier cs), parts.1)
 
 -- a namespace, and the quotation mark behind it
 pub plain-is : (v rest text : List ℕ) → text ≡ v ++ 34 ∷ rest → IsSpace v → plain text ≡ Some (v, rest)

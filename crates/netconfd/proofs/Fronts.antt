@@ -6,7 +6,7 @@ use Rattle.std.proofs.lemmas.List.Elements.{All-cons, All-head, All-tail, All-ni
 use Rattle.std.proofs.lemmas.List.Folds.{length-prefix_len}
 use Rattle.std.proofs.lemmas.Bool.Decides.{Decides-eqb}
 use Rattle.std.proofs.lemmas.Slice.Eq.{starts_is}
-use Rattle.netconfd.specs.NarrowModule.{is_blank}
+use Rattle.nc_names.specs.Signs.{is_white}
 use Rattle.netconfd.specs.Readings.{after_blanks, gap, after, piece, split, first_passes}
 
 -- a choice, and a step that may fail, gave something
@@ -61,41 +61,41 @@ after-gives bytes text rest e =
 
 -- blanks
 pub blanks_of : List ℕ → List ℕ
-blanks_of text = take (prefix_len is_blank text) text
+blanks_of text = take (prefix_len is_white text) text
 
-pub blanks_pass : (text : List ℕ) → AllPass is_blank (blanks_of text)
+pub blanks_pass : (text : List ℕ) → AllPass is_white (blanks_of text)
 unfolding blanks_of
-blanks_pass text = prefix_passes is_blank text
+blanks_pass text = prefix_passes is_white text
 
 pub blanks_first : (text : List ℕ) → text ≡ blanks_of text ++ after_blanks text
 unfolding blanks_of
-blanks_first text = sym (take-append-drop (prefix_len is_blank text) text)
+blanks_first text = sym (take-append-drop (prefix_len is_white text) text)
 
-pub blanks_over : (blanks rest : List ℕ) → AllPass is_blank blanks → first_passes is_blank rest ≡ false → after_blanks (blanks ++ rest) ≡ rest
+pub blanks_over : (blanks rest : List ℕ) → AllPass is_white blanks → first_passes is_white rest ≡ false → after_blanks (blanks ++ rest) ≡ rest
 blanks_over blanks rest all stops =
-    ap (λ n. drop n (blanks ++ rest)) (passes_all is_blank blanks rest all stops) ∙ drop-append_seam blanks rest
+    ap (λ n. drop n (blanks ++ rest)) (passes_all is_white blanks rest all stops) ∙ drop-append_seam blanks rest
 
-pub piece-is : (bytes blanks rest text : List ℕ) → text ≡ blanks ++ (bytes ++ rest) → AllPass is_blank blanks → first_passes is_blank (bytes ++ rest) ≡ false → piece bytes text ≡ Some rest
+pub piece-is : (bytes blanks rest text : List ℕ) → text ≡ blanks ++ (bytes ++ rest) → AllPass is_white blanks → first_passes is_white (bytes ++ rest) ≡ false → piece bytes text ≡ Some rest
 piece-is bytes blanks rest text e all stops =
     ap (λ t. after bytes (after_blanks t)) e ∙ ap (after bytes) (blanks_over blanks (bytes ++ rest) all stops) ∙ after-is bytes (bytes ++ rest) rest refl
 
 pub piece-gives : (bytes text rest : List ℕ) → piece bytes text ≡ Some rest → text ≡ blanks_of text ++ (bytes ++ rest)
 piece-gives bytes text rest e = blanks_first text ∙ ap (λ l. blanks_of text ++ l) (after-gives bytes (after_blanks text) rest e)
 
-pub gap-is : (blanks rest text : List ℕ) → text ≡ blanks ++ rest → AllPass is_blank blanks → blanks ≢ [] → first_passes is_blank rest ≡ false → gap text ≡ Some rest
+pub gap-is : (blanks rest text : List ℕ) → text ≡ blanks ++ rest → AllPass is_white blanks → blanks ≢ [] → first_passes is_white rest ≡ false → gap text ≡ Some rest
 gap-is [] rest text e all some stops = absurd (some refl)
 gap-is (b ∷ bs) rest text e all some stops =
-    ap gap e ∙ ap (λ t. cond t (Some (after_blanks (b ∷ (bs ++ rest)))) None) (All-head (λ c. is_blank c ≡ true) b bs all)
+    ap gap e ∙ ap (λ t. cond t (Some (after_blanks (b ∷ (bs ++ rest)))) None) (All-head (λ c. is_white c ≡ true) b bs all)
     ∙ ap Some (blanks_over (b ∷ bs) rest all stops)
 
 pub gap-gives : (text rest : List ℕ) → gap text ≡ Some rest → (text ≡ blanks_of text ++ rest) × (blanks_of text ≢ [])
 unfolding blanks_of
 gap-gives [] rest e = cc
 gap-gives (c ∷ cs) rest e =
-    let both = cond_some (is_blank c) (Some (after_blanks (c ∷ cs))) rest e in
+    let both = cond_some (is_white c) (Some (after_blanks (c ∷ cs))) rest e in
     let behind : after_blanks (c ∷ cs) ≡ rest = cc both.1 in
-    let count : prefix_len is_blank (c ∷ cs) ≡ 1 + prefix_len is_blank cs = ap (λ t. cond t (1 + prefix_len is_blank cs) 0) both.0 in
-    let size = length-prefix_len is_blank (c ∷ cs) in (
+    let count : prefix_len is_white (c ∷ cs) ≡ 1 + prefix_len is_white cs = ap (λ t. cond t (1 + prefix_len is_white cs) 0) both.0 in
+    let size = length-prefix_len is_white (c ∷ cs) in (
       blanks_first (c ∷ cs) ∙ ap (λ l. blanks_of (c ∷ cs) ++ l) behind,
       λ none. let size_none : length (blanks_of (c ∷ cs)) ≡ 0 = ap length none in omega (arith, size, size_none, count),
     )

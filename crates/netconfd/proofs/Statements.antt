@@ -6,7 +6,8 @@ use Rattle.std.proofs.lemmas.Bool.Decides.{nat_tests, Decides-eqb}
 use Rattle.std.proofs.lemmas.List.Elements.{All-head}
 use Rattle.std.proofs.lemmas.Str.Ascii.{IsAscii-from_all, IsAscii-cons, IsAscii-from_reads}
 use Rattle.nc_names.specs.declared.name.Module.{Module}
-use Rattle.netconfd.specs.NarrowModule.{is_blank, begins_name, continues_name, is_plain, is_date_byte, IsName, IsSpace, IsDate, Piece, Word, Sign, IsSpaced, IsNarrowModule}
+use Rattle.nc_names.specs.Signs.{begins_identifier, is_in_identifier, is_white}
+use Rattle.netconfd.specs.NarrowModule.{is_plain, is_date_byte, IsName, IsSpace, IsDate, Piece, Word, Sign, IsSpaced, IsNarrowModule}
 use Rattle.netconfd.specs.Readings.{after_blanks, gap, piece, first_passes, argument, statement, parts, is_end, Parts}
 use Rattle.netconfd.specs.declared.reader.Argument.{Argument}
 use Rattle.netconfd.specs.declared.reader.Argument.TheVariants.{Name, Quoted, Date}
@@ -24,7 +25,7 @@ spelled Name v = v
 spelled Quoted v = 34 ∷ v ++ 34 ∷ []
 spelled Date v = v
 
-argument-is : (kind : Argument) (v rest text : List ℕ) → text ≡ spelled kind v ++ rest → HasShape kind v → first_passes continues_name rest ≡ false → argument kind text ≡ Some (v, rest)
+argument-is : (kind : Argument) (v rest text : List ℕ) → text ≡ spelled kind v ++ rest → HasShape kind v → first_passes is_in_identifier rest ≡ false → argument kind text ≡ Some (v, rest)
 argument-is Name v rest text e shape stops = name-is v rest text e shape stops
 argument-is Quoted v rest text e shape stops = quoted-is v rest text e shape
 argument-is Date v rest text e shape stops = date-is v rest text e shape
@@ -34,32 +35,32 @@ argument-gives Name v rest text e = name-gives v rest text e
 argument-gives Quoted v rest text e = quoted-gives v rest text e
 argument-gives Date v rest text e = date-gives v rest text e
 
-name_no_blank : (c : ℕ) → begins_name c ≡ true → is_blank c ≡ false
+name_no_blank : (c : ℕ) → begins_identifier c ≡ true → is_white c ≡ false
 name_no_blank c h = grind (arith, nat_tests)
 
-date_no_blank : (c : ℕ) → is_date_byte 0 c ≡ true → is_blank c ≡ false
+date_no_blank : (c : ℕ) → is_date_byte 0 c ≡ true → is_white c ≡ false
 date_no_blank c h = grind (arith, nat_tests)
 
 -- no argument begins with a blank
-argument_starts : (kind : Argument) (v rest : List ℕ) → HasShape kind v → first_passes is_blank (spelled kind v ++ rest) ≡ false
+argument_starts : (kind : Argument) (v rest : List ℕ) → HasShape kind v → first_passes is_white (spelled kind v ++ rest) ≡ false
 argument_starts Name [] rest shape = absurd shape
 argument_starts Name (c ∷ cs) rest shape = name_no_blank c shape.0
 argument_starts Quoted v rest shape = refl
 argument_starts Date [] rest shape = absurd (omega (arith, shape.0))
 argument_starts Date (c ∷ cs) rest shape = date_no_blank c (shape.1 0 (omega arith))
 
-blank_no_name : (c : ℕ) → is_blank c ≡ true → continues_name c ≡ false
+blank_no_name : (c : ℕ) → is_white c ≡ true → is_in_identifier c ≡ false
 blank_no_name c h = grind (arith, nat_tests)
 
 -- behind a name stands a blank or a sign
-name_stops : (blanks : List ℕ) (sign : ℕ) (rest text : List ℕ) → text ≡ blanks ++ sign ∷ rest → AllPass is_blank blanks → continues_name sign ≡ false → first_passes continues_name text ≡ false
-name_stops [] sign rest text e all stops = ap (first_passes continues_name) e ∙ stops
+name_stops : (blanks : List ℕ) (sign : ℕ) (rest text : List ℕ) → text ≡ blanks ++ sign ∷ rest → AllPass is_white blanks → is_in_identifier sign ≡ false → first_passes is_in_identifier text ≡ false
+name_stops [] sign rest text e all stops = ap (first_passes is_in_identifier) e ∙ stops
 name_stops (b ∷ bs) sign rest text e all stops =
-    ap (first_passes continues_name) e ∙ blank_no_name b (All-head (λ c. is_blank c ≡ true) b bs all)
+    ap (first_passes is_in_identifier) e ∙ blank_no_name b (All-head (λ c. is_white c ≡ true) b bs all)
 
 -- a statement of a spaced text is read, and the rest is spaced as before
 statement-is : (keyword : List ℕ) (kind : Argument) (sign : ℕ) (v : List ℕ) (more : List Piece) (text : List ℕ)
-    → ((rest : List ℕ) → first_passes is_blank (keyword ++ rest) ≡ false) → is_blank sign ≡ false → continues_name sign ≡ false → HasShape kind v
+    → ((rest : List ℕ) → first_passes is_white (keyword ++ rest) ≡ false) → is_white sign ≡ false → is_in_identifier sign ≡ false → HasShape kind v
     → IsSpaced false (Word keyword ∷ Word (spelled kind v) ∷ Sign sign ∷ more) text
     → (rest : List ℕ) × ((statement keyword kind sign text ≡ Some (v, rest)) × IsSpaced false more rest)
 unfolding statement
@@ -132,20 +133,20 @@ statement_shape keyword kind sign v rest text e =
     (argument-gives kind v step3.0.1 step2.0 last.0).0
 
 -- the end of a text: at most blanks
-end-is : (rest : List ℕ) → AllPass is_blank rest → is_end rest ≡ true
+end-is : (rest : List ℕ) → AllPass is_white rest → is_end rest ≡ true
 end-is rest all =
-    let count : prefix_len is_blank rest ≡ length rest = ap (prefix_len is_blank) (sym (append-nil rest)) ∙ passes_all is_blank rest [] all refl in
-    let none : length (after_blanks rest) ≡ 0 = omega (arith, length-drop (prefix_len is_blank rest) rest, count) in
+    let count : prefix_len is_white rest ≡ length rest = ap (prefix_len is_white) (sym (append-nil rest)) ∙ passes_all is_white rest [] all refl in
+    let none : length (after_blanks rest) ≡ 0 = omega (arith, length-drop (prefix_len is_white rest) rest, count) in
     (Decides-eqb _ _).1 none
 
 nothing_left : (front rest text : List ℕ) → length rest ≡ 0 → text ≡ front ++ rest → text ≡ front
 nothing_left front [] text size e = e ∙ append-nil front
 nothing_left front (c ∷ cs) text size e = absurd (omega (arith, size))
 
-end-gives : (rest : List ℕ) → is_end rest ≡ true → AllPass is_blank rest
+end-gives : (rest : List ℕ) → is_end rest ≡ true → AllPass is_white rest
 end-gives rest h =
     let none : length (after_blanks rest) ≡ 0 = (Decides-eqb _ _).0 h in
-    subst (AllPass is_blank) (sym (nothing_left (blanks_of rest) (after_blanks rest) rest none (blanks_first rest))) (blanks_pass rest)
+    subst (AllPass is_white) (sym (nothing_left (blanks_of rest) (after_blanks rest) rest none (blanks_first rest))) (blanks_pass rest)
 
 -- what follows the statements of a narrow module
 abbrev closing : List Piece
@@ -247,10 +248,10 @@ parts-gives text m short features e =
 ascii_all : (p : ℕ → Bool) (v : List ℕ) → ((c : ℕ) → p c ≡ true → c < 128) → AllPass p v → IsAscii v
 ascii_all p v low all = IsAscii-from_all v (λ k d less. low (get_or v k d) (all k d less))
 
-begins_low : (c : ℕ) → begins_name c ≡ true → c < 128
+begins_low : (c : ℕ) → begins_identifier c ≡ true → c < 128
 begins_low c h = grind (arith, nat_tests)
 
-continues_low : (c : ℕ) → continues_name c ≡ true → c < 128
+continues_low : (c : ℕ) → is_in_identifier c ≡ true → c < 128
 continues_low c h = grind (arith, nat_tests)
 
 plain_low : (c : ℕ) → is_plain c ≡ true → c < 128
@@ -261,7 +262,7 @@ date_low k c h = grind (arith, nat_tests)
 
 ascii_name : (v : List ℕ) → IsName v → IsAscii v
 ascii_name [] shape = absurd shape
-ascii_name (c ∷ cs) shape = IsAscii-cons c cs (begins_low c shape.0) (ascii_all continues_name cs continues_low shape.1)
+ascii_name (c ∷ cs) shape = IsAscii-cons c cs (begins_low c shape.0) (ascii_all is_in_identifier cs continues_low shape.1)
 
 ascii_date : (v : List ℕ) → IsDate v → IsAscii v
 ascii_date v shape = IsAscii-from_reads v 10 (omega (arith, shape.0)) (λ k less. date_low k (get_or v k 0) (shape.1 k less))

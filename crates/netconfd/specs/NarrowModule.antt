@@ -1,25 +1,14 @@
 -- Narrow module texts: `module N { namespace "U"; prefix P; revision D; }` (RFC 7950 6.1.3, 6.2, 7.1).
 use Rattle.std.specs.Prelude.{◌≡◌, ◌≢◌, ◌<◌, ◌≤◌, ◌==◌, ◌&&◌, ◌||◌, ℕ, Bool, true, false, not, nat_le, List, [], ◌∷◌, ◌++◌, length, slice_index, codes}
 use Rattle.std.specs.List.{AllPass}
-use Rattle.std.specs.Char.{is_ascii_alphabetic, is_ascii_alphanumeric, is_ascii_digit}
+use Rattle.std.specs.Char.{is_ascii_digit}
 use Rattle.nc_names.specs.declared.name.Module.{Module}
-
--- white space: a space, a tab, a line feed or a carriage return
-abbrev pub is_blank : ℕ → Bool
-is_blank c = c == 32 || c == 9 || c == 10 || c == 13
-
--- an ASCII letter or `_`
-abbrev pub begins_name : ℕ → Bool
-begins_name c = is_ascii_alphabetic c || c == 95
-
--- an ASCII letter, a digit, `_`, `-` or `.`
-abbrev pub continues_name : ℕ → Bool
-continues_name c = is_ascii_alphanumeric c || c == 95 || c == 45 || c == 46
+use Rattle.nc_names.specs.Signs.{begins_identifier, is_in_identifier, is_white}
 
 -- an identifier (RFC 7950 6.2)
 abbrev pub IsName : List ℕ → Type 0
 IsName [] = ⊥
-IsName (c ∷ cs) = (begins_name c ≡ true) × AllPass continues_name cs
+IsName (c ∷ cs) = (begins_identifier c ≡ true) × AllPass is_in_identifier cs
 
 -- a printable byte that is not a space, a double quotation mark or a backslash
 abbrev pub is_plain : ℕ → Bool
@@ -42,15 +31,15 @@ pub data Piece : Type 0 where
   Word : List ℕ → Piece
   Sign : ℕ → Piece
 
--- The text is these pieces in order. Blanks may stand before, between and behind them, and at least
--- one stands between two words; `after_word` says that a word stands just before the text.
+-- The text is these pieces in order. White space may stand before, between and behind them, and some
+-- stands between two words; `after_word` says that a word stands just before the text.
 abbrev pub IsSpaced : (after_word : Bool) → List Piece → List ℕ → Type 0
-IsSpaced after_word [] text = AllPass is_blank text
+IsSpaced after_word [] text = AllPass is_white text
 IsSpaced after_word (Word word ∷ pieces) text =
-    (blanks : List ℕ) × (rest : List ℕ) × (text ≡ blanks ++ (word ++ rest)) × AllPass is_blank blanks
+    (blanks : List ℕ) × (rest : List ℕ) × (text ≡ blanks ++ (word ++ rest)) × AllPass is_white blanks
     × (after_word ≡ true → blanks ≢ []) × IsSpaced true pieces rest
 IsSpaced after_word (Sign sign ∷ pieces) text =
-    (blanks : List ℕ) × (rest : List ℕ) × (text ≡ blanks ++ sign ∷ rest) × AllPass is_blank blanks
+    (blanks : List ℕ) × (rest : List ℕ) × (text ≡ blanks ++ sign ∷ rest) × AllPass is_white blanks
     × IsSpaced false pieces rest
 
 -- `module N { namespace "U"; prefix P; revision D; }`

@@ -1,7 +1,8 @@
 -- How a narrow module text is read from its front: each reading gives what it read and what is left.
 use Rattle.std.specs.Prelude.{ℕ, ◌+◌, ◌==◌, ◌&&◌, Bool, false, nat_eq, List, [], ◌∷◌, length, take, drop, Option, None, Some, option_and_then, codes, if◌then◌else◌}
 use Rattle.std.specs.List.{prefix_len, starts_with}
-use Rattle.netconfd.specs.NarrowModule.{is_blank, begins_name, continues_name, is_plain, is_date_byte}
+use Rattle.nc_names.specs.Signs.{begins_identifier, is_in_identifier, is_white}
+use Rattle.netconfd.specs.NarrowModule.{is_plain, is_date_byte}
 use Rattle.netconfd.specs.declared.reader.Argument.{Argument}
 use Rattle.netconfd.specs.declared.reader.Argument.TheVariants.{Name, Quoted, Date}
 
@@ -11,12 +12,12 @@ o >>= f = option_and_then f o
 
 -- what is left behind blanks
 abbrev pub after_blanks : List ℕ → List ℕ
-after_blanks text = drop (prefix_len is_blank text) text
+after_blanks text = drop (prefix_len is_white text) text
 
 -- what is left behind blanks, of which there is at least one
 abbrev pub gap : List ℕ → Option (List ℕ)
 gap [] = None
-gap (c ∷ cs) = if is_blank c then Some (after_blanks (c ∷ cs)) else None
+gap (c ∷ cs) = if is_white c then Some (after_blanks (c ∷ cs)) else None
 
 -- what is left behind these bytes
 abbrev pub after : List ℕ → List ℕ → Option (List ℕ)
@@ -34,7 +35,7 @@ first_passes p [] = false
 first_passes p (c ∷ cs) = p c
 
 abbrev pub name : List ℕ → Option (List ℕ × List ℕ)
-name text = if first_passes begins_name text then Some (split (prefix_len continues_name text) text) else None
+name text = if first_passes begins_identifier text then Some (split (prefix_len is_in_identifier text) text) else None
 
 -- what stands before a quotation mark
 abbrev pub plain : List ℕ → Option (List ℕ × List ℕ)

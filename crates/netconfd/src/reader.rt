@@ -1,8 +1,11 @@
 //! The reading of a narrow module text from its front.
 ghost use Rattle.std.specs.Prelude.{◌≡◌, ◌+◌, ◌≤◌, ◌↔◌, ℕ, List, [], ◌∷◌, length, take, drop, None, Some, IsTrue, MatchOption};
 ghost use Rattle.std.specs.List.{prefix_len};
+ghost use Rattle.nc_names.specs.Signs as signs;
 ghost use Rattle.netconfd.specs.NarrowModule as shapes;
 ghost use Rattle.netconfd.specs.Readings as readings;
+
+use nc_names::{begins_identifier, is_in_identifier, is_white};
 
 /// The kinds of a statement's argument.
 #[derive(Clone, Copy, Debug, PartialEq, Eq)]
@@ -14,27 +17,6 @@ pub enum Argument {
     Quoted,
     /// A revision date (RFC 7950 7.1.9).
     Date,
-}
-
-/// White space (RFC 7950 6.1.3): a space, a tab, a line feed or a carriage return.
-fn is_blank(byte: u8) -> bool
-    ensures { result ≡ shapes.is_blank byte }
-{
-    byte == b' ' || byte == b'\t' || byte == b'\n' || byte == b'\r'
-}
-
-/// A byte with which an identifier may begin (RFC 7950 6.2).
-fn begins_name(byte: u8) -> bool
-    ensures { result ≡ shapes.begins_name byte }
-{
-    byte.is_ascii_alphabetic() || byte == b'_'
-}
-
-/// A byte with which an identifier may go on (RFC 7950 6.2).
-fn continues_name(byte: u8) -> bool
-    ensures { result ≡ shapes.continues_name byte }
-{
-    byte.is_ascii_alphanumeric() || byte == b'_' || byte == b'-' || byte == b'.'
 }
 
 /// A printable byte that may stand in a namespace.
@@ -57,11 +39,11 @@ fn is_date_byte(place: usize, byte: u8) -> bool
 
 /// How many blanks stand first.
 fn count_blanks(text: &[u8]) -> usize
-    ensures count { result ≡ prefix_len shapes.is_blank text.now }
+    ensures count { result ≡ prefix_len signs.is_white text.now }
     ensures within { result ≤ length text.now }
 {
     for (place, byte) in text.iter().enumerate() {
-        if !is_blank(*byte) {
+        if !is_white(*byte) {
             return place;
         }
     }
@@ -70,11 +52,11 @@ fn count_blanks(text: &[u8]) -> usize
 
 /// How many bytes stand first that may stand in an identifier.
 fn count_name(text: &[u8]) -> usize
-    ensures count { result ≡ prefix_len shapes.continues_name text.now }
+    ensures count { result ≡ prefix_len signs.is_in_identifier text.now }
     ensures within { result ≤ length text.now }
 {
     for (place, byte) in text.iter().enumerate() {
-        if !continues_name(*byte) {
+        if !is_in_identifier(*byte) {
             return place;
         }
     }
@@ -145,7 +127,7 @@ impl<'a> Reader<'a> {
             (readings.gap self.old.left.now ≡ None)
             (λ _. readings.gap self.old.left.now ≡ Some self.new.left.now) }
     {
-        if !is_blank(*self.left.first()?) {
+        if !is_white(*self.left.first()?) {
             return None;
         }
         self.blanks();
@@ -178,7 +160,7 @@ impl<'a> Reader<'a> {
             (readings.name self.old.left.now ≡ None)
             (λ name. readings.name self.old.left.now ≡ Some (name.now, self.new.left.now)) }
     {
-        if !begins_name(*self.left.first()?) {
+        if !begins_identifier(*self.left.first()?) {
             return None;
         }
         Some(self.cut(count_name(self.left)))

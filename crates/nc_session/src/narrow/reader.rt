@@ -2,11 +2,12 @@
 //! space, fixed bytes, names, values, and text.
 ghost use Rattle.std.specs.Prelude.{◌≡◌, ◌≤◌, ◌+◌, ℕ, List, [], ◌∷◌, length, take, drop, None, Some, IfOk, MatchOption, nat_eq};
 ghost use Rattle.std.specs.List.{starts_with};
+ghost use Rattle.nc_names.specs.Signs as signs;
 ghost use Rattle.nc_session.specs.Narrow as shapes;
 ghost use Rattle.nc_session.specs.NarrowReadings as readings;
 
 use crate::narrow::scan;
-use nc_names::{Memory, Text};
+use nc_names::{Memory, Text, begins_identifier};
 use std::alloc::Global;
 
 /// The bytes that are left to be read. After a call that answers `None` nothing further is read.
@@ -58,10 +59,10 @@ impl<'a> Reader<'a> {
 
     /// Whether a byte stands first with which a name may begin.
     pub(crate) fn is_at_name(&self) -> bool
-        ensures { result ≡ readings.first_passes shapes.begins_name self.now.rest.now }
+        ensures { result ≡ readings.first_passes signs.begins_identifier self.now.rest.now }
     {
         match self.rest.first() {
-            Some(byte) => scan::begins_name(*byte),
+            Some(byte) => begins_identifier(*byte),
             None => false,
         }
     }

@@ -1,11 +1,12 @@
 //! Which bytes may stand where in a narrow message, and how many of a kind stand first.
 ghost use Rattle.std.specs.Prelude.{◌≡◌, ◌≤◌, length, drop, IfOk};
 ghost use Rattle.std.specs.List.{prefix_len};
+ghost use Rattle.nc_names.specs.Signs as signs;
 ghost use Rattle.nc_session.specs.Narrow as shapes;
 ghost use Rattle.nc_session.specs.NarrowReadings as readings;
 ghost use Rattle.std.specs.Str.{IsAscii};
 
-use nc_names::{Memory, Text};
+use nc_names::{Memory, Text, is_in_identifier};
 use std::alloc::Global;
 
 /// White space (XML 1.0, 2.3): a space or a line feed.
@@ -13,20 +14,6 @@ pub(crate) fn is_blank(byte: u8) -> bool
     ensures { result ≡ shapes.is_blank byte }
 {
     byte == b' ' || byte == b'\n'
-}
-
-/// A byte with which a name may begin (XML 1.0, 2.3).
-pub(crate) fn begins_name(byte: u8) -> bool
-    ensures { result ≡ shapes.begins_name byte }
-{
-    byte.is_ascii_alphabetic() || byte == b'_'
-}
-
-/// A byte with which a name may go on (XML 1.0, 2.3).
-fn continues_name(byte: u8) -> bool
-    ensures { result ≡ shapes.continues_name byte }
-{
-    byte.is_ascii_alphanumeric() || byte == b'_' || byte == b'-' || byte == b'.'
 }
 
 /// A printable byte that begins no markup and no reference.
@@ -65,11 +52,11 @@ pub(crate) fn count_blanks(bytes: &[u8]) -> usize
 
 /// How many bytes stand first that may stand in a name.
 pub(crate) fn count_name(bytes: &[u8]) -> usize
-    ensures count { result ≡ prefix_len shapes.continues_name bytes.now }
+    ensures count { result ≡ prefix_len signs.is_in_identifier bytes.now }
     ensures within { result ≤ length bytes.now }
 {
     for (place, byte) in bytes.iter().enumerate() {
-        if !continues_name(*byte) {
+        if !is_in_identifier(*byte) {
             return place;
         }
     }

@@ -1,8 +1,8 @@
 use Rattle.std.proofs.Common.{◌≡◌, ◌+◌, drop}
 use Rattle.std.specs.List.{prefix_len}
-use Rattle.netconfd.specs.NarrowModule as shapes
+use Rattle.nc_names.specs.Signs as signs
 use Rattle.netconfd.proofs.reader.count_name.Given as goal
 
 -- each byte so far passes
 abbrev pub invariant-loop-place : goal.invariant-loop-place
-invariant-loop-place l = prefix_len shapes.continues_name l.text ≡ l.place + prefix_len shapes.continues_name (drop l.place l.text)
+invariant-loop-place l = prefix_len signs.is_in_identifier l.text ≡ l.place + prefix_len signs.is_in_identifier (drop l.place l.text)

@@ -1,5 +1,6 @@
 use Rattle.std.proofs.Common.{◌≡◌, ◌<◌, ◌∷◌, [], suc, length, true, Some, subst, sym, arith}
-use Rattle.nc_session.specs.Narrow.{is_blank, begins_name}
+use Rattle.nc_names.specs.Signs.{begins_identifier}
+use Rattle.nc_session.specs.Narrow.{is_blank}
 use Rattle.nc_session.specs.NarrowReadings.{first_passes, attribute, attributes}
 use Rattle.nc_session.proofs.NarrowCode.{Goes, goes_more, attributes_more}
 use Rattle.nc_session.proofs.narrow.reader.Reader.attributes.Goals as goal
@@ -13,7 +14,7 @@ loop-attrs-preserved c =
     let a = c.in-Some.attr in
     let read : attribute behind ≡ Some (a, next) = rw c.in-Some.is at c.in_ok-attr.ensures.read in
     let shorter = rw c.in-Some.is at c.in_ok-attr.ensures.within in
-    let named : first_passes begins_name behind ≡ true = cc (c.is_at_name.ensures, c.if-not-is_at_name.false) in
+    let named : first_passes begins_identifier behind ≡ true = cc (c.is_at_name.ensures, c.if-not-is_at_name.false) in
     let parted : first_passes is_blank text ≡ true = cc (c.is_at_blank-parted.ensures, c.if-not-parted.false) in
     let less : length next < length text = omega (arith, shorter, c.blanks.ensures.within) in
     let g = goes_more attributes (suc (length begin)) begin c.loop-attrs.attrs (a ∷ []) text next c.loop-attrs.invariant.0

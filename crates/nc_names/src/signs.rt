@@ -1,0 +1,26 @@
+//! The characters of identifiers and of white space, as bytes.
+ghost use Rattle.std.specs.Prelude.{◌≡◌};
+ghost use Rattle.nc_names.specs.Signs as signs;
+
+/// Whether an identifier may begin with the byte: an ASCII letter or `_` (RFC 7950 6.2).
+pub fn begins_identifier(byte: u8) -> bool
+    ensures { result ≡ signs.begins_identifier byte }
+{
+    byte.is_ascii_alphabetic() || byte == b'_'
+}
+
+/// Whether an identifier may go on with the byte: an ASCII letter, a digit, `_`, `-` or `.` (RFC 7950
+/// 6.2).
+pub fn is_in_identifier(byte: u8) -> bool
+    ensures { result ≡ signs.is_in_identifier byte }
+{
+    begins_identifier(byte) || byte.is_ascii_digit() || byte == b'-' || byte == b'.'
+}
+
+/// Whether the byte is white space: a space, a tab, a line feed or a carriage return (`S` of XML 1.0,
+/// 2.3; `sep` of RFC 7950 14).
+pub fn is_white(byte: u8) -> bool
+    ensures { result ≡ signs.is_white byte }
+{
+    byte == b' ' || byte == b'\t' || byte == b'\n' || byte == b'\r'
+}

@@ -1,60 +1,65 @@
 //! Which bytes are narrow messages, and the trees that they have.
+//!
+//! Trees are compared as they are shown: an element as `(name«namespace» ..)`, with its bindings as
+//! `xmlns:prefix«namespace»`, its attributes as `prefix:name«namespace»=«value»` and its parts; text as
+//! `«text»`. No narrow message has `«` or `»`, so two that are shown alike have the same tree.
 use crate::narrow::{one_tree, read_tree};
-use nc_message::{Attr, Elem, Part, Tree};
-use nc_names::{Bound, Boxed, Many, Memory, QName, Text};
+use nc_message::{Elem, Part};
+use nc_names::{Bound, Memory, QName, Text};
 use std::alloc::Global;
+use std::fmt::Write;
 use std::test::Fail;
+
+#[cycle(show)]
+fn show_elem(shown: &mut String, elem: &Elem) -> Result<(), Memory> {
+    write!(shown, "({}«{}»", elem.name.name, elem.name.space)?;
+    show_bounds(shown, elem)?;
+    show_attrs(shown, elem)?;
+    for part in elem.parts.as_slice() {
+        show_part(shown, part)?;
+    }
+    shown.push(')')?;
+    Ok(())
+}
+
+fn show_bounds(shown: &mut String, elem: &Elem) -> Result<(), Memory> {
+    for bound in elem.bounds.as_slice() {
+        let Bound { prefix, space } = bound;
+        write!(shown, " xmlns:{prefix}«{space}»")?;
+    }
+    Ok(())
+}
+
+fn show_attrs(shown: &mut String, elem: &Elem) -> Result<(), Memory> {
+    for attr in elem.attrs.as_slice() {
+        let QName { space, name } = &attr.name;
+        write!(shown, " {}:{name}«{space}»=«{}»", attr.prefix, attr.value)?;
+    }
+    Ok(())
+}
+
+#[cycle(show)]
+fn show_part(shown: &mut String, part: &Part) -> Result<(), Memory> {
+    shown.push(' ')?;
+    match part {
+        Part::Child(elem) => show_elem(shown, elem.get())?,
+        Part::Chars(text) => write!(shown, "«{text}»")?,
+    }
+    Ok(())
+}
+
+/// The tree of a message as it is shown. It is empty where the message is not narrow.
+fn shown_tree(alloc: Global, message: &str) -> Result<String, Memory> {
+    let mut shown = String::new(alloc);
+    if let Some(tree) = read_tree(alloc, message.as_bytes())? {
+        show_elem(&mut shown, &tree.root)?;
+    }
+    Ok(shown)
+}
 
 /// Whether a text is a narrow message.
 fn is_narrow(alloc: Global, message: &str) -> Result<bool, Memory> {
     Ok(read_tree(alloc, message.as_bytes())?.is_some())
-}
-
-/// A qualified name.
-fn named(alloc: Global, space: &str, name: &str) -> Result<QName, Memory> {
-    Ok(QName {
-        space: Text::from_text(alloc, space)?,
-        name: Text::from_text(alloc, name)?,
-    })
-}
-
-/// Puts an attribute without a namespace at the end.
-fn add_attr(attrs: &mut Many<Attr>, name: &str, value: &str) -> Result<(), Memory> {
-    let alloc = attrs.alloc();
-    attrs.push(Attr {
-        name: named(alloc, "", name)?,
-        prefix: Text::new(alloc),
-        value: Text::from_text(alloc, value)?,
-    })
-}
-
-/// Puts text at the end.
-fn add_text(parts: &mut Many<Part>, text: &str) -> Result<(), Memory> {
-    let text = Text::from_text(parts.alloc(), text)?;
-    parts.push(Part::Chars(text))
-}
-
-/// Puts a child at the end.
-fn add_child(parts: &mut Many<Part>, child: Elem) -> Result<(), Memory> {
-    let child = Boxed::new(parts.alloc(), child)?;
-    parts.push(Part::Child(child))
-}
-
-/// An element of a namespace, with nothing in it.
-fn bare(alloc: Global, space: &str, name: &str) -> Result<Elem, Memory> {
-    let mut bounds = Many::new(alloc);
-    if !space.is_empty() {
-        bounds.push(Bound {
-            prefix: Text::new(alloc),
-            space: Text::from_text(alloc, space)?,
-        })?;
-    }
-    Ok(Elem {
-        name: named(alloc, space, name)?,
-        bounds,
-        attrs: Many::new(alloc),
-        parts: Many::new(alloc),
-    })
 }
 
 /// So many elements within one another.
@@ -69,29 +74,41 @@ fn nested(alloc: Global, count: usize) -> Result<Text, Memory> {
     Ok(text)
 }
 
-#[test]
-fn well_formed_messages_are_read(rt: HostRuntime) -> Result<(), Fail> {
-    one_tree();
-    let table = [
-        "<a/>",
-        " \n<a />\n ",
-        "<a></a >",
-        "<_a-1.b\nc = 'd'\n e=\"'>]]>\" />",
-        "<a xmlns='' b=''/>",
-        "<a>]] > ]> \n</a>",
-        "<a><b/><b></b>c</a>",
-        "<a b='' B=''/>",
-    ];
-    for message in table.iter() {
-        let read = is_narrow(rt.alloc(), message)?;
-        assert!(rt; read, "{message} is refused");
-    }
-    Ok(())
+/// Narrow messages, and their trees as they are shown.
+fn narrow_messages() -> [(&'static str, &'static str); 11] {
+    [
+        ("<a/>", "(a«»)"),
+        (" \n<a />\n ", "(a«»)"),
+        ("<a></a >", "(a«»)"),
+        (
+            "<_a-1.b\nc = 'd'\n e=\"'>]]>\" />",
+            "(_a-1.b«» :c«»=«d» :e«»=«'>]]>»)",
+        ),
+        ("<a xmlns='' b=''/>", "(a«» :b«»=«»)"),
+        ("<a>]] > ]> \n</a>", "(a«» «]] > ]> \n»)"),
+        ("<a><b/><b></b>c</a>", "(a«» (b«») (b«») «c»)"),
+        ("<a b='' B=''/>", "(a«» :b«»=«» :B«»=«»)"),
+        // A namespace is inherited, and emptied.
+        (
+            "<a xmlns=\"urn:a\">x<b/><c xmlns=''/> y</a>",
+            "(a«urn:a» xmlns:«urn:a» «x» (b«urn:a» xmlns:«urn:a») (c«») « y»)",
+        ),
+        // Attributes keep their order, and have no namespace.
+        (
+            "<a z='\"' xmlns='urn:a' b = \"2\" a=''/>",
+            "(a«urn:a» xmlns:«urn:a» :z«»=«\"» :b«»=«2» :a«»=«»)",
+        ),
+        // Text is kept as it stands.
+        (
+            "\n<a>\n  <b>1 > 0</b>\n</a>\n",
+            "(a«» «\n  » (b«» «1 > 0») «\n»)",
+        ),
+    ]
 }
 
-#[test]
-fn other_texts_are_refused(rt: HostRuntime) -> Result<(), Fail> {
-    let table = [
+/// Texts that are no narrow messages.
+fn other_texts() -> [&'static str; 36] {
+    [
         "",
         " ",
         "a",
@@ -128,8 +145,22 @@ fn other_texts_are_refused(rt: HostRuntime) -> Result<(), Fail> {
         "<a><![CDATA[b]]></a>",
         "<?xml version='1.0'?><a/>",
         "<!DOCTYPE a><a/>",
-    ];
-    for message in table.iter() {
+    ]
+}
+
+#[test]
+fn narrow_messages_are_read_to_their_trees(rt: HostRuntime) -> Result<(), Fail> {
+    one_tree();
+    for (message, tree) in narrow_messages() {
+        let shown = shown_tree(rt.alloc(), message)?;
+        assert_eq!(rt; shown.as_str(), tree, "at {message}");
+    }
+    Ok(())
+}
+
+#[test]
+fn other_texts_are_refused(rt: HostRuntime) -> Result<(), Fail> {
+    for message in other_texts() {
         let read = is_narrow(rt.alloc(), message)?;
         assert!(rt; !read, "{message} is read");
     }
@@ -144,44 +175,5 @@ fn sixty_four_elements_may_be_open(rt: HostRuntime) -> Result<(), Fail> {
     let more_read = is_narrow(rt.alloc(), more.as_str())?;
     assert!(rt; most_read);
     assert!(rt; !more_read);
-    Ok(())
-}
-
-#[test]
-fn a_namespace_is_inherited_and_emptied(rt: HostRuntime) -> Result<(), Fail> {
-    let alloc = rt.alloc();
-    let read = read_tree(alloc, b"<a xmlns=\"urn:a\">x<b/><c xmlns=''/> y</a>")?;
-    let mut root = bare(alloc, "urn:a", "a")?;
-    add_text(&mut root.parts, "x")?;
-    add_child(&mut root.parts, bare(alloc, "urn:a", "b")?)?;
-    add_child(&mut root.parts, bare(alloc, "", "c")?)?;
-    add_text(&mut root.parts, " y")?;
-    assert_eq!(rt; read, Some(Tree { root }));
-    Ok(())
-}
-
-#[test]
-fn attributes_keep_their_order(rt: HostRuntime) -> Result<(), Fail> {
-    let alloc = rt.alloc();
-    let read = read_tree(alloc, b"<a z='\"' xmlns='urn:a' b = \"2\" a=''/>")?;
-    let mut root = bare(alloc, "urn:a", "a")?;
-    add_attr(&mut root.attrs, "z", "\"")?;
-    add_attr(&mut root.attrs, "b", "2")?;
-    add_attr(&mut root.attrs, "a", "")?;
-    assert_eq!(rt; read, Some(Tree { root }));
-    Ok(())
-}
-
-#[test]
-fn text_is_kept_as_it_stands(rt: HostRuntime) -> Result<(), Fail> {
-    let alloc = rt.alloc();
-    let read = read_tree(alloc, b"\n<a>\n  <b>1 > 0</b>\n</a>\n")?;
-    let mut inner = bare(alloc, "", "b")?;
-    add_text(&mut inner.parts, "1 > 0")?;
-    let mut root = bare(alloc, "", "a")?;
-    add_text(&mut root.parts, "\n  ")?;
-    add_child(&mut root.parts, inner)?;
-    add_text(&mut root.parts, "\n")?;
-    assert_eq!(rt; read, Some(Tree { root }));
     Ok(())
 }

@@ -68,24 +68,31 @@ fn one(alloc: Global, call: u64) -> Result<Many<u64>, Memory> {
     Ok(calls)
 }
 
-fn setup_files(alloc: Global, failing: Many<u64>) -> Result<MemFiles, Memory> {
+fn setup_files(alloc: Global, case: &Case) -> Result<MemFiles, Memory> {
     let mut files = Many::new(alloc);
     files.push(NamedFile {
         name: Text::from_text(alloc, "setup/modules/ex.yang")?,
         bytes: Bytes::from_slice(alloc, MODULE.as_bytes())?,
     })?;
-    Ok(MemFiles::new(files, failing))
+    Ok(MemFiles::new(files, one(alloc, case.bad_file)?))
+}
+
+fn source_of(alloc: Global, case: &Case) -> Result<MemSource, Memory> {
+    let input = Bytes::from_slice(alloc, case.input.as_bytes())?;
+    Ok(MemSource::new(input, case.piece.max(1), one(alloc, case.bad_read)?))
+}
+
+fn world_of(alloc: Global, case: &Case) -> Result<World<MemFiles, MemSource, MemSink>, Memory> {
+    Ok(World {
+        files: setup_files(alloc, case)?,
+        source: source_of(alloc, case)?,
+        sink: MemSink::new(alloc, one(alloc, case.bad_write)?),
+    })
 }
 
 fn outcome_of(alloc: Global, case: &Case) -> Result<Outcome, Memory> {
     let words = words_of(alloc, case.words)?;
-    let input = Bytes::from_slice(alloc, case.input.as_bytes())?;
-    let world = World {
-        files: setup_files(alloc, one(alloc, case.bad_file)?)?,
-        source: MemSource::new(input, case.piece.max(1), one(alloc, case.bad_read)?),
-        sink: MemSink::new(alloc, one(alloc, case.bad_write)?),
-    };
-    let ran = run(alloc, words.as_slice(), world);
+    let ran = run(alloc, words.as_slice(), world_of(alloc, case)?);
     Ok(Outcome {
         status: ran.status,
         taken: Bytes::from_slice(alloc, ran.world.sink.taken())?,
@@ -287,7 +294,26 @@ fn a_later_message_without_a_reading_ends_the_session(rt: HostRuntime) -> Result
 }
 
 #[test]
-fn faults_of_the_outside_have_their_status(rt: HostRuntime) -> Result<(), Fail> {
+fn a_failed_write_has_its_status(rt: HostRuntime) -> Result<(), Fail> {
+    let alloc = rt.alloc();
+    let input = joined(alloc, &[HELLO, GET, CLOSE])?;
+    let first = Case {
+        input: input.as_str(),
+        piece: 200,
+        bad_write: 1,
+        ..SAMPLE
+    };
+    assert!(rt; ends_with(alloc, &first, 7, &[])?);
+    let third = Case {
+        bad_write: 3,
+        ..first
+    };
+    assert!(rt; ends_with(alloc, &third, 7, &[SERVER_HELLO, DATA])?);
+    Ok(())
+}
+
+#[test]
+fn a_failed_read_or_file_has_its_status(rt: HostRuntime) -> Result<(), Fail> {
     let alloc = rt.alloc();
     let input = joined(alloc, &[HELLO, GET, CLOSE])?;
     let sample = Case {
@@ -300,16 +326,6 @@ fn faults_of_the_outside_have_their_status(rt: HostRuntime) -> Result<(), Fail> 
         ..sample
     };
     assert!(rt; ends_with(alloc, &read, 6, &[SERVER_HELLO])?);
-    let write = Case {
-        bad_write: 1,
-        ..sample
-    };
-    assert!(rt; ends_with(alloc, &write, 7, &[])?);
-    let third = Case {
-        bad_write: 3,
-        ..sample
-    };
-    assert!(rt; ends_with(alloc, &third, 7, &[SERVER_HELLO, DATA])?);
     let file = Case {
         bad_file: 2,
         ..sample

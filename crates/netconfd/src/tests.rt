@@ -13,9 +13,10 @@ fn module_text() -> &'static str {
     "module ex {\n  namespace \"urn:ex\";\n  prefix ex;\n  revision 2024-01-01;\n}\n"
 }
 
-// The same module in other layouts.
-fn other_layouts() -> [&'static str; 2] {
+// The same module in this layout and others.
+fn layouts() -> [&'static str; 3] {
     [
+        module_text(),
         "module ex{namespace \"urn:ex\";prefix p;revision 2024-01-01;}",
         "\r\n\t module\tex { namespace\n\"urn:ex\" ; prefix _-. ; revision 2024-01-01 ; } ",
     ]
@@ -105,6 +106,11 @@ fn read_in(alloc: Global, folder: &str, failing: u64) -> Result<Module, SetupFau
     read_setup(alloc, &mut files, folder)
 }
 
+// Why that is no module.
+fn fault_in(alloc: Global, folder: &str, failing: u64) -> Option<SetupFault> {
+    read_in(alloc, folder, failing).err()
+}
+
 #[test]
 fn three_plain_words_are_a_session(rt: HostRuntime) -> Result<(), Fail> {
     let words = words_of(rt.alloc(), "stdio setup ann")?;
@@ -128,16 +134,9 @@ fn other_words_have_no_reading(rt: HostRuntime) -> Result<(), Fail> {
 #[test]
 fn narrow_modules_are_read(rt: HostRuntime) -> Result<(), Fail> {
     let alloc = rt.alloc();
-    assert_eq!(rt;
-        read_module(alloc, module_text().as_bytes()),
-        Ok(Some(example(alloc)?))
-    );
-    for text in other_layouts() {
-        assert_eq!(rt;
-            read_module(alloc, text.as_bytes()),
-            Ok(Some(example(alloc)?)),
-            "at {text}"
-        );
+    for text in layouts() {
+        let want = Some(example(alloc)?);
+        assert_eq!(rt; read_module(alloc, text.as_bytes()), Ok(want), "at {text}");
     }
     Ok(())
 }
@@ -154,17 +153,33 @@ fn other_texts_are_no_narrow_modules(rt: HostRuntime) -> Result<(), Fail> {
 #[test]
 fn a_setup_folder_has_one_module(rt: HostRuntime) -> Result<(), Fail> {
     let alloc = rt.alloc();
-    assert_eq!(rt; read_in(alloc, "one", 3), Ok(example(alloc)?));
-    assert_eq!(rt; read_in(alloc, "two", 3), Err(SetupFault::Modules));
-    assert_eq!(rt; read_in(alloc, "bad", 3), Err(SetupFault::Modules));
-    assert_eq!(rt; read_in(alloc, "none", 3), Err(SetupFault::Modules));
+    let want = example(alloc)?;
+    assert_eq!(rt; read_in(alloc, "one", 3), Ok(want));
+    Ok(())
+}
+
+#[test]
+fn other_setup_folders_have_no_reading(rt: HostRuntime) -> Result<(), Fail> {
+    let alloc = rt.alloc();
+    for folder in ["two", "bad", "none"] {
+        assert_eq!(rt;
+            fault_in(alloc, folder, 3),
+            Some(SetupFault::Modules),
+            "at {folder}"
+        );
+    }
     Ok(())
 }
 
 #[test]
 fn a_failed_call_is_a_failure(rt: HostRuntime) -> Result<(), Fail> {
     let alloc = rt.alloc();
-    assert_eq!(rt; read_in(alloc, "one", 1), Err(SetupFault::Failed));
-    assert_eq!(rt; read_in(alloc, "one", 2), Err(SetupFault::Failed));
+    for call in [1, 2] {
+        assert_eq!(rt;
+            fault_in(alloc, "one", call),
+            Some(SetupFault::Failed),
+            "at call {call}"
+        );
+    }
     Ok(())
 }

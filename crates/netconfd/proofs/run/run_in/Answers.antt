@@ -1,5 +1,5 @@
 use Rattle.std.proofs.Common.{refl, rules}
-use Rattle.netconfd.specs.Run.{Runs, FaultyWords, NoModule, NoMemory, FilesFailed, Serves}
+use Rattle.netconfd.specs.Run.{FaultyWords, NoModule, NoMemory, FilesFailed, Serves}
 use Rattle.netconfd.proofs.run.run_in.Goals as goal
 
 pub returns-in_default-clause-runs : goal.returns-in_default-clause-runs

@@ -2,7 +2,7 @@
 use Rattle.std.proofs.Common.{◌≡◌, ◌&&◌, ◌||◌, Bool, true, false, cond, not, List, [], Option, Some, None, subst}
 use Rattle.std.proofs.lemmas.List.Elements.{All-append, All-filter, All-nil}
 use Rattle.std.specs.List.{All, list_any}
-use Rattle.std.specs.Prelude.{IsTrue, Ok}
+use Rattle.std.specs.Prelude.{Ok}
 use Rattle.nc_names.specs.declared.path.Path.{Path}
 use Rattle.nc_names.specs.declared.path.Place.{Place}
 use Rattle.nc_names.specs.declared.path.Row.{Row}
@@ -12,7 +12,7 @@ use Rattle.nc_model.specs.declared.edit.Action.{Action}
 use Rattle.nc_model.specs.declared.edit.Action.TheVariants.{Nothing, Merge, Create, Replace, Delete, Remove}
 use Rattle.nc_model.specs.declared.request.Cause.{Cause}
 use Rattle.nc_model.specs.Edited.{has_value, at_node, rows_of_node, new_block, with_block, other_rows, left_by, refusal, unless_refused}
-use Rattle.nc_model.specs.Laws.{EditKeepsConfiguration}
+use Rattle.nc_model.specs.Laws.{Passes, EditKeepsConfiguration}
 use Rattle.nc_model.specs.ProperEdit.{rows_brought}
 use Rattle.nc_model.specs.Same.{is_at_or_below}
 use Rattle.nc_model.specs.Standing.{block_at, exists, steps_before, excludes}
@@ -45,9 +45,9 @@ edit_keeps_configuration is_canonical tables rights rows left edit proper config
   canonical = by (refusal tables rights rows edit) is;
 }
   where
-    by : (refused : Option Cause) → unless_refused refused (left_by tables rows edit) ≡ Ok left → All (HasCanonicalValue (λ number text. IsTrue (is_canonical number text)) tables) left
+    by : (refused : Option Cause) → unless_refused refused (left_by tables rows edit) ≡ Ok left → All (HasCanonicalValue (Passes is_canonical) tables) left
     by (Some cause) is = cc
     by None is =
-        subst (All (HasCanonicalValue (λ number text. IsTrue (is_canonical number text)) tables)) (ok_same _ _ is)
-        (of_left (HasCanonicalValue (λ number text. IsTrue (is_canonical number text)) tables) tables rows edit.path configuration.canonical _ _
-        (of_block (HasCanonicalValue (λ number text. IsTrue (is_canonical number text)) tables) tables rows edit.path configuration.canonical edit.action brings))
+        subst (All (HasCanonicalValue (Passes is_canonical) tables)) (ok_same _ _ is)
+        (of_left (HasCanonicalValue (Passes is_canonical) tables) tables rows edit.path configuration.canonical _ _
+        (of_block (HasCanonicalValue (Passes is_canonical) tables) tables rows edit.path configuration.canonical edit.action brings))

@@ -6,7 +6,7 @@ use Rattle.std.specs.Option.{IsSomeAnd}
 use Rattle.nc_names.specs.declared.path.Row.{Row}
 use Rattle.nc_names.specs.declared.path.Step.{Step}
 use Rattle.nc_schema.specs.declared.node.Node.{Node}
-use Rattle.nc_schema.specs.Configuration.{key_rows, StandTogether, IsRowValue, HasItsValue, KeysFollow, StandsForItself, AncestorsStand, IsInCase, StandsOneCase, IsDataTree}
+use Rattle.nc_schema.specs.Configuration.{key_rows, IsAtOrBelow, StandTogether, IsRowValue, HasItsValue, KeysFollow, StandsForItself, AncestorsStand, IsInCase, StandsOneCase, IsDataTree}
 use Rattle.nc_schema.specs.Order.{IsBefore}
 use Rattle.nc_schema.specs.Paths.{HasAllKeys, IsPathOf}
 use Rattle.nc_model.proofs.Example.{node, tables, port, name, rows_of_port}
@@ -174,9 +174,9 @@ key_above (x ∷ y ∷ []) step next rest found path node_is itself = absurd (no
 key_above (x ∷ y ∷ z ∷ above) step next rest found path node_is itself =
     absurd (no_element above (next ∷ rest) step (tails_same _ _ _ _ (tails_same _ _ _ _ (tails_same _ _ _ _ path))))
 
-ancestors_stand : AncestorsStand tables (rows_of_port b)
+ancestors_stand : AncestorsStand tables [] (rows_of_port b)
 unfolding node tables port name rows_of_port b top_step port_step key_step entry key
-ancestors_stand before after row above step next rest found is path node_is itself = by (split_two _ _ row before after is)
+ancestors_stand before after row above step next rest found is path below node_is itself = by (split_two _ _ row before after is)
   where
     by : ((before ≡ []) × (entry ≡ row) × (after ≡ key ∷ [])) ⊎ ((before ≡ entry ∷ []) × (key ≡ row) × (after ≡ []))
         → Contains before (record { path = record { steps = above ++ step ∷ [] }; value = None })
@@ -194,6 +194,7 @@ ancestors_stand before after row above step next rest found is path node_is itse
 port_is_data_tree : IsDataTree tables (rows_of_port b)
 unfolding node tables port name rows_of_port b entry key
 port_is_data_tree = record {
+  below = all_two (λ row. IsAtOrBelow [] row.path) entry key (entry.path.steps, refl) (key.path.steps, refl);
   paths = all_two (λ row. IsPathOf tables row.path) entry key entry_is_path key_is_path;
   distinct = pairs_two (λ row later. row.path ≢ later.path) entry key entry_is_other;
   ordered = pairs_two (λ row later. ¬ IsBefore tables later.path row.path) entry key key_is_later;

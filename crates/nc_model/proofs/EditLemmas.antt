@@ -15,7 +15,7 @@ use Rattle.nc_names.specs.declared.path.Step.{Step}
 use Rattle.nc_schema.specs.declared.node.Kind.{Kind}
 use Rattle.nc_schema.specs.declared.node.Kind.TheVariants.{Leaf}
 use Rattle.nc_schema.specs.declared.node.Node.{Node}
-use Rattle.nc_schema.specs.Configuration.{IsRowValue, StandsForItself, key_rows, IsDataTree}
+use Rattle.nc_schema.specs.Configuration.{IsRowValue, StandsForItself, key_rows, IsDataTree, IsSubtree}
 use Rattle.nc_schema.specs.Paths.{key_count, IsPathOf}
 use Rattle.nc_schema.specs.ProperNodes.{IsKeyIn, HoldsNodes, HasProperNodes}
 use Rattle.nc_schema.specs.Tables.{Tables}
@@ -28,12 +28,11 @@ use Rattle.nc_model.specs.declared.request.Cause.{Cause}
 use Rattle.nc_model.specs.Applied.{Applied, is_empty, with_result, continued, stopped}
 use Rattle.nc_model.specs.Edited.{has_value, is_plain_container, at_node, rows_of_node, own_rows, new_block, with_block, place_by, left_by, cause_where, first_cause, is_there, missed, refusal, unless_refused, edited}
 use Rattle.nc_model.specs.Laws.{EditKeepsTree, EditsKeepTree, PayloadFits}
-use Rattle.nc_model.specs.ProperEdit.{IsKeyAt, IsNoKey, IsMergeValue, IsProperAction, IsProperEdit, IsSubtree}
+use Rattle.nc_model.specs.ProperEdit.{IsKeyAt, IsNoKey, IsMergeValue, IsProperAction, IsProperEdit}
 use Rattle.nc_model.specs.Standing.{node_of, block_at, exists, lacks_above}
 use Rattle.nc_model.proofs.AboveLemmas.{row_below, above_stands, above_block, key_or_not}
 use Rattle.nc_model.proofs.KeyPlace.{leaf_is_put, block_is_row}
-use Rattle.nc_model.proofs.ListLemmas.{contains_behind, contains_split, some_same, contains_at}
-use Rattle.nc_model.proofs.OwnLemmas.{last_same}
+use Rattle.nc_model.proofs.ListLemmas.{contains_behind, contains_split, some_same, contains_at, last_same}
 use Rattle.nc_model.proofs.Parts.{all_at}
 use Rattle.nc_model.proofs.PathViews.{IsLower, node_after, after_last}
 use Rattle.nc_model.proofs.PlaceLemmas.{last_of}

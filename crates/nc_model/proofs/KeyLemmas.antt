@@ -15,6 +15,7 @@ use Rattle.nc_schema.specs.Order.{sibling_place, StepBefore, StepsBefore}
 use Rattle.nc_schema.specs.Paths.{IsStepIn, LeadDown}
 use Rattle.nc_schema.specs.Tables.{Tables}
 use Rattle.nc_model.proofs.ListLemmas.{heads_same, tails_same, no_element, split, contains_behind, all_cons, pairs_cons, contains_here}
+use Rattle.nc_model.proofs.PathViews.{node_after}
 use Rattle.nc_model.proofs.Parts.{all_at, all_from, IsPartOf, part_contains, part_of_part, part_without_first, pair_at, pairs_from}
 use Rattle.nc_model.proofs.PlaceLemmas.{step_irreflexive}
 
@@ -176,10 +177,10 @@ pub below_further : (steps path more : List Step) (rest : List Step) → path �
 below_further steps path more rest is = ap (λ list. list ++ more) is ∙ append_assoc steps rest more
 
 -- steps lead one step further
-pub lead_more : (tables : Tables) (above : List Step) (step new : Step) (at : Option ℕ) → LeadDown tables at (above ++ step ∷ []) → IsStepIn tables (Some step.node) new →
-    LeadDown tables at (above ++ step ∷ [] ++ new ∷ [])
-lead_more tables [] step new at (here, rest) is = (here, (is, tt))
-lead_more tables (over ∷ above) step new at (here, rest) is = (here, lead_more tables above step new (Some over.node) rest is)
+pub down_more : (tables : Tables) (top : Option ℕ) (above : List Step) (step : Step) →
+    LeadDown tables top above → IsStepIn tables (node_after top above) step → LeadDown tables top (above ++ step ∷ [])
+down_more tables top [] step down in_it = (in_it, tt)
+down_more tables top (over ∷ above) step down in_it = (down.0, down_more tables (Some over.node) above step down.1 in_it)
 
 -- what is below a node is not before it
 pub below_not_before : (tables : Tables) (at : Option ℕ) (steps more : List Step) → ¬ StepsBefore tables at (steps ++ more) steps

@@ -21,8 +21,7 @@ use Rattle.nc_model.specs.Standing.{sibling_before, placed, place_at, entries, s
 use Rattle.nc_model.proofs.BoolLemmas.{is_false, neither}
 use Rattle.nc_model.proofs.CaseLemmas.{cases_agree, from_cases}
 use Rattle.nc_model.proofs.KeyLemmas.{filter_takes, filter_leaves, filter_whole, filter_none}
-use Rattle.nc_model.proofs.ListLemmas.{some_same, contains_here}
-use Rattle.nc_model.proofs.OwnLemmas.{last_same}
+use Rattle.nc_model.proofs.ListLemmas.{some_same, contains_here, last_same}
 use Rattle.nc_model.proofs.Parts.{IsPartOf, part_join, contains_part, part_first, part_second, all_at, pair_at}
 use Rattle.nc_model.proofs.PathViews.{IsParting, IsHigher, IsLower, view, node_after, after_last, higher_order, before_parting, before_higher, excludes_parting, excludes_higher, excludes_lower}
 use Rattle.nc_model.proofs.PlaceLemmas.{sibling_from, below_is_below}

@@ -100,3 +100,15 @@ either_shorter x xs false n h = omega (arith, h)
 pub filter_shorter : {X : Type 0} (t : X → Bool) (xs : List X) → length (filter t xs) ≤ length xs
 filter_shorter t [] = omega arith
 filter_shorter t (x ∷ xs) = omega (arith, either_shorter x (filter t xs) (t x) (length xs) (filter_shorter t xs))
+
+-- lists that are the same have the same last element, and the same before it
+pub same_before : {X : Type 0} (xs ys : List X) (x y : X) → xs ++ x ∷ [] ≡ ys ++ y ∷ [] → (xs ≡ ys) × (x ≡ y)
+same_before [] [] x y e = (refl, heads_same x y [] [] e)
+same_before [] (z ∷ ys) x y e = absurd (no_element ys [] y (tails_same x z [] (ys ++ y ∷ []) e))
+same_before (z ∷ xs) [] x y e = absurd (no_element xs [] x (sym (tails_same z y (xs ++ x ∷ []) [] e)))
+same_before (z ∷ xs) (w ∷ ys) x y e =
+    let rest = same_before xs ys x y (tails_same z w (xs ++ x ∷ []) (ys ++ y ∷ []) e) in
+    ((λ i. heads_same z w (xs ++ x ∷ []) (ys ++ y ∷ []) e i ∷ rest.0 i), rest.1)
+
+pub last_same : {X : Type 0} (xs ys : List X) (x y : X) → xs ++ x ∷ [] ≡ ys ++ y ∷ [] → x ≡ y
+last_same xs ys x y e = (same_before xs ys x y e).1

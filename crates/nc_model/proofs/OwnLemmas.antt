@@ -1,7 +1,7 @@
 -- The rows that a node has by itself, one and those of keys, are a subtree.
 use Rattle.std.proofs.Common.{◌≡◌, ◌≢◌, ◌⊎◌, ℕ, suc, List, [], ◌∷◌, ◌++◌, refl, sym, ap, subst, ◌∙◌, inl, inr, arith, ◌<◌, zero, length, length-append}
 use Rattle.std.proofs.lemmas.List.{append_assoc, append_cancel_left, append-nil, nil_from_length}
-use Rattle.std.specs.List.{All, AllPairs, Contains, last_or}
+use Rattle.std.specs.List.{All, AllPairs, Contains}
 use Rattle.std.specs.Prelude.{Some, Option, None, IsSomeAnd, slice_get}
 use Rattle.std.specs.Option.{option_map_or}
 use Rattle.std.proofs.lemmas.List.Elements.{Contains-append_right}
@@ -12,17 +12,16 @@ use Rattle.nc_schema.specs.declared.node.Case.{Case}
 use Rattle.nc_schema.specs.declared.node.Kind.{Kind}
 use Rattle.nc_schema.specs.declared.node.Kind.TheVariants.{List as ListKind, Container, Leaf, LeafList}
 use Rattle.nc_schema.specs.declared.node.Node.{Node}
-use Rattle.nc_schema.specs.Configuration.{LeadsTo, IsAtOrBelow, StandTogether, KeysFollow, key_rows, IsRowValue, HasItsValue, StandsForItself, IsInCase, StandsOneCase}
+use Rattle.nc_schema.specs.Configuration.{LeadsTo, IsAtOrBelow, StandTogether, KeysFollow, key_rows, IsRowValue, HasItsValue, StandsForItself, IsInCase, StandsOneCase, AncestorsStand, IsSubtree}
 use Rattle.nc_schema.specs.Order.{keys_above, sibling_place, StepBefore, StepsBefore, IsBefore}
-use Rattle.nc_schema.specs.Paths.{key_count, HasAllKeys, LeadDown, IsPathOf}
+use Rattle.nc_schema.specs.Paths.{key_count, HasAllKeys, IsStepIn, LeadDown, IsPathOf}
 use Rattle.nc_schema.specs.ProperNodes.{IsKeyIn, HasProperNodes}
 use Rattle.nc_schema.specs.Tables.{Tables}
-use Rattle.nc_model.specs.ProperEdit.{AncestorsStandFrom, IsSubtree}
 use Rattle.nc_model.proofs.CaseLemmas.{one_case}
-use Rattle.nc_model.proofs.ListLemmas.{heads_same, tails_same, no_element, split, contains_behind, all_cons, pairs_cons, one_element, contains_more, all_one, all_append, some_same, contains_here}
-use Rattle.nc_model.proofs.KeyLemmas.{key_row, all_keys, pairs_keys, IsKeyRow, key_row_of, below_further, lead_more, below_not_before, last_before}
+use Rattle.nc_model.proofs.ListLemmas.{heads_same, tails_same, no_element, split, contains_behind, all_cons, pairs_cons, one_element, contains_more, all_one, all_append, some_same, contains_here, last_same}
+use Rattle.nc_model.proofs.KeyLemmas.{key_row, all_keys, pairs_keys, IsKeyRow, key_row_of, below_further, down_more, below_not_before, last_before}
 use Rattle.nc_model.proofs.Parts.{all_at, all_from, IsPartOf, part_at, pair_at}
-use Rattle.nc_model.proofs.PlaceLemmas.{last_of}
+use Rattle.nc_model.proofs.PathViews.{after_last}
 
 -- the last of some steps
 pub record HasLast (steps : List Step) : Type 0 where
@@ -37,13 +36,9 @@ last_found (step ∷ next ∷ rest) some =
     let found = last_found (next ∷ rest) (λ e. no_element [] rest next (sym e)) in
     record { above = step ∷ found.above; step = found.step; is = λ i. step ∷ found.is i }
 
--- two paths to one row end in one step
-pub last_same : (above others : List Step) (step other : Step) → above ++ step ∷ [] ≡ others ++ other ∷ [] → step ≡ other
-last_same above others step other is = some_same step other (sym (last_of None above step) ∙ ap (last_or None) is ∙ last_of None others other)
-
-some_and : {X : Type 0} (P Q : X → Type 0) (o : Option X) → ((x : X) → P x → Q x) → IsSomeAnd o P → IsSomeAnd o Q
-some_and P Q None each holds = holds
-some_and P Q (Some x) each holds = each x holds
+some_further : {X : Type 0} (P Q : X → Type 0) (o : Option X) → ((x : X) → P x → Q x) → IsSomeAnd o P → IsSomeAnd o Q
+some_further P Q None each holds = holds
+some_further P Q (Some x) each holds = each x holds
 
 pub some_is : {X : Type 0} (P : X → Type 0) (o : Option X) → IsSomeAnd o P → (x : X) × (o ≡ Some x)
 some_is P None holds = absurd holds
@@ -97,13 +92,14 @@ module _ (tables : Tables) (path : Path) (value : Option (List ℕ)) (top : List
     names = record {
       steps = λ e. no_element path.steps [] (key_step number) (sym e);
       down = subst (λ (steps : List Step). LeadDown tables None (steps ++ key_step number ∷ [])) (sym path_is)
-          (lead_more tables top end (key_step number) None (subst (LeadDown tables None) path_is a_path.names.down)
-          (some_and (IsKeyIn end.node) (λ (node : Node). (node.parent ≡ Some end.node) × (HasAllKeys node (key_step number) ⊎ ([] ≡ [])))
-          (slice_get tables.nodes number) (λ node is. (is.parent, inr refl)) key));
+          (down_more tables None (top ++ end ∷ []) (key_step number) (subst (LeadDown tables None) path_is a_path.names.down)
+          (subst (λ (over : Option ℕ). IsStepIn tables over (key_step number)) (sym (after_last None top end))
+          (some_further (IsKeyIn end.node) (λ (node : Node). (node.parent ≡ Some end.node) × (HasAllKeys node (key_step number) ⊎ ([] ≡ [])))
+          (slice_get tables.nodes number) (λ node is. (is.parent, inr refl)) key)));
     };
     instances = all_append (λ step. IsSomeAnd (slice_get tables.nodes step.node) (λ node. HasAllKeys node step)) path.steps (key_step number ∷ []) a_path.instances
         (all_one (λ step. IsSomeAnd (slice_get tables.nodes step.node) (λ node. HasAllKeys node step)) (key_step number)
-        (some_and (IsKeyIn end.node) (λ (node : Node). HasAllKeys node (key_step number)) (slice_get tables.nodes number)
+        (some_further (IsKeyIn end.node) (λ (node : Node). HasAllKeys node (key_step number)) (slice_get tables.nodes number)
         (λ node is. subst (λ (kind : Kind). 0 ≡ key_count kind (length node.keys)) (sym is.kind) refl) key));
   }
 
@@ -190,7 +186,7 @@ module _ (tables : Tables) (path : Path) (value : Option (List ℕ)) (top : List
       absurd (leaf_is_no_list clash)
 
   -- of the nodes from the top node on that node alone stands above a key
-  own_ancestors : IsRowValue found.kind end value → AncestorsStandFrom tables path.steps own
+  own_ancestors : IsRowValue found.kind end value → AncestorsStand tables path.steps own
   own_ancestors valued [] after row above step next rest node is steps below node_is stands =
       let here : path.steps ≡ above ++ step ∷ next ∷ rest = ap (λ (at : Row). at.path.steps) (heads_same entry row (key_rows path.steps keys end.keys) after is) ∙ steps in
       let sizes : length path.steps ≡ length (above ++ step ∷ next ∷ rest) = ap length here in

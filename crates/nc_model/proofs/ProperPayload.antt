@@ -15,7 +15,7 @@ use Rattle.nc_schema.specs.declared.node.Kind.{Kind}
 use Rattle.nc_schema.specs.declared.node.Kind.TheVariants.{Container, Leaf, LeafList, List as ListKind}
 use Rattle.nc_schema.specs.declared.node.Node.{Node}
 use Rattle.nc_schema.specs.Configuration.{IsRowValue}
-use Rattle.nc_schema.specs.Paths.{HasAllKeys, IsStepIn, LeadDown}
+use Rattle.nc_schema.specs.Paths.{HasAllKeys, LeadDown}
 use Rattle.nc_schema.specs.ProperNodes.{IsKeyIn, HasProperNodes}
 use Rattle.nc_schema.specs.Tables.{Tables}
 use Rattle.nc_model.specs.declared.edit.Edit.{Edit}
@@ -23,25 +23,11 @@ use Rattle.nc_model.specs.declared.request.Cause.{Cause}
 use Rattle.nc_model.specs.Edited.{has_value}
 use Rattle.nc_model.specs.Payload.{whole_text, has_text, has_child, name_in, parts_in, child_parts, child_number, number_of_part, cause_in, with_more, numbered_edits, missing_key, has_bad_content, clashes, key_values, keys_of, step_of, element_edit, with_number, part_edits, child_edits, parts_edits, list_edits, edits_of}
 use Rattle.nc_model.specs.ProperEdit.{IsKeyAt, IsProperEdit}
-use Rattle.nc_model.proofs.ListLemmas.{heads_same, tails_same, no_element, all_one, all_append, some_same}
+use Rattle.nc_model.proofs.KeyLemmas.{down_more}
+use Rattle.nc_model.proofs.ListLemmas.{no_element, all_one, all_append, some_same, same_before}
 use Rattle.nc_model.proofs.PathViews.{node_after, after_last}
 use Rattle.nc_model.proofs.PayloadLemmas.{parts_are}
 use Rattle.nc_model.proofs.ProperPayloadLemmas.{ok_same, err_is_not_ok, with_more_ok, element_made, child_parent, value_content, leaf_has_value, leaf_is_first, content_at, content_here, content_behind, not_this, content_is_read, keys_are_read, key_is_read, keys_count}
-
--- ---- steps with one more at the end
-down_more : (tables : Tables) (top : Option ℕ) (above : List Step) (step : Step) →
-    LeadDown tables top above → IsStepIn tables (node_after top above) step → LeadDown tables top (above ++ step ∷ [])
-down_more tables top [] step down in_it = (in_it, tt)
-down_more tables top (over ∷ above) step down in_it = (down.0, down_more tables (Some over.node) above step down.1 in_it)
-
--- lists that are the same have the same last element, and the same before it
-same_before : {X : Type 0} (xs ys : List X) (x y : X) → xs ++ x ∷ [] ≡ ys ++ y ∷ [] → (xs ≡ ys) × (x ≡ y)
-same_before [] [] x y e = (refl, heads_same x y [] [] e)
-same_before [] (z ∷ ys) x y e = absurd (no_element ys [] y (tails_same x z [] (ys ++ y ∷ []) e))
-same_before (z ∷ xs) [] x y e = absurd (no_element xs [] x (sym (tails_same z y (xs ++ x ∷ []) [] e)))
-same_before (z ∷ xs) (w ∷ ys) x y e =
-    let rest = same_before xs ys x y (tails_same z w (xs ++ x ∷ []) (ys ++ y ∷ []) e) in
-    ((λ i. heads_same z w (xs ++ x ∷ []) (ys ++ y ∷ []) e i ∷ rest.0 i), rest.1)
 
 -- ---- where parts stand: the steps lead to an instance, and those to a list entry have the keys that are
 -- read in the parts

@@ -76,7 +76,7 @@ ancestor tables rows row above step next rest node tree has steps node_is itself
     by : (before : List Row) × (behind : List Row) × (rows ≡ before ++ row ∷ behind) → IsPartOf (record { path = record { steps = above ++ step ∷ [] }; value = None } ∷ row ∷ []) rows
     by (before, behind, is) =
         subst (λ (rs : List Row). IsPartOf (record { path = record { steps = above ++ step ∷ [] }; value = None } ∷ row ∷ []) rs) (sym is)
-        (part_at before behind _ row (tree.ancestors before behind row above step next rest node is steps node_is itself))
+        (part_at before behind _ row (tree.ancestors before behind row above step next rest node is steps (above ++ step ∷ [], refl) node_is itself))
 
 -- a node whose steps have keys stands for itself where a node stands in it
 with_keys : (kind : Kind) (keys : ℕ) (count : ℕ) → key_count kind keys ≡ suc count → HoldsNodes kind → StandsForItself kind

@@ -10,13 +10,13 @@ use Rattle.nc_names.specs.declared.path.Step.{Step}
 use Rattle.nc_schema.specs.declared.node.Kind.{Kind}
 use Rattle.nc_schema.specs.declared.node.Kind.TheVariants.{List as ListKind, Container, Leaf, LeafList}
 use Rattle.nc_schema.specs.declared.node.Node.{Node}
-use Rattle.nc_schema.specs.Configuration.{LeadsTo, key_rows, IsRowValue, HasItsValue, IsDataTree}
+use Rattle.nc_schema.specs.Configuration.{LeadsTo, key_rows, IsRowValue, HasItsValue, IsDataTree, AncestorsStand, IsSubtree}
 use Rattle.nc_schema.specs.Order.{IsBefore}
 use Rattle.nc_schema.specs.Paths.{HasAllKeys, IsPathOf}
 use Rattle.nc_schema.specs.ProperNodes.{HasProperNodes}
 use Rattle.nc_schema.specs.Tables.{Tables}
 use Rattle.nc_model.specs.Edited.{own_rows, rows_of_node, has_value}
-use Rattle.nc_model.specs.ProperEdit.{AncestorsStandFrom, IsSubtree, IsMergeValue}
+use Rattle.nc_model.specs.ProperEdit.{IsMergeValue}
 use Rattle.nc_model.specs.Same.{is_at_or_below}
 use Rattle.nc_model.specs.Standing.{node_of, block_at}
 use Rattle.nc_model.proofs.ListLemmas.{no_element, contains_last, pairs_filter}
@@ -25,11 +25,11 @@ use Rattle.nc_model.proofs.Parts.{all_at, all_from, kept_contains, contains_kept
 use Rattle.nc_model.proofs.PlaceLemmas.{below_is_below, last_of}
 use Rattle.nc_model.proofs.OwnLemmas.{HasLast, last_found, some_is, leaf_is_no_list, own_is_subtree}
 
-block_ancestors : (tables : Tables) (rows : List Row) (steps : List Step) → IsDataTree tables rows → AncestorsStandFrom tables steps (block_at rows steps)
+block_ancestors : (tables : Tables) (rows : List Row) (steps : List Step) → IsDataTree tables rows → AncestorsStand tables steps (block_at rows steps)
 block_ancestors tables rows steps tree before after row above step next rest node is path below node_is stands =
     let cut = filter_cut (λ (inner : Row). is_at_or_below steps inner.path) rows before after row is in
     let over : Row = record { path = record { steps = above ++ step ∷ [] }; value = None } in
-    let has = tree.ancestors cut.front cut.rest row above step next rest node cut.whole path node_is stands in
+    let has = tree.ancestors cut.front cut.rest row above step next rest node cut.whole path (above ++ step ∷ [], refl) node_is stands in
     subst (λ (front : List Row). Contains front over) (sym cut.in_front)
     (contains_kept (λ (inner : Row). is_at_or_below steps inner.path) over cut.front has ((below_is_below steps over.path).1 below))
 

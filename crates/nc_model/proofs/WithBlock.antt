@@ -14,14 +14,14 @@ use Rattle.nc_names.specs.declared.path.Row.{Row}
 use Rattle.nc_names.specs.declared.path.Step.{Step}
 use Rattle.nc_schema.specs.declared.node.Kind.TheVariants.{List as ListKind}
 use Rattle.nc_schema.specs.declared.node.Node.{Node}
-use Rattle.nc_schema.specs.Configuration.{IsAtOrBelow, StandTogether, HasItsValue, LeadsTo, KeysFollow, StandsForItself, AncestorsStand, IsInCase, StandsOneCase, IsDataTree}
+use Rattle.nc_schema.specs.Configuration.{IsAtOrBelow, StandTogether, HasItsValue, LeadsTo, KeysFollow, StandsForItself, AncestorsStand, IsInCase, StandsOneCase, IsDataTree, IsSubtree}
 use Rattle.nc_schema.specs.Order.{keys_above, sibling_place, StepBefore, StepsBefore, IsBefore}
 use Rattle.nc_schema.specs.Paths.{IsPathOf}
 use Rattle.nc_schema.specs.ProperNodes.{HoldsNodes, IsKeyIn, HasProperNodes}
 use Rattle.nc_schema.specs.Tables.{Tables}
 use Rattle.nc_schema.proofs.OrderLemmas.{order_is_strict, step_irreflexive, step_transitive}
 use Rattle.nc_model.specs.Edited.{with_block}
-use Rattle.nc_model.specs.ProperEdit.{IsSubtree, IsNoKey}
+use Rattle.nc_model.specs.ProperEdit.{IsNoKey}
 use Rattle.nc_model.specs.Same.{is_at_or_below, is_same_step}
 use Rattle.nc_model.specs.Standing.{sibling_before, placed, place_at, entries, steps_before, is_by_user, excludes, cases_differ, cases_of}
 use Rattle.nc_model.proofs.BlockPlace.{lower_lower, steps_above, steps_across, together_before, together_behind, nothing_below}
@@ -407,8 +407,8 @@ module _ (tables : Tables) (rows : List Row) (place : Place) (path : Path) (bloc
       (keys_kept behind (λ row key has same e. ap not same ∙ e))
 
   -- the rows above a row of the block, or of the others
-  left_ancestors : AncestorsStand tables left
-  left_ancestors start after row above step next rest node is row_is node_is itself =
+  left_ancestors : AncestorsStand tables [] left
+  left_ancestors start after row above step next rest node is row_is below_root node_is itself =
       before_cut (λ (one later : Row). one.path ≢ later.path) (λ x differ. differ refl) left start after over row left_distinct is (by (in_left row has_row))
     where
       over : Row
@@ -476,6 +476,7 @@ module _ (tables : Tables) (rows : List Row) (place : Place) (path : Path) (bloc
 
   pub block_keeps_tree : IsDataTree tables (with_block tables rows path place block)
   block_keeps_tree = record {
+    below = all_from (λ (row : Row). IsAtOrBelow [] row.path) left (λ row has. (row.path.steps, refl));
     paths = left_all (λ row. IsPathOf tables row.path) tree.paths sub.paths;
     distinct = left_distinct;
     ordered = left_pairs (λ row later. ¬ IsBefore tables later.path row.path) tree.ordered sub.ordered front_not_behind back_not_before;

@@ -68,13 +68,17 @@ EditKeepsTree =
     (tables : Tables) (rights : Path → Right → Decision) (rows left : List Row) (edit : Edit) →
     HasProperNodes tables → IsDataTree tables rows → IsProperEdit tables edit → edited tables rights rows edit ≡ Ok left → IsDataTree tables left
 
+-- what a test says of a data node's number and a text
+abbrev pub Passes : (ℕ → List ℕ → Bool) → ℕ → List ℕ → Type 0
+Passes test number text = IsTrue (test number text)
+
 -- and a configuration, where it brings canonical values to one
 abbrev pub EditKeepsConfiguration : Type 0
 EditKeepsConfiguration =
     (is_canonical : ℕ → List ℕ → Bool) (tables : Tables) (rights : Path → Right → Decision) (rows left : List Row) (edit : Edit) →
-    HasProperNodes tables → IsConfiguration (λ number text. IsTrue (is_canonical number text)) tables rows →
-    IsProperEdit tables edit → BringsCanonical (λ number text. IsTrue (is_canonical number text)) tables edit →
-    edited tables rights rows edit ≡ Ok left → IsConfiguration (λ number text. IsTrue (is_canonical number text)) tables left
+    HasProperNodes tables → IsConfiguration (Passes is_canonical) tables rows →
+    IsProperEdit tables edit → BringsCanonical (Passes is_canonical) tables edit →
+    edited tables rights rows edit ≡ Ok left → IsConfiguration (Passes is_canonical) tables left
 
 -- at and below its node an edit that fits the schema leaves the rows that its action gives; of the others it
 -- leaves those that are there, but for the rows of other cases (RFC 7950 7.9)

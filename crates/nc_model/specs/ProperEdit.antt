@@ -1,40 +1,18 @@
 -- Edits that fit the schema: each leaves a data tree where it is made in one.
-use Rattle.std.specs.Prelude.{◌≡◌, ◌≢◌, ℕ, List, [], ◌∷◌, ◌++◌, Option, Some, None, IsTrue, slice_get}
-use Rattle.std.specs.List.{All, AllPairs, Contains}
+use Rattle.std.specs.Prelude.{◌≡◌, ℕ, List, [], ◌∷◌, ◌++◌, Option, Some, IsTrue, slice_get}
+use Rattle.std.specs.List.{All}
 use Rattle.nc_names.specs.declared.path.Path.{Path}
 use Rattle.nc_names.specs.declared.path.Row.{Row}
 use Rattle.nc_names.specs.declared.path.Step.{Step}
 use Rattle.nc_schema.specs.declared.node.Kind.TheVariants.{List as ListKind}
 use Rattle.nc_schema.specs.declared.node.Node.{Node}
-use Rattle.nc_schema.specs.Configuration.{IsAtOrBelow, StandTogether, IsRowValue, HasItsValue, HasCanonicalValue, KeysFollow, StandsForItself, StandsOneCase}
-use Rattle.nc_schema.specs.Order.{IsBefore}
+use Rattle.nc_schema.specs.Configuration.{IsSubtree, IsRowValue, HasCanonicalValue}
 use Rattle.nc_schema.specs.Paths.{IsPathOf}
 use Rattle.nc_schema.specs.Tables.{Tables}
 use Rattle.nc_model.specs.declared.edit.Action.{Action}
 use Rattle.nc_model.specs.declared.edit.Action.TheVariants.{Nothing, Merge, Create, Replace, Delete, Remove}
 use Rattle.nc_model.specs.declared.edit.Edit.{Edit}
 use Rattle.nc_model.specs.Edited.{has_value, rows_of_node}
-
--- each list entry and container with presence above a row, from the top node on, has its row before it
-abbrev pub AncestorsStandFrom : Tables → List Step → List Row → Type 0
-AncestorsStandFrom tables top rows =
-    (before after : List Row) (row : Row) (above : List Step) (step next : Step) (rest : List Step) (node : Node) →
-    rows ≡ before ++ row ∷ after → row.path.steps ≡ above ++ step ∷ next ∷ rest →
-    IsAtOrBelow top (record { steps = above ++ step ∷ [] }) →
-    slice_get tables.nodes step.node ≡ Some node → StandsForItself node.kind →
-    Contains before (record { path = record { steps = above ++ step ∷ [] }; value = None })
-
--- the rows at and below a top node: a data tree but for what stands above that node
-pub record IsSubtree (tables : Tables) (top : List Step) (rows : List Row) : Type 0 where
-  pub below : All (λ row. IsAtOrBelow top row.path) rows
-  pub paths : All (λ row. IsPathOf tables row.path) rows
-  pub distinct : AllPairs (λ row later. row.path ≢ later.path) rows
-  pub ordered : AllPairs (λ row later. ¬ IsBefore tables later.path row.path) rows
-  pub together : StandTogether rows
-  pub values : All (HasItsValue tables) rows
-  pub keys : KeysFollow tables rows
-  pub ancestors : AncestorsStandFrom tables top rows
-  pub cases : StandsOneCase tables rows
 
 -- the node is the key at that place of the list whose entry is above it
 pub record IsKeyAt (tables : Tables) (path : Path) (entry : Step) (place : ℕ) : Type 0 where

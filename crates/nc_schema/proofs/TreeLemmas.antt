@@ -13,13 +13,14 @@ no_element (b ∷ before) after x e = cc
 
 pub empty_is_data_tree : EmptyIsDataTree
 empty_is_data_tree tables = record {
+  below = λ k d within. absurd (omega (arith, within));
   paths = λ k d within. absurd (omega (arith, within));
   distinct = λ i j d less within. absurd (omega (arith, within));
   ordered = λ i j d less within. absurd (omega (arith, within));
   together = λ first between last row other steps e below beside. absurd (no_element (first ++ row ∷ between) last other e);
   values = λ k d within. absurd (omega (arith, within));
   keys = λ before after row above step node e leads list. absurd (no_element before after row e);
-  ancestors = λ before after row above step next rest node e path node_is stands. absurd (no_element before after row e);
+  ancestors = λ before after row above step next rest node e path below node_is stands. absurd (no_element before after row e);
   cases = λ row other above rest others step beside choice case another at_row at_other path beside_path in_case in_another. absurd (omega (arith, at_row.1));
 }
 

@@ -64,11 +64,12 @@ StandsForItself Leaf = ⊥
 StandsForItself LeafList = ⊥
 StandsForItself ListKind = Unit {0}
 
--- each such node above a row has its row before it
-abbrev pub AncestorsStand : Tables → List Row → Type 0
-AncestorsStand tables rows =
+-- each such node above a row, from the top one on, has its row before it
+abbrev pub AncestorsStand : Tables → List Step → List Row → Type 0
+AncestorsStand tables top rows =
     (before after : List Row) (row : Row) (above : List Step) (step next : Step) (rest : List Step) (node : Node) →
     rows ≡ before ++ row ∷ after → row.path.steps ≡ above ++ step ∷ next ∷ rest →
+    IsAtOrBelow top (record { steps = above ++ step ∷ [] }) →
     slice_get tables.nodes step.node ≡ Some node → StandsForItself node.kind →
     Contains before (record { path = record { steps = above ++ step ∷ [] }; value = None })
 
@@ -85,16 +86,21 @@ StandsOneCase tables rows =
     row.path.steps ≡ above ++ step ∷ rest → other.path.steps ≡ above ++ beside ∷ others →
     IsInCase tables step.node choice case → IsInCase tables beside.node choice another → case ≡ another
 
--- a data tree of the schema (RFC 7950 3), as the list of its rows
-pub record IsDataTree (tables : Tables) (rows : List Row) : Type 0 where
+-- the rows at and below a node, whatever stands above it
+pub record IsSubtree (tables : Tables) (top : List Step) (rows : List Row) : Type 0 where
+  pub below : All (λ row. IsAtOrBelow top row.path) rows
   pub paths : All (λ row. IsPathOf tables row.path) rows
   pub distinct : AllPairs (λ row later. row.path ≢ later.path) rows
   pub ordered : AllPairs (λ row later. ¬ IsBefore tables later.path row.path) rows
   pub together : StandTogether rows
   pub values : All (HasItsValue tables) rows
   pub keys : KeysFollow tables rows
-  pub ancestors : AncestorsStand tables rows
+  pub ancestors : AncestorsStand tables top rows
   pub cases : StandsOneCase tables rows
+
+-- a data tree of the schema (RFC 7950 3), as the list of its rows: those below the root
+abbrev pub IsDataTree : Tables → List Row → Type 0
+IsDataTree tables rows = IsSubtree tables [] rows
 
 -- a configuration: a data tree whose values are canonical. `IsCanonical` says of a data node's number
 -- and a text whether the text is the canonical one of a value of the node's type (RFC 7950 9.1)

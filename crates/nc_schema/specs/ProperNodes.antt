@@ -1,5 +1,5 @@
 -- What is true of the data nodes of modules (RFC 7950 7.5 to 7.9).
-use Rattle.std.specs.Prelude.{◌≡◌, ◌≢◌, ℕ, List, [], Some, IsSomeAnd, slice_get}
+use Rattle.std.specs.Prelude.{◌≡◌, ◌≢◌, ℕ, [], Some, IsSomeAnd, slice_get}
 use Rattle.std.specs.List.{AllPairs, Contains}
 use Rattle.nc_schema.specs.declared.node.Kind.{Kind}
 use Rattle.nc_schema.specs.declared.node.Kind.TheVariants.{Container, Leaf, LeafList, List as ListKind}

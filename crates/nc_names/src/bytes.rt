@@ -114,7 +114,7 @@ impl Bytes {
         self.items.clear();
     }
 
-    /// Drops the first `count` bytes; those behind them move up, unless `count` is 0.
+    /// Drops the first `count` bytes; those after them move up, unless `count` is 0.
     pub fn drop_front(&mut self, count: usize)
         requires { count ≤ length self.old }
         ensures { self.new ≡ drop count self.old }

@@ -1,18 +1,19 @@
 //! A growing list that contracts see as the list of its elements.
-ghost use Rattle.std.specs.Prelude.{◌≡◌, [], ◌∷◌, ◌++◌, ◌<◌, ◌≤◌, ◌↔◌, length, take, slice_get, slice_set, insert, remove, IsTrue, IsNone, MatchOption, OnOk, OnErr, OnSome};
+ghost use Rattle.std.specs.Prelude.{◌≡◌, [], ◌∷◌, ◌++◌, ◌-◌, ◌<◌, ◌≤◌, ◌↔◌, length, take, slice_get, slice_set, insert, remove, IsTrue, IsNone, MatchOption, OnOk, OnErr, OnSome};
 ghost use Rattle.std.specs.Option.{option_copied};
-ghost use Rattle.std.specs.Cmp.Lexicographic.{pointwise};
+ghost use Rattle.std.specs.Cmp.Lexicographic.{pointwise, slice_cmp, slice_partial_cmp};
 ghost use Rattle.std.specs.Hash as fed;
 ghost use Rattle.std.specs.Hash.{items_Alike};
 
 use crate::{Copies, Memory};
 use std::alloc::Global;
-use std::cmp::{Eq, PartialEq};
+use std::cmp::{Eq, Ord, Ordering, PartialEq, PartialOrd};
 use std::hash::{Hash, Hasher};
 use std::marker::Model;
 
 /// A `Vec` that contracts see as the list of its elements: two with the same elements are equal,
-/// whatever their capacity.
+/// whatever their capacity. Lists are ordered by the first place at which they differ, and else the
+/// shorter comes first.
 #[derive(Debug, Drop)]
 pub struct Many<T> {
     items: Vec<T>,
@@ -81,6 +82,14 @@ impl<T> Many<T> {
         self.items.get(place)
     }
 
+    /// The last element, or `None` where there is none.
+    pub fn last(&self) -> Option<&T>
+        ensures value { option_copied result ≡ slice_get self.now (length self.now - 1) }
+        ensures there { OnSome result (0 < length self.now) }
+    {
+        self.items.last()
+    }
+
     /// The elements in order.
     pub fn as_slice(&self) -> &[T]
         ensures { result.now ≡ self.now }
@@ -124,7 +133,7 @@ impl<T: Drop> Many<T> {
         Ok(())
     }
 
-    /// Takes the element at a place away; those behind it move up.
+    /// Takes the element at a place away; those after it move up.
     pub fn remove(&mut self, place: usize) -> T
         requires { place < length self.old }
         ensures item { slice_get self.old place ≡ Some result }
@@ -141,6 +150,20 @@ impl<T: Drop> Many<T> {
         let Many { mut items } = more;
         self.items.append(&mut items)?;
         Ok(())
+    }
+
+    /// Drops every element and keeps the room for them.
+    pub fn clear(&mut self)
+        ensures { self.new ≡ [] }
+    {
+        self.items.clear();
+    }
+
+    /// Keeps the first `len` elements, or all where there are fewer.
+    pub fn truncate(&mut self, len: usize)
+        ensures { self.new ≡ take len self.old }
+    {
+        self.items.truncate(len);
     }
 }
 
@@ -172,6 +195,34 @@ impl<T: Eq> Eq for Many<T> {
     ghost use Rattle.std.proofs.Common.{rules};
 
     ghost laws = { Prim.search (comparing, rules) };
+}
+
+impl<T: PartialOrd> PartialOrd for Many<T> {
+    ghost use Rattle.std.specs.Cmp.Lexicographic.{lists_po};
+
+    ghost partial_cmp = { slice_partial_cmp T.partial_cmp };
+
+    ghost laws = { lists_po T.PartialOrd.laws };
+
+    fn partial_cmp(&self, other: &Many<T>) -> Option<Ordering> {
+        self.items.partial_cmp(&other.items)
+    }
+}
+
+impl<T: Ord> Ord for Many<T> {
+    ghost use Rattle.std.specs.Cmp.Lexicographic.{lists_total, lists_agrees, lists_ties};
+
+    ghost cmp = { slice_cmp T.cmp };
+
+    ghost total = { lists_total T.total };
+
+    ghost matches_partial_cmp = { lists_agrees T.matches_partial_cmp };
+
+    ghost matches_eq = { lists_ties T.cmp T.matches_eq };
+
+    fn cmp(&self, other: &Many<T>) -> Ordering {
+        self.items.cmp(&other.items)
+    }
 }
 
 impl<T: Hash> Hash for Many<T> {

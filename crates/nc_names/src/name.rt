@@ -1,11 +1,12 @@
 //! Qualified names of XML and YANG, prefix bindings, and what a module is known by.
 ghost use Rattle.std.specs.Prelude.{◌≡◌, ◌↔◌, IsTrue, IfOk};
+ghost use Rattle.nc_names.specs.Same.{is_same_name};
 
 use crate::{Copies, Many, Memory, Text};
 
 /// A qualified name: a namespace and a local name (Namespaces in XML 1.0, 2.1; RFC 7950 5.3). An
-/// empty `space` is no namespace.
-#[derive(PartialEq, Eq, Hash, Debug, Drop)]
+/// empty `space` is no namespace. Names are ordered by the namespace, then by the local name.
+#[derive(PartialEq, Eq, PartialOrd, Ord, Hash, Debug, Drop)]
 pub struct QName {
     pub space: Text,
     pub name: Text,
@@ -22,7 +23,8 @@ impl Copies for QName {
 
 /// Whether two names are the same: the same namespace and the same local name.
 pub fn same_name(a: &QName, b: &QName) -> bool
-    ensures { IsTrue result ↔ (a.now ≡ b.now) }
+    ensures same { IsTrue result ↔ (a.now ≡ b.now) }
+    ensures word { result ≡ is_same_name a.now b.now }
 {
     a == b
 }

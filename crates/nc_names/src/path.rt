@@ -4,7 +4,7 @@ use crate::{Copies, Many, Memory, Text};
 /// One step of a path: the number of a data node, and the canonical keys of a list entry in the
 /// order of the list's `key` statement, or the one canonical value of a leaf-list entry. It has no
 /// keys at every other node, and where a path names a list or leaf-list without an entry.
-#[derive(PartialEq, Eq, Hash, Debug, Drop)]
+#[derive(PartialEq, Eq, PartialOrd, Ord, Hash, Debug, Drop)]
 pub struct Step {
     pub node: u32,
     pub keys: Many<Text>,
@@ -21,7 +21,7 @@ impl Copies for Step {
 
 /// A path to a node of a data tree: one step for each data node from the top, containers included
 /// (RFC 7950 9.13).
-#[derive(PartialEq, Eq, Hash, Debug, Drop)]
+#[derive(PartialEq, Eq, PartialOrd, Ord, Hash, Debug, Drop)]
 pub struct Path {
     pub steps: Many<Step>,
 }
@@ -70,4 +70,16 @@ pub enum Place {
     Last,
     Before(Many<Text>),
     After(Many<Text>),
+}
+
+impl Copies for Place {
+    fn copy(&self) -> Result<Place, Memory> {
+        match self {
+            Place::Kept => Ok(Place::Kept),
+            Place::First => Ok(Place::First),
+            Place::Last => Ok(Place::Last),
+            Place::Before(anchor) => Ok(Place::Before(anchor.copy()?)),
+            Place::After(anchor) => Ok(Place::After(anchor.copy()?)),
+        }
+    }
 }

@@ -4,7 +4,7 @@ ghost use Rattle.std.specs.Cmp.Lexicographic.{pointwise, slice_cmp};
 ghost use Rattle.std.specs.Ordering.{nat_cmp, as_partial_cmp};
 ghost use Rattle.std.specs.Hash as fed;
 
-use crate::{Copies, Memory};
+use crate::{Copies, Memory, Shared};
 use std::alloc::Global;
 use std::cmp::Ordering;
 use std::fmt;
@@ -12,17 +12,22 @@ use std::hash::{Hash, Hasher};
 use std::marker::Model;
 
 /// A text that contracts see as the list of its UTF-8 bytes. Two texts are ordered by their bytes.
+///
+/// A text owns its characters, or shares them with its copies: a copy of a shared text takes no memory,
+/// and one that is changed gets characters of its own first.
 #[derive(Drop)]
 pub struct Text {
-    chars: String,
+    own: String,
+    common: Option<Shared<String>>,
 }
 
 impl Model for Text {
     ghost use Rattle.std.specs.Prelude.{List, ℕ, string_bytes};
+    ghost use Rattle.std.specs.Option.{option_map_or};
 
     ghost Value = { List ℕ };
 
-    ghost view = { λ t. string_bytes t.chars };
+    ghost view = { λ t. option_map_or string_bytes t.common (string_bytes t.own) };
 }
 
 impl Text {
@@ -30,66 +35,78 @@ impl Text {
     pub fn new(alloc: Global) -> Text
         ensures { result ≡ [] }
     {
-        Text {
-            chars: String::new(alloc),
-        }
+        Text::from_string(String::new(alloc))
     }
 
     /// A copy of a `&str`.
     pub fn from_text(alloc: Global, text: &str) -> Result<Text, Memory>
         ensures { IfOk result (λ it. it ≡ text.now) }
     {
-        Ok(Text {
-            chars: String::from_str(alloc, text)?,
-        })
+        Ok(Text::from_string(String::from_str(alloc, text)?))
     }
 
     /// The text of a `String`. It takes no memory.
     pub fn from_string(chars: String) -> Text
         ensures { result ≡ string_bytes chars }
     {
-        Text { chars }
+        Text {
+            own: chars,
+            common: None,
+        }
     }
 
-    /// Gives the text back as a `String`. It takes no memory.
-    pub fn into_string(self) -> String
-        ensures { string_bytes result ≡ self }
+    /// The same text, with characters that its copies share.
+    pub fn shared(self) -> Result<Text, Memory>
+        ensures { IfOk result (λ it. it ≡ self) }
     {
-        let Text { chars } = self;
-        chars
+        let Text { own, common } = self;
+        let alloc = *own.allocator();
+        match common {
+            Some(chars) => Ok(Text {
+                own,
+                common: Some(chars),
+            }),
+            None => Ok(Text {
+                own: String::new(alloc),
+                common: Some(Shared::new(alloc, own)?),
+            }),
+        }
     }
 
     /// The allocator with which the text grows.
     pub fn alloc(&self) -> Global {
-        *self.chars.allocator()
+        *self.own.allocator()
     }
 
     /// How many bytes the text has.
     pub fn len(&self) -> usize
         ensures { result ≡ length self.now }
     {
-        self.chars.len()
+        self.as_str().len()
     }
 
     /// Whether the text has no byte.
     pub fn is_empty(&self) -> bool
         ensures { IsTrue result ↔ (self.now ≡ []) }
     {
-        self.chars.is_empty()
+        self.as_str().is_empty()
     }
 
     /// The byte at a place, counted from 0, or `None` past the last.
     pub fn get(&self, place: usize) -> Option<u8>
         ensures { result ≡ slice_get self.now place }
     {
-        self.chars.as_bytes().get(place).copied()
+        self.as_str().as_bytes().get(place).copied()
     }
 
     /// The text as a `&str`.
     pub fn as_str(&self) -> &str
         ensures { result.now ≡ self.now }
     {
-        self.chars.as_str()
+        match &self.common {
+            Some(chars) => chars.get().as_str(),
+            None => self.own.as_str(),
+        }
     }
 
     /// Puts a character at the end.
@@ -97,7 +114,14 @@ impl Text {
         ensures ok { OnOk result (self.new ≡ self.old ++ encode_utf8 sign) }
         ensures err { OnErr result (self.new ≡ self.old) }
     {
-        self.chars.push(sign)?;
+        if let Some(chars) = &self.common {
+            let mut own = chars.get().clone()?;
+            own.push(sign)?;
+            self.own = own;
+            self.common = None;
+            return Ok(());
+        }
+        self.own.push(sign)?;
         Ok(())
     }
 
@@ -106,26 +130,56 @@ impl Text {
         ensures ok { OnOk result (self.new ≡ self.old ++ text.now) }
         ensures err { OnErr result (self.new ≡ self.old) }
     {
-        self.chars.push_str(text)?;
+        if let Some(chars) = &self.common {
+            let mut own = chars.get().clone()?;
+            own.push_str(text)?;
+            self.own = own;
+            self.common = None;
+            return Ok(());
+        }
+        self.own.push_str(text)?;
         Ok(())
+    }
+
+    /// Drops every character. Copies that share them keep them.
+    pub fn clear(&mut self)
+        ensures { self.new ≡ [] }
+    {
+        self.own.clear();
+        self.common = None;
     }
 }
 
 impl Copies for Text {
     fn copy(&self) -> Result<Text, Memory> {
-        Ok(Text {
-            chars: self.chars.clone()?,
-        })
+        match &self.common {
+            Some(chars) => Ok(Text {
+                own: String::new(self.alloc()),
+                common: Some(chars.copy()?),
+            }),
+            None => Text::from_text(self.alloc(), self.own.as_str()),
+        }
     }
 }
 
 impl fmt::Display for Text {
+    ghost use Rattle.std.specs.Prelude.{Some};
+    ghost use Rattle.std.specs.Fmt.{styled_text};
+
+    ghost output = { λ text. Some text };
+
+    ghost styled_output = { λ text spec. Some (styled_text spec text) };
+
     fn fmt<W: fmt::Write>(&self, f: &mut fmt::Formatter<W>) -> fmt::Result {
-        f.write_str(self.as_str())
+        fmt::Display::fmt(self.as_str(), f)
     }
 }
 
 impl fmt::Debug for Text {
+    ghost use Rattle.std.specs.Fmt.{debug_str};
+
+    ghost debug_output = { debug_str };
+
     fn fmt<W: fmt::Write>(&self, f: &mut fmt::Formatter<W>) -> fmt::Result {
         fmt::Debug::fmt(self.as_str(), f)
     }

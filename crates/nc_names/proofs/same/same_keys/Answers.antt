@@ -1,0 +1,10 @@
+use Rattle.std.proofs.Common.{◌≡◌, ◌∙◌, sym, rules}
+use Rattle.nc_names.specs.Same.{is_same_keys}
+use Rattle.nc_names.proofs.SameLemmas.{keys_decide}
+use Rattle.nc_names.proofs.same.same_keys.Goals as goal
+
+pub returns-clause-same : goal.returns-clause-same
+returns-clause-same c =
+    let decide = keys_decide c.args.a.now c.args.b.now in
+    let word : c.eq.result ≡ is_same_keys c.args.a.now c.args.b.now = search rules in
+    ((λ e. decide.0 (sym word ∙ e)), (λ e. word ∙ decide.1 e))

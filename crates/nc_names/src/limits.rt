@@ -1,0 +1,13 @@
+//! The limits of the server.
+
+/// The most octets of a message that is taken or sent, without its framing.
+pub const MESSAGE_LIMIT: usize = 4_194_304;
+
+/// The most elements that are open at one place of a message.
+pub const ELEMENT_DEPTH: usize = 64;
+
+/// The most octets that are read or written at once.
+pub const PIECE_LIMIT: usize = 16_384;
+
+/// The most requests that are ever answered, and the most entries of a history.
+pub const MOST_REQUESTS: u64 = 1 << 62;

@@ -17,7 +17,7 @@ use Rattle.nc_schema.specs.Configuration.{HasItsValue, StandsForItself, IsDataTr
 use Rattle.nc_schema.specs.Paths.{IsPathOf}
 use Rattle.nc_schema.specs.Tables.{Tables}
 use Rattle.nc_model.specs.ProperEdit.{IsKeyAt, IsNoKey}
-use Rattle.nc_model.specs.Same.{is_same_path, is_at_or_below}
+use Rattle.nc_names.specs.Same.{is_same_path, is_at_or_below}
 use Rattle.nc_model.specs.Standing.{node_of, has_row, block_at, exists, stands_for_itself, above_of, lacks_above}
 use Rattle.nc_model.proofs.KeyLemmas.{listed}
 use Rattle.nc_model.proofs.ListLemmas.{contains_behind, heads_same, tails_same, no_element, none_passes, some_same, contains_at}
@@ -25,7 +25,7 @@ use Rattle.nc_model.proofs.OwnLemmas.{HasLast, last_found, no_own_value}
 use Rattle.nc_model.proofs.Parts.{all_at, kept_contains, kept_true, part_first}
 use Rattle.nc_model.proofs.PathViews.{IsLower}
 use Rattle.nc_model.proofs.PlaceLemmas.{below_is_below, last_of}
-use Rattle.nc_model.proofs.SameLemmas.{step_decide}
+use Rattle.nc_names.proofs.SameLemmas.{step_decide}
 use Rattle.nc_model.proofs.SiblingLemmas.{IsStepAt, path_step, ancestor}
 
 -- an element that passes the test

@@ -14,7 +14,7 @@ use Rattle.nc_model.specs.declared.request.Cause.{Cause}
 use Rattle.nc_model.specs.Edited.{has_value, at_node, rows_of_node, new_block, with_block, other_rows, left_by, refusal, unless_refused}
 use Rattle.nc_model.specs.Laws.{Passes, EditKeepsConfiguration}
 use Rattle.nc_model.specs.ProperEdit.{rows_brought}
-use Rattle.nc_model.specs.Same.{is_at_or_below}
+use Rattle.nc_names.specs.Same.{is_at_or_below}
 use Rattle.nc_model.specs.Standing.{block_at, exists, steps_before, excludes}
 use Rattle.nc_model.proofs.EditLemmas.{edit_keeps_tree, ok_same}
 

@@ -21,7 +21,7 @@ use Rattle.nc_model.specs.declared.request.Cause.{Cause}
 use Rattle.nc_model.specs.Edited.{has_value, at_node, own_rows, rows_of_node, new_block, with_block, place_by, left_by, refusal, unless_refused}
 use Rattle.nc_model.specs.Laws.{EditLeaves}
 use Rattle.nc_model.specs.ProperEdit.{IsProperAction}
-use Rattle.nc_model.specs.Same.{is_at_or_below}
+use Rattle.nc_names.specs.Same.{is_at_or_below}
 use Rattle.nc_model.specs.Standing.{node_of, block_at, exists, steps_before, excludes}
 use Rattle.nc_model.proofs.EditLemmas.{ok_same}
 use Rattle.nc_model.proofs.BoolLemmas.{is_false, neither, not_both}

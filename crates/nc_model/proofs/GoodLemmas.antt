@@ -16,7 +16,7 @@ use Rattle.nc_model.specs.declared.event.Outcome.TheVariants.{Started, Full, Not
 use Rattle.nc_model.specs.declared.peer.Peer.{Peer}
 use Rattle.nc_model.specs.declared.request.Cause.{Cause}
 use Rattle.nc_model.specs.declared.verdict.Verdict.{Verdict}
-use Rattle.nc_model.specs.Same.{is_same_rows}
+use Rattle.nc_names.specs.Same.{is_same_rows}
 use Rattle.nc_model.specs.State.{Session, State, IsGood, IsSessionId, expired, session_ended, candidate_in_force, is_live}
 use Rattle.nc_model.specs.Step.{Rules, Fits, next, changed, outcome_of, answer_to, answered, done, is_done, is_edit, is_full, with_edits, with_candidate, has_failed}
 use Rattle.nc_model.specs.Laws.{OpeningIsGood, GoodStays}

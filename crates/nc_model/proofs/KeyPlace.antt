@@ -16,7 +16,7 @@ use Rattle.nc_schema.specs.ProperNodes.{HoldsNodes, HasProperNodes}
 use Rattle.nc_schema.specs.Tables.{Tables}
 use Rattle.nc_schema.proofs.OrderLemmas.{step_irreflexive, step_transitive}
 use Rattle.nc_model.specs.Edited.{with_block}
-use Rattle.nc_model.specs.Same.{is_at_or_below}
+use Rattle.nc_names.specs.Same.{is_at_or_below}
 use Rattle.nc_model.specs.Standing.{sibling_before, placed, place_at, entries, steps_before, excludes, cases_of, block_at}
 use Rattle.nc_model.proofs.BoolLemmas.{is_false, neither}
 use Rattle.nc_model.proofs.CaseLemmas.{cases_agree, from_cases}

@@ -23,7 +23,6 @@ pub mod ProperPayload
 pub mod ProperPayloadLemmas
 pub mod RiseLemmas
 pub mod RowOrder
-pub mod SameLemmas
 pub mod SiblingLemmas
 pub mod SubtreeLemmas
 pub mod WithBlock

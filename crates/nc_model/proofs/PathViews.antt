@@ -9,10 +9,10 @@ use Rattle.nc_names.specs.declared.path.Step.{Step}
 use Rattle.nc_schema.specs.Order.{keys_above, StepBefore, StepsBefore}
 use Rattle.nc_schema.specs.Tables.{Tables}
 use Rattle.nc_schema.proofs.OrderLemmas.{step_irreflexive}
-use Rattle.nc_model.specs.Same.{is_same_step}
+use Rattle.nc_names.specs.Same.{is_same_step}
 use Rattle.nc_model.specs.Standing.{sibling_before, placed, place_at, entries, steps_before, excludes, cases_differ, cases_of}
 use Rattle.nc_model.proofs.BoolLemmas.{is_false}
-use Rattle.nc_model.proofs.SameLemmas.{step_decide, step_itself, steps_differ}
+use Rattle.nc_names.proofs.SameLemmas.{step_decide, step_itself, steps_differ}
 
 pub is_other : (x y : Step) → x ≢ y → is_same_step x y ≡ false
 is_other x y differ = is_false (is_same_step x y) (λ same. differ ((step_decide x y).0 same))

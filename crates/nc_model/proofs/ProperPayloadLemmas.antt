@@ -15,7 +15,7 @@ use Rattle.nc_message.specs.declared.tree.Part.TheBlock.{Row_of-Elem, end_of-Ele
 use Rattle.nc_schema.specs.declared.node.Kind.{Kind}
 use Rattle.nc_schema.specs.declared.node.Kind.TheVariants.{Container, Leaf, LeafList, List as ListKind}
 use Rattle.nc_schema.specs.declared.node.Node.{Node}
-use Rattle.nc_schema.specs.Index.{is_same_name}
+use Rattle.nc_names.specs.Same.{is_same_name}
 use Rattle.nc_schema.specs.Paths.{key_count}
 use Rattle.nc_schema.specs.Tables.{Tables}
 use Rattle.nc_model.specs.declared.edit.Edit.{Edit}
@@ -24,7 +24,7 @@ use Rattle.nc_model.specs.Edited.{has_value}
 use Rattle.nc_model.specs.Payload.{whole_text, has_child, has_text, name_in, parts_in, child_parts, is_same_number, child_number, number_of_part, is_leaf, has_bad_content, clashes, content_of, value_in, with_key, key_values, keys_of, step_of, is_absent, missing_key, attribute_fault, key_fault, first_fault, element_fault, element_edit, with_more, unless_fault, node_edits, numbered_edits, with_number, part_edits, child_edits, parts_edits, list_edits}
 use Rattle.nc_model.specs.Standing.{cases_of, cases_differ}
 use Rattle.nc_model.proofs.ListLemmas.{some_same}
-use Rattle.nc_model.proofs.SameLemmas.{first_true}
+use Rattle.nc_names.proofs.SameLemmas.{first_true}
 
 -- ---- what a result says of those it is made of
 some_is_not_none : {X : Type 0} (x : X) → ¬ (Some x ≡ None)

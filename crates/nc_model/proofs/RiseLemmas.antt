@@ -16,7 +16,7 @@ use Rattle.nc_schema.specs.Order.{keys_above, sibling_place, StepBefore, IsBefor
 use Rattle.nc_schema.specs.ProperNodes.{HasProperNodes}
 use Rattle.nc_schema.specs.Tables.{Tables}
 use Rattle.nc_schema.proofs.OrderLemmas.{step_irreflexive, step_transitive}
-use Rattle.nc_model.specs.Same.{is_same_step}
+use Rattle.nc_names.specs.Same.{is_same_step}
 use Rattle.nc_model.specs.Standing.{is_less, is_by_user, stands_before, entry_before, sibling_before, placed, place_at, entries, has_entry, steps_before}
 use Rattle.nc_model.proofs.BoolLemmas.{is_false}
 use Rattle.nc_model.proofs.EntryLemmas.{kept_is, placed_keeps, kept_above}
@@ -24,7 +24,7 @@ use Rattle.nc_model.proofs.KeyLemmas.{filter_none, filter_whole}
 use Rattle.nc_model.proofs.Parts.{IsPartOf, pair_at, contains_part}
 use Rattle.nc_model.proofs.PathViews.{node_after, last_is_after, higher_order, IsLower}
 use Rattle.nc_model.proofs.PlaceLemmas.{sibling_from, less_is, or_cases}
-use Rattle.nc_model.proofs.SameLemmas.{first_true, second_true, both_true, step_decide, steps_differ}
+use Rattle.nc_names.proofs.SameLemmas.{first_true, second_true, both_true, step_decide, steps_differ}
 use Rattle.nc_model.proofs.SiblingLemmas.{GoesBefore, siblings}
 
 -- two entries that the user orders: the one is before the other in that order

@@ -22,7 +22,7 @@ use Rattle.nc_schema.specs.Tables.{Tables}
 use Rattle.nc_schema.proofs.OrderLemmas.{order_is_strict, step_irreflexive, step_transitive}
 use Rattle.nc_model.specs.Edited.{with_block}
 use Rattle.nc_model.specs.ProperEdit.{IsNoKey}
-use Rattle.nc_model.specs.Same.{is_at_or_below, is_same_step}
+use Rattle.nc_names.specs.Same.{is_at_or_below, is_same_step}
 use Rattle.nc_model.specs.Standing.{sibling_before, placed, place_at, entries, steps_before, is_by_user, excludes, cases_differ, cases_of}
 use Rattle.nc_model.proofs.BlockPlace.{lower_lower, steps_above, steps_across, together_before, together_behind, nothing_below}
 use Rattle.nc_model.proofs.BoolLemmas.{not_both, neither, is_false}
@@ -33,7 +33,7 @@ use Rattle.nc_model.proofs.Parts.{IsPartOf, part_of_part, part_filter, part_join
 use Rattle.nc_model.proofs.PathViews.{IsParting, IsHigher, IsLower, view, node_after, after_last, higher_order, order_parting, parting_test, parting_excludes, lower_excludes, higher_excludes, below_parting, below_higher, before_parting, before_higher, excludes_higher, excludes_lower, excludes_below}
 use Rattle.nc_model.proofs.PlaceLemmas.{sibling_from, below_is_below}
 use Rattle.nc_model.proofs.RiseLemmas.{InUserOrder, sibling_cases, not_user, rises, filter_cuts}
-use Rattle.nc_model.proofs.SameLemmas.{step_decide, steps_differ}
+use Rattle.nc_names.proofs.SameLemmas.{step_decide, steps_differ}
 use Rattle.nc_model.proofs.SiblingLemmas.{some_and, IsStepAt, path_step, together_at, ancestor}
 
 -- the rows at a node give way to a subtree there; each node above that stands for itself has its row

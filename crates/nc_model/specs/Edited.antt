@@ -25,7 +25,7 @@ use Rattle.nc_model.specs.declared.edit.Action.{Action}
 use Rattle.nc_model.specs.declared.edit.Action.TheVariants.{Nothing, Merge, Create, Replace, Delete, Remove}
 use Rattle.nc_model.specs.declared.edit.Edit.{Edit}
 use Rattle.nc_model.specs.declared.request.Cause.{Cause}
-use Rattle.nc_model.specs.Same.{is_same_keys, is_same_value, is_same_path, is_at_or_below}
+use Rattle.nc_names.specs.Same.{is_same_keys, is_same_value, is_same_path, is_at_or_below}
 use Rattle.nc_model.specs.Standing.{node_of, has_row, block_at, exists, lacks_above, entries, has_entry, placed, is_by_user, steps_before, excludes}
 use Rattle.nc_model.specs.Words.{key_word, value_word, rule_word, default_word, read_word, write_word, exec_word, operation_word, deny_all_word, deny_write_word}
 

@@ -16,7 +16,7 @@ use Rattle.nc_schema.specs.declared.node.Kind.TheVariants.{Container, Leaf, Leaf
 use Rattle.nc_schema.specs.declared.node.Node.{Node}
 use Rattle.nc_schema.specs.Order.{keys_above, sibling_place}
 use Rattle.nc_schema.specs.Tables.{Tables}
-use Rattle.nc_model.specs.Same.{is_same_keys, is_same_step, is_same_path, is_at_or_below}
+use Rattle.nc_names.specs.Same.{is_same_keys, is_same_step, is_same_path, is_at_or_below}
 
 -- the data node to which the steps lead
 abbrev pub node_of : Tables → List Step → Option Node

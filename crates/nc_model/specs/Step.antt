@@ -1,8 +1,9 @@
 -- One event: what comes of it, and what state it leaves (RFC 6241 4, 7 and 8.3).
-use Rattle.std.specs.Prelude.{◌≡◌, ◌==◌, ◌&&◌, ◌||◌, ◌+◌, ◌-◌, ◌^◌, ◌≤◌, ℕ, min, Bool, true, false, if◌then◌else◌, List, [], ◌∷◌, ◌++◌, length, Option, Some, None, Result, Ok, Err}
+use Rattle.std.specs.Prelude.{◌≡◌, ◌==◌, ◌&&◌, ◌||◌, ◌+◌, ◌≤◌, ℕ, Bool, true, false, if◌then◌else◌, List, [], ◌∷◌, ◌++◌, length, Option, Some, None, Result, Ok, Err}
 use Rattle.std.specs.List.{list_any}
 use Rattle.nc_names.specs.declared.cause.CauseKind.{CauseKind}
 use Rattle.nc_names.specs.declared.cause.CauseKind.TheVariants.{DiskFault}
+use Rattle.nc_names.specs.Counts.{Rose}
 use Rattle.nc_names.specs.declared.path.Row.{Row}
 use Rattle.nc_message.specs.declared.tree.Tree.{Tree}
 use Rattle.nc_model.specs.declared.asked.Asked.{Asked}
@@ -16,7 +17,7 @@ use Rattle.nc_model.specs.declared.request.Cause.{Cause}
 use Rattle.nc_model.specs.declared.request.Request.{Request}
 use Rattle.nc_model.specs.declared.verdict.Verdict.{Verdict}
 use Rattle.nc_model.specs.declared.verdict.Verdict.TheVariants.{Done, Refused}
-use Rattle.nc_model.specs.Same.{is_same_rows}
+use Rattle.nc_names.specs.Same.{is_same_rows}
 use Rattle.nc_model.specs.State.{State, candidate_in_force, expired, is_live, session_ended, most_sessions, last_session_id}
 
 -- how requests are answered
@@ -70,10 +71,6 @@ abbrev pub reaches_disk : Rules → State → Event → Bool
 reaches_disk rules s (Requested session request) =
     is_live s session && is_commit request.asked && is_done (rules.verdict s session request false)
 reaches_disk rules s event = false
-
--- the count rose, or stands at its last value
-abbrev pub Rose : ℕ → ℕ → Type 0
-Rose before now = min (before + 1) (2 ^ 64 - 1) ≤ now
 
 -- the count of faults rises at a failed commit, never falls, and is the same where the disk is not reached
 abbrev pub CountsFaults : Bool → Bool → ℕ → ℕ → Type 0

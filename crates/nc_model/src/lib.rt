@@ -16,7 +16,6 @@ mod event;
 mod laws;
 mod peer;
 mod request;
-mod same;
 #[cfg(test)]
 mod tests;
 mod verdict;
@@ -35,5 +34,4 @@ pub use laws::{
 };
 pub use peer::Peer;
 pub use request::{Cause, Request};
-pub use same::same_rows;
 pub use verdict::Verdict;

@@ -3,9 +3,9 @@ use crate::{
     By, Decision, DeskFault, Peer, Rights, Sees, Unchecked, below_is_below, child_is_element,
     edit_keeps_configuration, edit_keeps_tree, edit_leaves, edits_keep_tree, good_stays,
     histories_join, legal_histories_join, mine_grows, mine_stays, one_entry_is_legal,
-    opening_is_good, payload_fits, places_are_in_order, rows_stand_in_order, same_rows,
+    opening_is_good, payload_fits, places_are_in_order, rows_stand_in_order,
 };
-use nc_names::{Copies, Many, Memory, Path, Right, Row, Text};
+use nc_names::{Copies, Many, Memory, Path, Right, Text};
 use std::test::Fail;
 
 #[test]
@@ -61,19 +61,5 @@ fn laws_take_nothing(_rt: HostRuntime) -> Result<(), Fail> {
     edit_keeps_configuration();
     edit_leaves();
     rows_stand_in_order();
-    Ok(())
-}
-
-#[test]
-fn rows_are_compared(rt: HostRuntime) -> Result<(), Fail> {
-    let mut rows = Many::new(rt.alloc());
-    rows.push(Row {
-        path: Path {
-            steps: Many::new(rt.alloc()),
-        },
-        value: None,
-    })?;
-    assert_eq!(rt; same_rows(rows.as_slice(), rows.as_slice()), true);
-    assert_eq!(rt; same_rows(rows.as_slice(), &[]), false);
     Ok(())
 }

@@ -1,5 +1,5 @@
 -- What becomes of an index with the next node.
-use Rattle.std.proofs.Common.{◌≡◌, ◌≢◌, ◌⊎◌, ◌==◌, ◌&&◌, ◌+◌, ◌<◌, ◌≤◌, ℕ, zero, suc, Bool, true, false, eqb, List, [], ◌∷◌, ◌++◌, Option, Some, None, option_and_then, length, set, get_or, take, slice_get, IfSome, refl, sym, ap, subst, ◌∙◌, inl, inr, arith}
+use Rattle.std.proofs.Common.{◌≡◌, ◌≢◌, ◌⊎◌, ◌+◌, ◌<◌, ◌≤◌, ℕ, zero, suc, Bool, true, false, eqb, List, [], ◌∷◌, ◌++◌, Option, Some, None, option_and_then, length, set, get_or, take, slice_get, IfSome, refl, sym, ap, subst, ◌∙◌, inl, inr, arith}
 use Rattle.std.proofs.Math.ListN.{length-set}
 use Rattle.std.proofs.Math.Seq.{take-set-lt}
 use Rattle.std.proofs.lemmas.Bool.{cases_lt, cases_order}
@@ -7,8 +7,6 @@ use Rattle.std.proofs.lemmas.Bool.Decides.{eqb_tells}
 use Rattle.std.proofs.lemmas.List.{take_all, take-set-le, take-append-le, length_push}
 use Rattle.std.proofs.lemmas.List.Elements.{All-push, All-set}
 use Rattle.std.proofs.lemmas.Option.{slice_get-get_or, get_or_from_slice_get, slice_get_past, slice_get_within}
-use Rattle.std.proofs.lemmas.Slice.Eq.{bytes_eq-Decides}
-use Rattle.std.specs.Cmp.Lexicographic.{pointwise}
 use Rattle.std.specs.List.{All}
 use Rattle.std.specs.Map.{lookup}
 use Rattle.indexmap.specs.IndexMap.{IsEmpty}
@@ -16,7 +14,9 @@ use Rattle.nc_names.specs.declared.name.QName.{QName}
 use Rattle.nc_schema.specs.declared.index.Index.{Index}
 use Rattle.nc_schema.specs.declared.node.Node.{Node}
 use Rattle.nc_schema.specs.Children.{IsChild, IsFirstChild, IsAbove, HasLowerParents, HasRoom, IsListOfNodes}
-use Rattle.nc_schema.specs.Index.{Names, is_same_name, number_of, with_entry, HasEntry, known_child, IsIndexOf, IsIndexed, KeepsName}
+use Rattle.nc_names.specs.Same.{is_same_name}
+use Rattle.nc_names.proofs.SameLemmas.{name_decide}
+use Rattle.nc_schema.specs.Index.{Names, number_of, with_entry, HasEntry, known_child, IsIndexOf, IsIndexed, KeepsName}
 
 -- ---- an element of a list that grew or changed in one place
 get_kept : {X : Type 0} (xs : List X) (x : X) (i : ℕ) → i < length xs → slice_get (xs ++ x ∷ []) i ≡ slice_get xs i
@@ -42,21 +42,10 @@ get_set_other (y ∷ xs) (suc i) (suc j) x other = get_set_other xs i j x (λ e.
 
 -- ---- names
 same_name_is : (a b : QName) → is_same_name a b ≡ true → a ≡ b
-same_name_is a b e =
-    let space = (bytes_eq-Decides a.space b.space).0 (left (pointwise ◌==◌ a.space b.space) (pointwise ◌==◌ a.name b.name) e) in
-    let name = (bytes_eq-Decides a.name b.name).0 (right (pointwise ◌==◌ a.space b.space) (pointwise ◌==◌ a.name b.name) e) in
-    λ i. record { space = space i; name = name i }
-  where
-    left : (x y : Bool) → (x && y) ≡ true → x ≡ true
-    left true y e = refl
-    left false y e = e
-
-    right : (x y : Bool) → (x && y) ≡ true → y ≡ true
-    right true y e = e
-    right false y e = absurd (let clash : false ≡ true = e in cc)
+same_name_is a b = (name_decide a b).0
 
 is_same_itself : (a : QName) → is_same_name a a ≡ true
-is_same_itself a = λ i. (bytes_eq-Decides a.space a.space).1 refl i && (bytes_eq-Decides a.name a.name).1 refl i
+is_same_itself a = (name_decide a a).1 refl
 
 -- ---- an index of nothing
 pub knows_nothing : (names : Names) → IsEmpty names → (name : QName) → number_of names name ≡ None

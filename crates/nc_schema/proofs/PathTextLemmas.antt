@@ -11,7 +11,8 @@ use Rattle.nc_schema.specs.declared.node.Node.{Node}
 use Rattle.nc_schema.specs.Laws.{TextNamesOnePath}
 use Rattle.nc_schema.specs.Names.{HasProperNames, CanBeQuoted}
 use Rattle.nc_schema.specs.Paths.{key_count, LeadDown}
-use Rattle.nc_schema.specs.PathTexts.{slash, colon, module_name, prefixed_name, predicates, step_predicates, step_text}
+use Rattle.nc_names.specs.Signs.{slash, colon}
+use Rattle.nc_schema.specs.PathTexts.{module_name, prefixed_name, predicates, step_predicates, step_text}
 use Rattle.nc_schema.specs.Tables.{Tables}
 use Rattle.nc_schema.proofs.TextLemmas.{StopsAt, cut_once, all_in_identifier, EndsStep, values_once, keys_once, none_of_none}
 

@@ -3,9 +3,10 @@ use Rattle.std.proofs.Common.{◌≡◌, ◌≢◌, ◌⊎◌, ◌==◌, ◌&&�
 use Rattle.std.proofs.lemmas.Bool.{eq-eqb}
 use Rattle.std.specs.Char.{is_ascii_digit}
 use Rattle.std.specs.List.{All, list_all, list_any, flat_map}
-use Rattle.nc_names.specs.Signs.{is_in_identifier}
-use Rattle.nc_schema.specs.Names.{IsIdentifier, CanBeQuoted}
-use Rattle.nc_schema.specs.PathTexts.{quote, apostrophe, dot, equals, opening, closing, slash, mark_round, quoted, key_name, key_predicates, value_predicate}
+use Rattle.nc_names.specs.Identifiers.{IsIdentifier}
+use Rattle.nc_names.specs.Signs.{quote, apostrophe, dot, equals, opening_bracket, closing_bracket, slash, begins_identifier, is_in_identifier}
+use Rattle.nc_schema.specs.Names.{CanBeQuoted}
+use Rattle.nc_schema.specs.PathTexts.{mark_round, quoted, key_name, key_predicates, value_predicate}
 use Rattle.nc_schema.specs.Tables.{Tables}
 
 -- of two tests that both hold, each holds
@@ -54,8 +55,11 @@ cut_once p (c ∷ a) (d ∷ b) x y in_a in_b at_x at_y e =
 
 -- an identifier is of signs that may stand in one
 pub all_in_identifier : (name : List ℕ) → IsIdentifier name → list_all is_in_identifier name ≡ true
-all_in_identifier [] h = absurd h
-all_in_identifier (c ∷ cs) h = λ i. (((h.0 i || is_ascii_digit c) || c == 45) || c == 46) && h.1 i
+all_in_identifier [] h = absurd (let clash : false ≡ true = h in cc)
+all_in_identifier (c ∷ cs) h =
+    let first = both_left (begins_identifier c) (list_all is_in_identifier cs) h in
+    let rest = both_right (begins_identifier c) (list_all is_in_identifier cs) h in
+    λ i. (((first i || is_ascii_digit c) || c == 45) || c == 46) && rest i
 
 -- a value lacks the mark round it
 lacks_mark : (value : List ℕ) → CanBeQuoted value → list_any (λ sign. sign == mark_round value) value ≡ false
@@ -89,10 +93,10 @@ EndsStep [] = Unit {0}
 EndsStep (c ∷ cs) = c ≡ slash
 
 -- so no predicate follows
-no_predicate : (rest more : List ℕ) → EndsStep rest → rest ≢ opening ∷ more
+no_predicate : (rest more : List ℕ) → EndsStep rest → rest ≢ opening_bracket ∷ more
 no_predicate [] more ends e = cc
 no_predicate (c ∷ cs) more ends e =
-    let clash : slash ≡ opening = sym ends ∙ (let whole : c ∷ cs ≡ opening ∷ more = e in cc) in
+    let clash : slash ≡ opening_bracket = sym ends ∙ (let whole : c ∷ cs ≡ opening_bracket ∷ more = e in cc) in
     omega (arith, clash)
 
 -- what stands in both texts first can be left out
@@ -101,19 +105,19 @@ cancel [] x y e = e
 cancel (c ∷ lead) x y e = cancel lead x y cc
 
 -- the parts of a text, from the left
-regroup : (lead value behind rest : List ℕ) → (((lead ++ value) ++ closing ∷ []) ++ behind) ++ rest ≡ lead ++ (value ++ closing ∷ (behind ++ rest))
+regroup : (lead value behind rest : List ℕ) → (((lead ++ value) ++ closing_bracket ∷ []) ++ behind) ++ rest ≡ lead ++ (value ++ closing_bracket ∷ (behind ++ rest))
 regroup lead value behind rest = simp append_assoc
 
 -- a predicate is read in one way where its name is known
-predicate_once : (lead value other behind after rest more : List ℕ) → CanBeQuoted value → CanBeQuoted other → (((lead ++ quoted value) ++ closing ∷ []) ++ behind) ++ rest ≡ (((lead ++ quoted other) ++ closing ∷ []) ++ after) ++ more → (value ≡ other) × (behind ++ rest ≡ after ++ more)
+predicate_once : (lead value other behind after rest more : List ℕ) → CanBeQuoted value → CanBeQuoted other → (((lead ++ quoted value) ++ closing_bracket ∷ []) ++ behind) ++ rest ≡ (((lead ++ quoted other) ++ closing_bracket ∷ []) ++ after) ++ more → (value ≡ other) × (behind ++ rest ≡ after ++ more)
 predicate_once lead value other behind after rest more can could e =
-    let whole : lead ++ (quoted value ++ closing ∷ (behind ++ rest)) ≡ lead ++ (quoted other ++ closing ∷ (after ++ more)) =
+    let whole : lead ++ (quoted value ++ closing_bracket ∷ (behind ++ rest)) ≡ lead ++ (quoted other ++ closing_bracket ∷ (after ++ more)) =
     sym (regroup lead (quoted value) behind rest) ∙ e ∙ regroup lead (quoted other) after more in
-    let level = cancel lead (quoted value ++ closing ∷ (behind ++ rest)) (quoted other ++ closing ∷ (after ++ more)) whole in
-    let first = quoted_once value other (closing ∷ (behind ++ rest)) (closing ∷ (after ++ more)) can could level in
+    let level = cancel lead (quoted value ++ closing_bracket ∷ (behind ++ rest)) (quoted other ++ closing_bracket ∷ (after ++ more)) whole in
+    let first = quoted_once value other (closing_bracket ∷ (behind ++ rest)) (closing_bracket ∷ (after ++ more)) can could level in
     (first.0, same_rest (behind ++ rest) (after ++ more) first.1)
   where
-    same_rest : (x y : List ℕ) → closing ∷ x ≡ closing ∷ y → x ≡ y
+    same_rest : (x y : List ℕ) → closing_bracket ∷ x ≡ closing_bracket ∷ y → x ≡ y
     same_rest x y e = cc
 
 -- what holds of all but the first
@@ -126,7 +130,7 @@ values_once [] [] rest more can could at_rest at_more e = (refl, e)
 values_once [] (other ∷ others) rest more can could at_rest at_more e = absurd (no_predicate rest _ at_rest e)
 values_once (value ∷ values) [] rest more can could at_rest at_more e = absurd (no_predicate more _ at_more (sym e))
 values_once (value ∷ values) (other ∷ others) rest more can could at_rest at_more e =
-    let first = predicate_once (opening ∷ dot ∷ equals ∷ []) value other (flat_map value_predicate values) (flat_map value_predicate others) rest more (can 0 value (omega arith)) (could 0 other (omega arith)) e in
+    let first = predicate_once (opening_bracket ∷ dot ∷ equals ∷ []) value other (flat_map value_predicate values) (flat_map value_predicate others) rest more (can 0 value (omega arith)) (could 0 other (omega arith)) e in
     let parts = values_once values others rest more (rest_of value values can) (rest_of other others could) at_rest at_more first.1 in
     ((λ i. first.0 i ∷ parts.0 i), parts.1)
 

@@ -1,17 +1,13 @@
 -- An index of data nodes by their parents and names.
-use Rattle.std.specs.Prelude.{◌≡◌, ◌==◌, ◌&&◌, ℕ, Bool, false, List, Option, Some, None, cond, length, slice_get, option_and_then}
-use Rattle.std.specs.Cmp.Lexicographic.{pointwise}
+use Rattle.std.specs.Prelude.{◌≡◌, ℕ, Bool, false, List, Option, Some, None, cond, length, slice_get, option_and_then}
 use Rattle.std.specs.declared.hash.BuildHasherDefault.{BuildHasherDefault}
 use Rattle.std.specs.declared.hash.FoldHasher.{FoldHasher}
 use Rattle.indexmap.specs.IndexMap.{IndexMap, get}
 use Rattle.nc_names.specs.declared.name.QName.{QName}
+use Rattle.nc_names.specs.Same.{is_same_name}
 use Rattle.nc_schema.specs.declared.index.Index.{Index}
 use Rattle.nc_schema.specs.declared.node.Node.{Node}
 use Rattle.nc_schema.specs.Children.{IsChild, IsFirstChild, IsListOfNodes}
-
--- whether two names are the same
-abbrev pub is_same_name : QName → QName → Bool
-is_same_name a b = pointwise ◌==◌ a.space b.space && pointwise ◌==◌ a.name b.name
 
 -- the nodes of one parent by their names
 abbrev pub Names : Type 0

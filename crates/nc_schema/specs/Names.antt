@@ -1,17 +1,12 @@
 -- The names of a schema by which a path text names one path.
-use Rattle.std.specs.Prelude.{◌≡◌, ◌==◌, ◌⊎◌, ℕ, List, [], ◌∷◌, Some, IsTrue, IsFalse, IsSome, slice_get}
-use Rattle.std.specs.List.{All, list_all, list_any}
+use Rattle.std.specs.Prelude.{◌≡◌, ◌==◌, ◌⊎◌, ℕ, List, Some, IsFalse, IsSome, slice_get}
+use Rattle.std.specs.List.{All, list_any}
 use Rattle.nc_names.specs.declared.name.Module.{Module}
 use Rattle.nc_names.specs.declared.path.Path.{Path}
-use Rattle.nc_names.specs.Signs.{begins_identifier, is_in_identifier}
+use Rattle.nc_names.specs.Identifiers.{IsIdentifier}
+use Rattle.nc_names.specs.Signs.{quote, apostrophe}
 use Rattle.nc_schema.specs.declared.node.Node.{Node}
 use Rattle.nc_schema.specs.Tables.{Tables}
-use Rattle.nc_schema.specs.PathTexts.{quote, apostrophe}
-
--- an identifier (RFC 7950 6.2)
-abbrev pub IsIdentifier : List ℕ → Type 0
-IsIdentifier [] = ⊥
-IsIdentifier (first ∷ rest) = IsTrue (begins_identifier first) × IsTrue (list_all is_in_identifier rest)
 
 -- names are identifiers; two modules have two names, and so have two nodes of one module in one parent
 -- (RFC 7950 5.1, 6.2.1)

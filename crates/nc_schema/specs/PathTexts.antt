@@ -5,34 +5,10 @@ use Rattle.std.specs.List.{flat_map, list_any, zip}
 use Rattle.std.specs.Option.{option_map_or}
 use Rattle.nc_names.specs.declared.path.Step.{Step}
 use Rattle.nc_names.specs.declared.path.Path.{Path}
+use Rattle.nc_names.specs.Signs.{quote, apostrophe, dot, slash, colon, equals, opening_bracket, closing_bracket}
 use Rattle.nc_schema.specs.declared.node.Kind.{Kind}
 use Rattle.nc_schema.specs.declared.node.Kind.TheVariants.{Container, Leaf, LeafList, List as ListKind}
 use Rattle.nc_schema.specs.Tables.{Tables}
-
--- signs by their codes
-abbrev pub quote : ℕ
-quote = 34
-
-abbrev pub apostrophe : ℕ
-apostrophe = 39
-
-abbrev pub dot : ℕ
-dot = 46
-
-abbrev pub slash : ℕ
-slash = 47
-
-abbrev pub colon : ℕ
-colon = 58
-
-abbrev pub equals : ℕ
-equals = 61
-
-abbrev pub opening : ℕ
-opening = 91
-
-abbrev pub closing : ℕ
-closing = 93
 
 -- the name of a module, or the empty text where the schema has no module of that number
 abbrev pub module_name : Tables → ℕ → List ℕ
@@ -53,11 +29,11 @@ quoted value = mark_round value ∷ value ++ mark_round value ∷ []
 
 -- `[module:key=`
 abbrev pub key_name : Tables → ℕ → List ℕ
-key_name tables key = opening ∷ prefixed_name tables key ++ equals ∷ []
+key_name tables key = opening_bracket ∷ prefixed_name tables key ++ equals ∷ []
 
 -- `[module:key='value']`
 abbrev pub key_predicate : Tables → ℕ → List ℕ → List ℕ
-key_predicate tables key value = key_name tables key ++ quoted value ++ closing ∷ []
+key_predicate tables key value = key_name tables key ++ quoted value ++ closing_bracket ∷ []
 
 -- that of each key of a list entry, in the order of the `key` statement
 abbrev pub key_predicates : Tables → List ℕ → List (List ℕ) → List ℕ
@@ -65,7 +41,7 @@ key_predicates tables keys values = flat_map (λ pair. key_predicate tables pair
 
 -- `[.='value']`
 abbrev pub value_predicate : List ℕ → List ℕ
-value_predicate value = opening ∷ dot ∷ equals ∷ quoted value ++ closing ∷ []
+value_predicate value = opening_bracket ∷ dot ∷ equals ∷ quoted value ++ closing_bracket ∷ []
 
 -- the predicates of a step to a node of that kind
 abbrev pub predicates : Tables → Kind → List ℕ → List (List ℕ) → List ℕ

@@ -1,8 +1,9 @@
 //! The text of a path (RFC 7950 9.13, RFC 7951 6.11).
 ghost use Rattle.std.specs.Prelude.{◌≡◌, [], ◌∷◌, ◌++◌, ◌==◌, IsTrue, OnOk, OnErr};
 ghost use Rattle.std.specs.List.{flat_map, list_any};
+ghost use Rattle.nc_names.specs.Signs.{apostrophe};
 ghost use Rattle.nc_schema.specs.Began.{Began};
-ghost use Rattle.nc_schema.specs.PathTexts.{prefixed_name, module_name, mark_round, quoted, apostrophe, key_name, key_predicate, key_predicates, value_predicate, step_predicates, step_text, path_text_of};
+ghost use Rattle.nc_schema.specs.PathTexts.{prefixed_name, module_name, mark_round, quoted, key_name, key_predicate, key_predicates, value_predicate, step_predicates, step_text, path_text_of};
 
 use crate::{Kind, Schema};
 use nc_names::{Memory, Path, Step, Text};

@@ -1,6 +1,7 @@
 use Rattle.std.proofs.Common.{◌≡◌, ◌∷◌, ◌++◌, [], ap, ◌∙◌, append_assoc, lit<}
 use Rattle.std.proofs.lemmas.Str.{encode_ascii}
-use Rattle.nc_schema.specs.PathTexts.{slash, prefixed_name, step_predicates}
+use Rattle.nc_names.specs.Signs.{slash}
+use Rattle.nc_schema.specs.PathTexts.{prefixed_name, step_predicates}
 use Rattle.nc_schema.proofs.BeganLemmas.{began_second, err_map}
 use Rattle.nc_schema.proofs.path_text.write_step.Goals as goal
 

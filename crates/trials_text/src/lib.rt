@@ -1,0 +1,6 @@
+//! Tests of the crates for plain types, messages and texts, each crate in a module of its own. Nothing
+//! stands on this crate.
+#![tactic(auto)]
+
+#[cfg(test)]
+mod names_tests;

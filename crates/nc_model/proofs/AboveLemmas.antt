@@ -18,7 +18,8 @@ use Rattle.nc_schema.specs.Paths.{IsPathOf}
 use Rattle.nc_schema.specs.Tables.{Tables}
 use Rattle.nc_model.specs.ProperEdit.{IsKeyAt, IsNoKey}
 use Rattle.nc_names.specs.Same.{is_same_path, is_at_or_below}
-use Rattle.nc_model.specs.Standing.{node_of, has_row, block_at, exists, stands_for_itself, above_of, lacks_above}
+use Rattle.nc_schema.specs.Standing.{node_of, has_row, block_at, exists, above_of, lacks_above}
+use Rattle.nc_schema.specs.Kinds.{stands_for_itself}
 use Rattle.nc_model.proofs.KeyLemmas.{listed}
 use Rattle.nc_model.proofs.ListLemmas.{contains_behind, heads_same, tails_same, no_element, none_passes, some_same, contains_at}
 use Rattle.nc_model.proofs.OwnLemmas.{HasLast, last_found, no_own_value}

@@ -9,7 +9,7 @@ use Rattle.nc_schema.specs.Configuration.{IsDataTree}
 use Rattle.nc_schema.specs.Order.{keys_above, IsBefore}
 use Rattle.nc_schema.specs.ProperNodes.{HasProperNodes}
 use Rattle.nc_schema.specs.Tables.{Tables}
-use Rattle.nc_model.specs.Standing.{sibling_before, placed, place_at, entries, steps_before}
+use Rattle.nc_schema.specs.Standing.{sibling_before, placed, place_at, entries, steps_before}
 use Rattle.nc_model.proofs.EntryLemmas.{kept_above}
 use Rattle.nc_model.proofs.ListLemmas.{heads_same, tails_same}
 use Rattle.nc_model.proofs.Parts.{IsPartOf, pair_at}

@@ -11,11 +11,13 @@ use Rattle.nc_schema.specs.Tables.{Tables}
 use Rattle.nc_model.specs.declared.edit.Action.{Action}
 use Rattle.nc_model.specs.declared.edit.Action.TheVariants.{Nothing, Merge, Create, Replace, Delete, Remove}
 use Rattle.nc_model.specs.declared.request.Cause.{Cause}
-use Rattle.nc_model.specs.Edited.{has_value, at_node, rows_of_node, new_block, with_block, other_rows, left_by, refusal, unless_refused}
+use Rattle.nc_model.specs.Edited.{new_block, left_by, refusal, unless_refused}
+use Rattle.nc_schema.specs.Blocks.{at_node, rows_of_node, with_block, other_rows}
+use Rattle.nc_schema.specs.Kinds.{has_value}
 use Rattle.nc_model.specs.Laws.{Passes, EditKeepsConfiguration}
 use Rattle.nc_model.specs.ProperEdit.{rows_brought}
 use Rattle.nc_names.specs.Same.{is_at_or_below}
-use Rattle.nc_model.specs.Standing.{block_at, exists, steps_before, excludes}
+use Rattle.nc_schema.specs.Standing.{block_at, exists, steps_before, excludes}
 use Rattle.nc_model.proofs.EditLemmas.{edit_keeps_tree, ok_same}
 
 -- what is true of all rows and of those that an edit brings, is true of all that it leaves

@@ -10,7 +10,7 @@ use Rattle.nc_schema.specs.declared.node.Node.{Node}
 use Rattle.nc_schema.specs.Configuration.{IsInCase}
 use Rattle.nc_schema.specs.ProperNodes.{HasProperNodes}
 use Rattle.nc_schema.specs.Tables.{Tables}
-use Rattle.nc_model.specs.Standing.{cases_differ, cases_of}
+use Rattle.nc_schema.specs.Standing.{cases_differ, cases_of}
 use Rattle.nc_model.proofs.ListLemmas.{none_passes}
 use Rattle.nc_model.proofs.Parts.{all_from}
 

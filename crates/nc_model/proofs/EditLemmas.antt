@@ -26,10 +26,12 @@ use Rattle.nc_model.specs.declared.edit.Action.TheVariants.{Nothing, Merge, Crea
 use Rattle.nc_model.specs.declared.edit.Edit.{Edit}
 use Rattle.nc_model.specs.declared.request.Cause.{Cause}
 use Rattle.nc_model.specs.Applied.{Applied, is_empty, with_result, continued, stopped}
-use Rattle.nc_model.specs.Edited.{has_value, is_plain_container, at_node, rows_of_node, own_rows, new_block, with_block, place_by, left_by, cause_where, first_cause, is_there, missed, refusal, unless_refused, edited}
+use Rattle.nc_model.specs.Edited.{new_block, place_by, left_by, cause_where, first_cause, is_there, missed, refusal, unless_refused, edited}
+use Rattle.nc_schema.specs.Blocks.{at_node, rows_of_node, own_rows, with_block}
+use Rattle.nc_schema.specs.Kinds.{has_value, is_plain_container}
 use Rattle.nc_model.specs.Laws.{EditKeepsTree, EditsKeepTree, PayloadFits}
 use Rattle.nc_model.specs.ProperEdit.{IsKeyAt, IsNoKey, IsMergeValue, IsProperAction, IsProperEdit}
-use Rattle.nc_model.specs.Standing.{node_of, block_at, exists, lacks_above}
+use Rattle.nc_schema.specs.Standing.{node_of, block_at, exists, lacks_above}
 use Rattle.nc_model.proofs.AboveLemmas.{row_below, above_stands, above_block, key_or_not}
 use Rattle.nc_model.proofs.KeyPlace.{leaf_is_put, block_is_row}
 use Rattle.nc_model.proofs.ListLemmas.{contains_behind, contains_split, some_same, contains_at, last_same}

@@ -18,11 +18,13 @@ use Rattle.nc_model.specs.declared.edit.Action.{Action}
 use Rattle.nc_model.specs.declared.edit.Action.TheVariants.{Nothing, Merge, Create, Replace, Delete, Remove}
 use Rattle.nc_model.specs.declared.edit.Edit.{Edit}
 use Rattle.nc_model.specs.declared.request.Cause.{Cause}
-use Rattle.nc_model.specs.Edited.{has_value, at_node, own_rows, rows_of_node, new_block, with_block, place_by, left_by, refusal, unless_refused}
+use Rattle.nc_model.specs.Edited.{new_block, place_by, left_by, refusal, unless_refused}
+use Rattle.nc_schema.specs.Blocks.{at_node, own_rows, rows_of_node, with_block}
+use Rattle.nc_schema.specs.Kinds.{has_value}
 use Rattle.nc_model.specs.Laws.{EditLeaves}
 use Rattle.nc_model.specs.ProperEdit.{IsProperAction}
 use Rattle.nc_names.specs.Same.{is_at_or_below}
-use Rattle.nc_model.specs.Standing.{node_of, block_at, exists, steps_before, excludes}
+use Rattle.nc_schema.specs.Standing.{node_of, block_at, exists, steps_before, excludes}
 use Rattle.nc_model.proofs.EditLemmas.{ok_same}
 use Rattle.nc_model.proofs.BoolLemmas.{is_false, neither, not_both}
 use Rattle.nc_model.proofs.KeyLemmas.{filter_none, filter_whole, IsKeyRow, key_row_of}

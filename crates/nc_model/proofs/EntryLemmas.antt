@@ -7,7 +7,7 @@ use Rattle.nc_names.specs.declared.path.Place.TheVariants.{Kept, First, Last, Be
 use Rattle.nc_names.specs.declared.path.Row.{Row}
 use Rattle.nc_names.specs.declared.path.Step.{Step}
 use Rattle.nc_names.specs.Same.{is_same_keys, is_same_step}
-use Rattle.nc_model.specs.Standing.{keys_in, entries, has_entry, without_entry, kept_or_last, put_before, put_after, placed, stands_before, place_at}
+use Rattle.nc_schema.specs.Standing.{keys_in, entries, has_entry, without_entry, kept_or_last, put_before, put_after, placed, stands_before, place_at}
 use Rattle.nc_model.proofs.BoolLemmas.{is_false}
 use Rattle.nc_model.proofs.Parts.{IsPartOf, part_contains, part_head, part_without_first}
 use Rattle.nc_names.proofs.SameLemmas.{keys_decide, step_decide, step_itself}

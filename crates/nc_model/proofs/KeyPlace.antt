@@ -15,9 +15,9 @@ use Rattle.nc_schema.specs.Paths.{key_count, IsPathOf}
 use Rattle.nc_schema.specs.ProperNodes.{HoldsNodes, HasProperNodes}
 use Rattle.nc_schema.specs.Tables.{Tables}
 use Rattle.nc_schema.proofs.OrderLemmas.{step_irreflexive, step_transitive}
-use Rattle.nc_model.specs.Edited.{with_block}
+use Rattle.nc_schema.specs.Blocks.{with_block}
 use Rattle.nc_names.specs.Same.{is_at_or_below}
-use Rattle.nc_model.specs.Standing.{sibling_before, placed, place_at, entries, steps_before, excludes, cases_of, block_at}
+use Rattle.nc_schema.specs.Standing.{sibling_before, placed, place_at, entries, steps_before, excludes, cases_of, block_at}
 use Rattle.nc_model.proofs.BoolLemmas.{is_false, neither}
 use Rattle.nc_model.proofs.CaseLemmas.{cases_agree, from_cases}
 use Rattle.nc_model.proofs.KeyLemmas.{filter_takes, filter_leaves, filter_whole, filter_none}

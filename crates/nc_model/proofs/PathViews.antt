@@ -10,7 +10,7 @@ use Rattle.nc_schema.specs.Order.{keys_above, StepBefore, StepsBefore}
 use Rattle.nc_schema.specs.Tables.{Tables}
 use Rattle.nc_schema.proofs.OrderLemmas.{step_irreflexive}
 use Rattle.nc_names.specs.Same.{is_same_step}
-use Rattle.nc_model.specs.Standing.{sibling_before, placed, place_at, entries, steps_before, excludes, cases_differ, cases_of}
+use Rattle.nc_schema.specs.Standing.{sibling_before, placed, place_at, entries, steps_before, excludes, cases_differ, cases_of}
 use Rattle.nc_model.proofs.BoolLemmas.{is_false}
 use Rattle.nc_names.proofs.SameLemmas.{step_decide, step_itself, steps_differ}
 

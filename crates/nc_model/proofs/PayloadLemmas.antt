@@ -12,7 +12,8 @@ use Rattle.nc_names.specs.declared.path.Step.{Step}
 use Rattle.nc_model.specs.declared.edit.Edit.{Edit}
 use Rattle.nc_model.specs.declared.request.Cause.{Cause}
 use Rattle.nc_model.specs.Laws.{ChildIsElement}
-use Rattle.nc_model.specs.Payload.{part_edits, parts_edits, list_edits, numbered_edits, child_number, with_more, with_number}
+use Rattle.nc_model.specs.Payload.{part_edits, parts_edits, list_edits, numbered_edits, with_more, with_number}
+use Rattle.nc_schema.specs.Children.{child_number}
 
 pub parts_are : (tables : Tables) (above : List Step) (parent : Option ℕ) (earlier : List ℕ) (n : _) (row : Row_of-Part n) →
     parts_edits tables above parent earlier row ≡ list_edits tables above parent earlier (items-the_row-Part n row)

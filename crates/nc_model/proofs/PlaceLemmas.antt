@@ -17,7 +17,7 @@ use Rattle.nc_schema.specs.Order.{sibling_place, keys_above, IsSystemOrdered, St
 use Rattle.nc_schema.specs.Tables.{Tables}
 use Rattle.nc_model.specs.Laws.{BelowIsBelow, PlacesAreInOrder}
 use Rattle.nc_names.specs.Same.{is_same_step}
-use Rattle.nc_model.specs.Standing.{is_less, is_by_user, stands_before, entry_before, sibling_before, placed, place_at, entries, steps_before}
+use Rattle.nc_schema.specs.Standing.{is_less, is_by_user, stands_before, entry_before, sibling_before, placed, place_at, entries, steps_before}
 use Rattle.nc_names.proofs.SameLemmas.{step_decide, first_true, second_true, both_true}
 
 pub below_is_below : BelowIsBelow

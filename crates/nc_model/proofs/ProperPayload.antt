@@ -20,8 +20,9 @@ use Rattle.nc_schema.specs.ProperNodes.{IsKeyIn, HasProperNodes}
 use Rattle.nc_schema.specs.Tables.{Tables}
 use Rattle.nc_model.specs.declared.edit.Edit.{Edit}
 use Rattle.nc_model.specs.declared.request.Cause.{Cause}
-use Rattle.nc_model.specs.Edited.{has_value}
-use Rattle.nc_model.specs.Payload.{whole_text, has_text, has_child, name_in, parts_in, child_parts, child_number, number_of_part, cause_in, with_more, numbered_edits, missing_key, has_bad_content, clashes, key_values, keys_of, step_of, element_edit, with_number, part_edits, child_edits, parts_edits, list_edits, edits_of}
+use Rattle.nc_schema.specs.Kinds.{has_value}
+use Rattle.nc_model.specs.Payload.{whole_text, has_text, has_child, name_in, parts_in, child_parts, number_of_part, cause_in, with_more, numbered_edits, missing_key, has_bad_content, clashes, key_values, keys_of, step_of, element_edit, with_number, part_edits, child_edits, parts_edits, list_edits, edits_of}
+use Rattle.nc_schema.specs.Children.{child_number}
 use Rattle.nc_model.specs.ProperEdit.{IsKeyAt, IsProperEdit}
 use Rattle.nc_model.proofs.KeyLemmas.{down_more}
 use Rattle.nc_model.proofs.ListLemmas.{no_element, all_one, all_append, some_same, same_before}

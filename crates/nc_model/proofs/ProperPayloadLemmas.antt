@@ -20,9 +20,11 @@ use Rattle.nc_schema.specs.Paths.{key_count}
 use Rattle.nc_schema.specs.Tables.{Tables}
 use Rattle.nc_model.specs.declared.edit.Edit.{Edit}
 use Rattle.nc_model.specs.declared.request.Cause.{Cause}
-use Rattle.nc_model.specs.Edited.{has_value}
-use Rattle.nc_model.specs.Payload.{whole_text, has_child, has_text, name_in, parts_in, child_parts, is_same_number, child_number, number_of_part, is_leaf, has_bad_content, clashes, content_of, value_in, with_key, key_values, keys_of, step_of, is_absent, missing_key, attribute_fault, key_fault, first_fault, element_fault, element_edit, with_more, unless_fault, node_edits, numbered_edits, with_number, part_edits, child_edits, parts_edits, list_edits}
-use Rattle.nc_model.specs.Standing.{cases_of, cases_differ}
+use Rattle.nc_schema.specs.Kinds.{has_value}
+use Rattle.nc_model.specs.Payload.{whole_text, has_child, has_text, name_in, parts_in, child_parts, number_of_part, has_bad_content, clashes, content_of, value_in, with_key, key_values, keys_of, step_of, is_absent, missing_key, attribute_fault, key_fault, first_fault, element_fault, element_edit, with_more, unless_fault, node_edits, numbered_edits, with_number, part_edits, child_edits, parts_edits, list_edits}
+use Rattle.nc_schema.specs.Children.{is_same_number, child_number}
+use Rattle.nc_schema.specs.Kinds.{is_leaf}
+use Rattle.nc_schema.specs.Standing.{cases_of, cases_differ}
 use Rattle.nc_model.proofs.ListLemmas.{some_same}
 use Rattle.nc_names.proofs.SameLemmas.{first_true}
 

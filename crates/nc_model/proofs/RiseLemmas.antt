@@ -17,7 +17,7 @@ use Rattle.nc_schema.specs.ProperNodes.{HasProperNodes}
 use Rattle.nc_schema.specs.Tables.{Tables}
 use Rattle.nc_schema.proofs.OrderLemmas.{step_irreflexive, step_transitive}
 use Rattle.nc_names.specs.Same.{is_same_step}
-use Rattle.nc_model.specs.Standing.{is_less, is_by_user, stands_before, entry_before, sibling_before, placed, place_at, entries, has_entry, steps_before}
+use Rattle.nc_schema.specs.Standing.{is_less, is_by_user, stands_before, entry_before, sibling_before, placed, place_at, entries, has_entry, steps_before}
 use Rattle.nc_model.proofs.BoolLemmas.{is_false}
 use Rattle.nc_model.proofs.EntryLemmas.{kept_is, placed_keeps, kept_above}
 use Rattle.nc_model.proofs.KeyLemmas.{filter_none, filter_whole}

@@ -11,7 +11,7 @@ use Rattle.nc_schema.specs.Order.{keys_above, StepsBefore, IsBefore}
 use Rattle.nc_schema.specs.Tables.{Tables}
 use Rattle.nc_model.specs.Laws.{RowsStandInOrder}
 use Rattle.nc_names.specs.Same.{is_same_step}
-use Rattle.nc_model.specs.Standing.{sibling_before, placed, place_at, entries, steps_before}
+use Rattle.nc_schema.specs.Standing.{sibling_before, placed, place_at, entries, steps_before}
 use Rattle.nc_model.proofs.BoolLemmas.{is_false}
 use Rattle.nc_model.proofs.Parts.{IsPartOf, pair_at, pairs_from}
 use Rattle.nc_model.proofs.PathViews.{IsParting, IsHigher, IsLower, view, node_after, higher_order, higher_test, parting_test}

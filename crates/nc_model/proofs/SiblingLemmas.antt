@@ -20,7 +20,7 @@ use Rattle.nc_schema.specs.Paths.{key_count, HasAllKeys, IsStepIn, LeadDown, IsP
 use Rattle.nc_schema.specs.ProperNodes.{HoldsNodes, HasProperNodes}
 use Rattle.nc_schema.specs.Tables.{Tables}
 use Rattle.nc_schema.proofs.OrderLemmas.{same_node, step_total}
-use Rattle.nc_model.specs.Standing.{is_by_user, stands_before, has_entry, entries}
+use Rattle.nc_schema.specs.Standing.{is_by_user, stands_before, has_entry, entries}
 use Rattle.nc_model.proofs.EntryLemmas.{entries_in_order, has_its_entry}
 use Rattle.nc_model.proofs.ListLemmas.{contains_split, heads_same, some_same, contains_here}
 use Rattle.nc_model.proofs.Parts.{IsPartOf, all_at, pair_at, part_at, part_first, part_second, part_either_way, part_chain, part_ends, cut_thrice}

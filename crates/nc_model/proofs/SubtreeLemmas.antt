@@ -15,10 +15,11 @@ use Rattle.nc_schema.specs.Order.{IsBefore}
 use Rattle.nc_schema.specs.Paths.{HasAllKeys, IsPathOf}
 use Rattle.nc_schema.specs.ProperNodes.{HasProperNodes}
 use Rattle.nc_schema.specs.Tables.{Tables}
-use Rattle.nc_model.specs.Edited.{own_rows, rows_of_node, has_value}
+use Rattle.nc_schema.specs.Blocks.{own_rows, rows_of_node}
+use Rattle.nc_schema.specs.Kinds.{has_value}
 use Rattle.nc_model.specs.ProperEdit.{IsMergeValue}
 use Rattle.nc_names.specs.Same.{is_at_or_below}
-use Rattle.nc_model.specs.Standing.{node_of, block_at}
+use Rattle.nc_schema.specs.Standing.{node_of, block_at}
 use Rattle.nc_model.proofs.ListLemmas.{no_element, contains_last, pairs_filter}
 use Rattle.nc_model.proofs.KeyLemmas.{filter_cut, keys_follow_filter, together_filter, key_row_is, below_further, keys_rise}
 use Rattle.nc_model.proofs.Parts.{all_at, all_from, kept_contains, contains_kept}

@@ -20,10 +20,10 @@ use Rattle.nc_schema.specs.Paths.{IsPathOf}
 use Rattle.nc_schema.specs.ProperNodes.{HoldsNodes, IsKeyIn, HasProperNodes}
 use Rattle.nc_schema.specs.Tables.{Tables}
 use Rattle.nc_schema.proofs.OrderLemmas.{order_is_strict, step_irreflexive, step_transitive}
-use Rattle.nc_model.specs.Edited.{with_block}
+use Rattle.nc_schema.specs.Blocks.{with_block}
 use Rattle.nc_model.specs.ProperEdit.{IsNoKey}
 use Rattle.nc_names.specs.Same.{is_at_or_below, is_same_step}
-use Rattle.nc_model.specs.Standing.{sibling_before, placed, place_at, entries, steps_before, is_by_user, excludes, cases_differ, cases_of}
+use Rattle.nc_schema.specs.Standing.{sibling_before, placed, place_at, entries, steps_before, is_by_user, excludes, cases_differ, cases_of}
 use Rattle.nc_model.proofs.BlockPlace.{lower_lower, steps_above, steps_across, together_before, together_behind, nothing_below}
 use Rattle.nc_model.proofs.BoolLemmas.{not_both, neither, is_false}
 use Rattle.nc_model.proofs.CaseLemmas.{one_case, cases_same, cases_in, in_case, none_differ}

@@ -26,32 +26,10 @@ use Rattle.nc_model.specs.declared.edit.Action.TheVariants.{Nothing, Merge, Crea
 use Rattle.nc_model.specs.declared.edit.Edit.{Edit}
 use Rattle.nc_model.specs.declared.request.Cause.{Cause}
 use Rattle.nc_names.specs.Same.{is_same_keys, is_same_value, is_same_path, is_at_or_below}
-use Rattle.nc_model.specs.Standing.{node_of, has_row, block_at, exists, lacks_above, entries, has_entry, placed, is_by_user, steps_before, excludes}
+use Rattle.nc_schema.specs.Standing.{node_of, has_row, block_at, exists, lacks_above, entries, has_entry, placed, is_by_user, steps_before, excludes}
 use Rattle.nc_model.specs.Words.{key_word, value_word, rule_word, default_word, read_word, write_word, exec_word, operation_word, deny_all_word, deny_write_word}
-
--- the rows that a node has by itself: an entry with those of its keys; none at a container without presence
-abbrev pub own_rows : Kind → List ℕ → Path → List (List ℕ) → Option (List ℕ) → List Row
-own_rows (Container presence) keys path values value = if presence then record { path = path; value = None } ∷ [] else []
-own_rows Leaf keys path values value = record { path = path; value = value } ∷ []
-own_rows LeafList keys path values value = record { path = path; value = value } ∷ []
-own_rows ListKind keys path values value = record { path = path; value = None } ∷ key_rows path.steps keys values
-
-abbrev pub rows_of_node : Tables → Path → Option (List ℕ) → List Row
-rows_of_node tables path value =
-    option_map_or (λ node. own_rows node.kind node.keys path (option_map_or (λ step. step.keys) (last_or None path.steps) []) value) (node_of tables path.steps) []
-
-abbrev pub has_value : Kind → Bool
-has_value (Container presence) = false
-has_value Leaf = true
-has_value LeafList = true
-has_value ListKind = false
-
-abbrev pub is_plain_container : Kind → Bool
-is_plain_container (Container presence) = not presence
-is_plain_container kind = false
-
-abbrev pub at_node : Tables → Path → (Kind → Bool) → Bool
-at_node tables path test = option_map_or (λ node. test node.kind) (node_of tables path.steps) false
+use Rattle.nc_schema.specs.Blocks.{at_node, entries_beside, row_at, rows_of_node, with_block}
+use Rattle.nc_schema.specs.Kinds.{has_value, is_plain_container}
 
 -- the rows at and below the node once the edit is made
 abbrev pub new_block : Tables → List Row → Path → Action → List Row
@@ -62,18 +40,6 @@ new_block tables rows path (Create new) = new
 new_block tables rows path (Replace new) = new
 new_block tables rows path Delete = []
 new_block tables rows path Remove = []
-
--- the other rows: those of other cases go (RFC 7950 7.9)
-abbrev pub other_rows : Tables → List Row → List Step → List Row → List Row
-other_rows tables rows steps block =
-    filter (λ row. not (is_at_or_below steps row.path || list_any (λ added. excludes tables added.path.steps row.path.steps) block)) rows
-
--- the block in its place among the other rows
-abbrev pub with_block : Tables → List Row → Path → Place → List Row → List Row
-with_block tables rows path place block =
-    let others = other_rows tables rows path.steps block in
-    filter (λ row. steps_before tables rows place [] row.path.steps path.steps) others
-    ++ block ++ filter (λ row. not (steps_before tables rows place [] row.path.steps path.steps)) others
 
 -- an edit that does nothing, or that takes away, puts nothing in a place
 abbrev pub place_by : Action → Place → Place
@@ -86,23 +52,6 @@ place_by action place = place
 abbrev pub left_by : Tables → List Row → Edit → List Row
 left_by tables rows edit =
     with_block tables rows edit.path (place_by edit.action edit.place) (new_block tables rows edit.path edit.action)
-
--- the row at a path
-abbrev pub row_at : List Row → List Step → Option Row
-row_at rows steps = find (λ row. is_same_path row.path.steps steps) rows
-
--- the steps but the last
-abbrev pub above_from : Step → List Step → List Step
-above_from step [] = []
-above_from step (next ∷ rest) = step ∷ above_from next rest
-
-abbrev pub above_last : List Step → List Step
-above_last [] = []
-above_last (step ∷ rest) = above_from step rest
-
--- the entries of the list or leaf-list to whose entry the steps lead
-abbrev pub entries_beside : List Row → List Step → List (List (List ℕ))
-entries_beside rows steps = option_map_or (λ step. entries rows (above_last steps) step.node) (last_or None steps) []
 
 -- an entry ordered by the user that exists gets another place
 abbrev pub moves : Tables → List Row → List Step → Place → Bool

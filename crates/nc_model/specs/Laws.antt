@@ -26,7 +26,7 @@ use Rattle.nc_model.specs.Edited.{edited, new_block}
 use Rattle.nc_model.specs.Payload.{part_edits, elem_edits, edits_of}
 use Rattle.nc_model.specs.ProperEdit.{IsProperEdit, BringsCanonical}
 use Rattle.nc_names.specs.Same.{is_at_or_below}
-use Rattle.nc_model.specs.Standing.{block_at, steps_before, excludes}
+use Rattle.nc_schema.specs.Standing.{block_at, steps_before, excludes}
 use Rattle.nc_model.specs.State.{State, IsGood, opening}
 use Rattle.nc_model.specs.Step.{Rules, Fits}
 use Rattle.nc_model.specs.Verdict.{rules_with}

@@ -6,7 +6,6 @@ pub mod Laws
 pub mod Payload
 pub mod Proper
 pub mod ProperEdit
-pub mod Standing
 pub mod State
 pub mod Step
 pub mod Unchecked

@@ -22,8 +22,9 @@ use Rattle.nc_schema.specs.Tables.{Tables}
 use Rattle.nc_model.specs.declared.edit.Action.TheVariants.{Merge}
 use Rattle.nc_model.specs.declared.edit.Edit.{Edit}
 use Rattle.nc_model.specs.declared.request.Cause.{Cause}
-use Rattle.nc_model.specs.Edited.{has_value}
-use Rattle.nc_model.specs.Standing.{cases_of, cases_differ}
+use Rattle.nc_schema.specs.Kinds.{has_value, is_leaf}
+use Rattle.nc_schema.specs.Standing.{cases_of, cases_differ}
+use Rattle.nc_schema.specs.Children.{child_number, is_same_number}
 
 abbrev pub text_of : Part → List ℕ
 text_of (Chars text) = text
@@ -61,15 +62,6 @@ abbrev pub child_parts : Part → List Part
 child_parts (Chars text) = []
 child_parts (Child' _ child) = parts_in child
 
-abbrev pub is_same_number : Option ℕ → Option ℕ → Bool
-is_same_number None None = true
-is_same_number (Some a) (Some b) = a == b
-is_same_number a b = false
-
--- the number of the first data node of that name in that parent, or at the top
-abbrev pub child_number : Tables → Option ℕ → QName → Option ℕ
-child_number tables parent name = position (λ node. is_same_number node.parent parent && is_same_name node.name name) tables.nodes
-
 -- the number of the data node of a child
 abbrev pub number_of_part : Tables → Option ℕ → Part → Option ℕ
 number_of_part tables parent part = option_and_then (λ name. child_number tables parent name) (child_name part)
@@ -87,12 +79,6 @@ abbrev pub unknown_cause : Tables → List Step → QName → Cause
 unknown_cause tables above name =
     if list_any (λ found. is_same_text found.space name.space) tables.modules then cause_in UnknownElement above (name.name ∷ [])
     else cause_in UnknownNamespace above (name.name ∷ name.space ∷ [])
-
-abbrev pub is_leaf : Kind → Bool
-is_leaf (Container presence) = false
-is_leaf Leaf = true
-is_leaf LeafList = false
-is_leaf ListKind = false
 
 -- content that a node of the kind may not have: a child element beside or in a value, or text elsewhere
 abbrev pub has_bad_content : Kind → List Part → Bool

@@ -12,7 +12,8 @@ use Rattle.nc_schema.specs.Tables.{Tables}
 use Rattle.nc_model.specs.declared.edit.Action.{Action}
 use Rattle.nc_model.specs.declared.edit.Action.TheVariants.{Nothing, Merge, Create, Replace, Delete, Remove}
 use Rattle.nc_model.specs.declared.edit.Edit.{Edit}
-use Rattle.nc_model.specs.Edited.{has_value, rows_of_node}
+use Rattle.nc_schema.specs.Blocks.{rows_of_node}
+use Rattle.nc_schema.specs.Kinds.{has_value}
 
 -- the node is the key at that place of the list whose entry is above it
 pub record IsKeyAt (tables : Tables) (path : Path) (entry : Step) (place : ℕ) : Type 0 where

@@ -24,6 +24,7 @@ use Rattle.nc_model.specs.State.{State, candidate_in_force}
 use Rattle.nc_model.specs.Step.{Rules}
 use Rattle.nc_model.specs.Unchecked.{every_right}
 use Rattle.nc_model.specs.Words.{default_operation_word, running_word, candidate_word, startup_word, url_word}
+use Rattle.std.specs.List.{filter}
 
 -- refused for one cause, which is about no data node
 abbrev pub refused_for : CauseKind → List (List ℕ) → Verdict

@@ -1,8 +1,10 @@
 -- Parents and children among data nodes (RFC 7950 7.5 to 7.8).
-use Rattle.std.specs.Prelude.{◌≡◌, ℕ, ◌+◌, ◌^◌, ◌<◌, length, List, Option, Some, None, IfSome, take, slice_get}
-use Rattle.std.specs.List.{All}
+use Rattle.std.specs.Prelude.{◌≡◌, ℕ, ◌+◌, ◌^◌, ◌<◌, length, List, Option, Some, None, IfSome, take, slice_get, Bool, false, true, ◌&&◌, ◌==◌}
+use Rattle.std.specs.List.{All, position}
 use Rattle.nc_names.specs.declared.name.QName.{QName}
 use Rattle.nc_schema.specs.declared.node.Node.{Node}
+use Rattle.nc_names.specs.Same.{is_same_name}
+use Rattle.nc_schema.specs.Tables.{Tables}
 
 -- a node of that name that stands in that parent, or at the top
 abbrev pub IsChild : Option ℕ → QName → Node → Type 0
@@ -30,3 +32,12 @@ HasRoom things = length things + 1 < 2 ^ 32
 pub record IsListOfNodes (nodes : List Node) : Type 0 where
   pub few : length nodes < 2 ^ 32
   pub lower : HasLowerParents nodes
+
+abbrev pub is_same_number : Option ℕ → Option ℕ → Bool
+is_same_number None None = true
+is_same_number (Some a) (Some b) = a == b
+is_same_number a b = false
+
+-- the number of the first data node of that name in that parent, or at the top
+abbrev pub child_number : Tables → Option ℕ → QName → Option ℕ
+child_number tables parent name = position (λ node. is_same_number node.parent parent && is_same_name node.name name) tables.nodes

@@ -9,3 +9,7 @@ pub mod Paths
 pub mod PathTexts
 pub mod ProperNodes
 pub mod Tables
+pub mod Blocks
+pub mod Kinds
+pub mod Standing
+pub mod Proper

@@ -17,6 +17,7 @@ use Rattle.nc_schema.specs.declared.node.Node.{Node}
 use Rattle.nc_schema.specs.Order.{keys_above, sibling_place}
 use Rattle.nc_schema.specs.Tables.{Tables}
 use Rattle.nc_names.specs.Same.{is_same_keys, is_same_step, is_same_path, is_at_or_below}
+use Rattle.nc_schema.specs.Kinds.{stands_for_itself}
 
 -- the data node to which the steps lead
 abbrev pub node_of : Tables → List Step → Option Node
@@ -32,13 +33,6 @@ block_at rows steps = filter (λ row. is_at_or_below steps row.path) rows
 -- a node exists where there is a row at it or below it
 abbrev pub exists : List Row → List Step → Bool
 exists rows steps = list_any (λ row. is_at_or_below steps row.path) rows
-
--- a list entry, and a container with presence, has a row where it exists (RFC 7950 7.5.1, 7.8)
-abbrev pub stands_for_itself : Kind → Bool
-stands_for_itself (Container presence) = presence
-stands_for_itself Leaf = false
-stands_for_itself LeafList = false
-stands_for_itself ListKind = true
 
 -- the nodes above, from the top
 abbrev pub above_of : List Step → List (List Step)

@@ -1,0 +1,82 @@
+-- What is true of the schema that modules define (RFC 7950 5.1, 6.2, 7.5 to 7.9, 9).
+use Rattle.std.specs.Prelude.{◌≡◌, ◌≢◌, ◌<◌, ◌≤◌, ◌↔◌, ◌++◌, [], ◌∷◌, ℕ, List, Option, Some, IsTrue, IsSome, IfSome, IsSomeAnd, slice_get}
+use Rattle.std.specs.List.{All, AllPairs, Any}
+use Rattle.nc_names.specs.declared.name.Module.{Module}
+use Rattle.nc_names.specs.declared.name.QName.{QName}
+use Rattle.nc_names.specs.Identifiers.{IsIdentifier}
+use Rattle.nc_schema.specs.declared.node.Case.{Case}
+use Rattle.nc_schema.specs.declared.node.Kind.TheVariants.{Leaf, List as ListKind}
+use Rattle.nc_schema.specs.declared.node.Node.{Node}
+use Rattle.nc_schema.specs.declared.value_type.ValueType.{ValueType}
+use Rattle.nc_schema.specs.declared.value_type.ValueType.TheVariants.{Decimal, Bits, Union, Identity, Leafref}
+use Rattle.nc_schema.specs.Kinds.{holds_nodes, has_entries, has_value}
+use Rattle.nc_schema.specs.Tables.{Tables}
+
+-- so it is with each data node and its number
+abbrev pub EachNode : Tables → (ℕ → Node → Type 0) → Type 0
+EachNode tables P = (number : ℕ) (node : Node) → slice_get tables.nodes number ≡ Some node → P number node
+
+-- a module has an identifier for its name and has a namespace (RFC 7950 7.1)
+pub record IsProperModule (found : Module) : Type 0 where
+  pub name : IsIdentifier found.name
+  pub space : found.space ≢ []
+
+-- a data node stands in a container or a list, which has a lower number (RFC 7950 7.5, 7.8)
+abbrev pub StandsIn : Tables → ℕ → Option ℕ → Type 0
+StandsIn tables number parent =
+    IfSome parent (λ above. (above < number) × IsSomeAnd (slice_get tables.nodes above) (λ over. IsTrue (holds_nodes over.kind)))
+
+-- its name is an identifier in the namespace of its module (RFC 7950 5.3, 6.2)
+pub record IsNamed (tables : Tables) (node : Node) : Type 0 where
+  pub name : IsIdentifier node.name.name
+  pub space : IsSomeAnd (slice_get tables.modules node.module) (λ found. found.space ≡ node.name.space)
+
+-- a key of a list is a leaf directly in it (RFC 7950 7.8.2), and so in no case
+pub record IsKeyIn (number : ℕ) (node : Node) : Type 0 where
+  pub kind : node.kind ≡ Leaf
+  pub parent : node.parent ≡ Some number
+  pub cases : node.cases ≡ []
+
+-- a list has keys, each once, and no other data node has any (RFC 7950 7.8.2)
+pub record HasItsKeys (tables : Tables) (number : ℕ) (node : Node) : Type 0 where
+  pub some : (node.kind ≡ ListKind) ↔ (node.keys ≢ [])
+  pub leafs : All (λ key. IsSomeAnd (slice_get tables.nodes key) (IsKeyIn number)) node.keys
+  pub apart : AllPairs (λ key later. key ≢ later) node.keys
+
+-- the cases are of choices in that place, each choice within the cases before (RFC 7950 7.9)
+abbrev pub AreNested : Tables → Option ℕ → List Case → Type 0
+AreNested tables parent cases =
+    (before after : List Case) (one : Case) → cases ≡ before ++ one ∷ after →
+    IsSomeAnd (slice_get tables.choices one.choice) (λ choice. (choice.parent ≡ parent) × (choice.within ≡ before))
+
+-- an identity is one of a module (RFC 7950 7.18)
+abbrev pub IsIdentityOf : Tables → QName → Type 0
+IsIdentityOf tables name = IsIdentifier name.name × Any (λ found. found.space ≡ name.space) tables.modules
+
+-- a type names types and data nodes of the schema (RFC 7950 9)
+abbrev pub IsProperType : Tables → ValueType → Type 0
+IsProperType tables (Decimal digits among) = (1 ≤ digits) × (digits ≤ 18)
+IsProperType tables (Bits names) = AllPairs (λ name later. name ≢ later) names
+IsProperType tables (Union members) = All (λ member. IsSome (slice_get tables.types member)) members
+IsProperType tables (Identity among) = All (IsIdentityOf tables) among
+IsProperType tables (Leafref target above required) = IsSomeAnd (slice_get tables.nodes target) (λ node. IsTrue (has_value node.kind))
+IsProperType tables other = Unit {0}
+
+-- a schema that modules define
+pub record IsProperSchema (tables : Tables) : Type 0 where
+  pub modules : All IsProperModule tables.modules
+  -- two modules have two names and two namespaces (RFC 7950 5.1, 5.3)
+  pub modules_apart : AllPairs (λ one later. (one.name ≢ later.name) × (one.space ≢ later.space)) tables.modules
+  pub parents : EachNode tables (λ number node. StandsIn tables number node.parent)
+  pub names : EachNode tables (λ number node. IsNamed tables node)
+  -- two data nodes in one place have two names (RFC 7950 6.2.1)
+  pub siblings_apart : EachNode tables (λ number node. EachNode tables (λ other beside.
+      node.parent ≡ beside.parent → node.name ≡ beside.name → number ≡ other))
+  pub keys : EachNode tables (HasItsKeys tables)
+  -- the user orders entries alone (RFC 7950 7.7.7)
+  pub by_user : EachNode tables (λ number node. IsTrue node.by_user → IsTrue (has_entries node.kind))
+  pub cases : EachNode tables (λ number node. AreNested tables node.parent node.cases)
+  pub outer_cases : All (λ choice. AreNested tables choice.parent choice.within) tables.choices
+  -- a leaf and a leaf-list have a type (RFC 7950 7.6.3, 7.7.3)
+  pub typed : EachNode tables (λ number node. IsTrue (has_value node.kind) → IsSome (slice_get tables.types node.kind_of_value))
+  pub types : All (IsProperType tables) tables.types

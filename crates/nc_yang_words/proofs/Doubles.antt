@@ -1,6 +1,6 @@
 -- A double-quoted string, one character after another.
 use Rattle.std.proofs.Common.{◌≡◌, ℕ, ◌+◌, List, ◌∷◌, ◌++◌, Option, Some, None, refl, ap, sym, ◌∙◌, append_assoc}
-use Rattle.nc_yang_words.specs.Doubles.{double, with_front, reads}
+use Rattle.nc_yang_words.specs.inner.Streams.{double, with_front, reads}
 use Rattle.nc_yang_words.specs.declared.double.Double.{Double}
 use Rattle.nc_yang_words.specs.declared.double.Quoted.{Quoted}
 

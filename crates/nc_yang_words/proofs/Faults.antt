@@ -1,9 +1,10 @@
 -- The fault of a text is its first.
 use Rattle.std.proofs.Common.{◌≡◌, ℕ, zero, suc, Bool, true, false, List, [], ◌∷◌, ◌++◌, Option, Some, None, Result, Ok, Err, refl, sym, ap, ◌∙◌}
-use Rattle.nc_yang_words.specs.Places.{after}
+use Rattle.nc_yang_words.specs.Places.{after, start}
 use Rattle.nc_yang_words.specs.Pieces.{piece, is_last}
 use Rattle.nc_yang_words.specs.Tokens.{tokens}
-use Rattle.nc_yang_words.specs.Grammar.{Expect, Begins, Argues, Joins, Quotes, Ends, Done, Over, State, state, begun, closed, ended, with_child, at_begin, at_argument, at_join, at_quote, at_end, at_done, at_token, root_of, reads, reading, tokens_of}
+use Rattle.nc_yang_words.specs.inner.Grammar.{Expect, Begins, Argues, Joins, Quotes, Ends, Done, Over, State, state, begun, closed, ended, with_child, at_begin, at_argument, at_join, at_quote, at_end, at_done, at_token, root_of, reads, reading}
+use Rattle.nc_yang_words.specs.Tokens.{tokens_of}
 use Rattle.nc_yang_words.specs.declared.begun.Begun.{Begun}
 use Rattle.nc_yang_words.specs.declared.place.Place.{Place}
 use Rattle.nc_yang_words.specs.declared.piece.Piece.{Piece}
@@ -113,8 +114,8 @@ last_leads_nowhere (Over root) above t next line h e f = cc
 pub record FaultFrom (s : State) (ts : List Token) (line : ℕ) : Type 0 where
   pub before : List Token
   pub token : Token
-  pub behind : List Token
-  pub whole : ts ≡ before ++ token ∷ behind
+  pub rest : List Token
+  pub whole : ts ≡ before ++ token ∷ rest
   pub line_is : line ≡ token.line
   pub more : List Token
   pub possible : Completes s (before ++ more)
@@ -146,7 +147,7 @@ fault_here s t ts line e h =
     record {
       before = [];
       token = t;
-      behind = ts;
+      rest = ts;
       whole = refl;
       line_is = (let a : Err line ≡ Err t.line = sym h ∙ stops ts in cc);
       more = c.0;
@@ -161,7 +162,7 @@ fault_later s next t ts line e f =
     record {
       before = t ∷ f.before;
       token = f.token;
-      behind = f.behind;
+      rest = f.rest;
       whole = ap (λ us. t ∷ us) f.whole;
       line_is = f.line_is;
       more = f.more;
@@ -186,4 +187,4 @@ faults_from s (t ∷ ts) line ended h =
     at_first (at_token s.expect s.above t) s t ts line refl ended h (λ next e r. faults_from next ts line e r)
 
 pub first_fault : (cs : List ℕ) (line : ℕ) → reading cs ≡ Err line → FaultFrom (state Begins []) (tokens_of cs) line
-first_fault cs line h = faults_from (state Begins []) (tokens_of cs) line (tokens_ended 0 false (record { line = 1; column = 0 }) cs) h
+first_fault cs line h = faults_from (state Begins []) (tokens_of cs) line (tokens_ended 0 false start cs) h

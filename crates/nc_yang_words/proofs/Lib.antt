@@ -1,8 +1,11 @@
 pub mod Doubles
+pub mod Strings
 pub mod Tokens
+pub mod Parts
 pub mod Words
 pub mod Faults
 pub mod Spelled
 pub mod Read
 pub mod Exact
-pub mod Lines
+pub mod Places
+pub mod Worked

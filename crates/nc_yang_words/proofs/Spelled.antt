@@ -1,7 +1,7 @@
 -- A text that spells a tree is read as that tree.
 use Rattle.std.proofs.Common.{◌≡◌, ℕ, zero, suc, ◌+◌, ◌<◌, ◌≤◌, Bool, true, List, [], ◌∷◌, ◌++◌, length, Option, Some, None, Ok, ◌⊎◌, inl, inr, refl, sym, ap, subst, ◌∙◌, append_assoc, append-nil, arith, rules, tests}
 use Rattle.nc_yang_words.specs.Keywords.{is_keyword}
-use Rattle.nc_yang_words.specs.Grammar.{Begins, Argues, Joins, Quotes, Ends, Done, Over, State, state, begun, closed, ended, with_child, at_begin, at_argument, at_join, at_quote, at_end, at_done, at_token, reads}
+use Rattle.nc_yang_words.specs.inner.Grammar.{Begins, Argues, Joins, Quotes, Ends, Done, Over, State, state, begun, closed, ended, with_child, at_begin, at_argument, at_join, at_quote, at_end, at_done, at_token, reads}
 use Rattle.nc_yang_words.specs.Spelling.{AreJoined, IsQuoted, IsUnquoted, IsArgument, AreEach, IsSemicolon, IsBlock, IsStatement, Spells, TokensSpell}
 use Rattle.nc_yang_words.specs.declared.begun.Begun.{Begun}
 use Rattle.nc_yang_words.specs.declared.statement.Statement.{Statement}

@@ -8,24 +8,24 @@ use Rattle.nc_yang_words.specs.declared.piece.Piece.TheVariants.{Gap, Whole}
 use Rattle.nc_yang_words.specs.declared.token.Kind.{Kind}
 
 -- characters that belong to the piece before are passed over
-pub skipped : (skip : ℕ) (apart : Bool) (p : Place) (cs : List ℕ) → skip ≤ length cs
+pub skipped : (skip : ℕ) (apart : Bool) (p : Place) (cs : List ℕ)
     → tokens skip apart p cs ≡ tokens 0 apart (passed p (take skip cs)) (drop skip cs)
-skipped zero apart p [] h = refl
-skipped zero apart p (c ∷ cs) h = refl
-skipped (suc n) apart p [] h = absurd (omega arith)
-skipped (suc n) apart p (c ∷ cs) h = skipped n apart (after p c) cs (omega arith)
+skipped zero apart p [] = refl
+skipped zero apart p (c ∷ cs) = refl
+skipped (suc n) apart p [] = refl
+skipped (suc n) apart p (c ∷ cs) = skipped n apart (after p c) cs
 
 -- behind white space or a comment
 pub behind_gap : (apart : Bool) (p : Place) (c : ℕ) (cs : List ℕ) (more : ℕ)
     → piece (after p c).column c cs ≡ Gap more → more ≤ length cs
     → tokens 0 apart p (c ∷ cs) ≡ tokens 0 true (passed p (take (more + 1) (c ∷ cs))) (drop (more + 1) (c ∷ cs))
-behind_gap apart p c cs more e h = rw add-one (rw (e, tokens) (skipped more true (after p c) cs h))
+behind_gap apart p c cs more e h = rw add-one (rw (e, tokens) (skipped more true (after p c) cs))
 
 -- a token and those behind it
 pub behind_token : (apart : Bool) (p : Place) (c : ℕ) (cs : List ℕ) (kind : Kind) (more : ℕ)
     → piece (after p c).column c cs ≡ Whole kind more → more ≤ length cs
     → tokens 0 apart p (c ∷ cs) ≡ (record { line = p.line; apart = apart; kind = kind }) ∷ tokens 0 false (passed p (take (more + 1) (c ∷ cs))) (drop (more + 1) (c ∷ cs))
-behind_token apart p c cs kind more e h = rw add-one (rw (e, tokens) (ap (λ ts. (record { line = p.line; apart = apart; kind = kind }) ∷ ts) (skipped more false (after p c) cs h)))
+behind_token apart p c cs kind more e h = rw add-one (rw (e, tokens) (ap (λ ts. (record { line = p.line; apart = apart; kind = kind }) ∷ ts) (skipped more false (after p c) cs)))
 
 -- a lexer that has passed white space or a comment
 pub gap_step : (apart : Bool) (p q : Place) (s r : List ℕ) (c : ℕ) (cs : List ℕ) (more : ℕ)

@@ -1,6 +1,6 @@
 -- A statement at its keyword.
 use Rattle.std.proofs.Common.{◌≡◌, ℕ, Bool, List, ◌∷◌, Option, Result, Ok, Err, MatchResult, ap, sym, subst, ◌∙◌}
-use Rattle.nc_yang_words.specs.Grammar.{State, reads, Faults, word_token}
+use Rattle.nc_yang_words.specs.inner.Grammar.{State, reads, Faults, word_token}
 use Rattle.nc_yang_words.specs.declared.fault.WordFault.{WordFault}
 use Rattle.nc_yang_words.specs.declared.statement.Statement.{Statement}
 use Rattle.nc_yang_words.specs.declared.token.Token.{Token}

@@ -1,32 +1,33 @@
--- Laws of the grammar.
-use Rattle.std.specs.Prelude.{◌≡◌, ℕ, List, ◌∷◌, ◌++◌, Ok}
-use Rattle.nc_yang_words.specs.Grammar.{reading, tokens_of}
-use Rattle.nc_yang_words.specs.Spelling.{TokensSpell, TextSpells}
-use Rattle.nc_yang_words.specs.declared.fault.WordFault.{WordFault}
-use Rattle.nc_yang_words.specs.declared.fault.WordFault.TheVariants.{Bad, Memory}
+-- Laws of module texts.
+use Rattle.std.specs.Prelude.{◌≡◌, ℕ, ◌+◌, ◌-◌, ◌^◌, ◌==◌, if◌then◌else◌, min, List, [], ◌∷◌, ◌⊎◌}
+use Rattle.nc_names.specs.Signs.{line_feed}
+use Rattle.nc_yang_words.specs.Places.{passed, start}
+use Rattle.nc_yang_words.specs.Spelling.{TextSpells}
+use Rattle.nc_yang_words.specs.Faults.{HasFaultAt}
 use Rattle.nc_yang_words.specs.declared.statement.Statement.{Statement}
-use Rattle.nc_yang_words.specs.declared.token.Token.{Token}
 
--- some statement text has these tokens
-abbrev pub IsText : List Token → Type 0
-IsText ts = (root : Statement) × TokensSpell ts root
+-- a text spells a tree, or has a fault at a line
+abbrev pub SpellsOrFails : Type 0
+SpellsOrFails = (text : List ℕ) → ((root : Statement) × TextSpells text root) ⊎ ((line : ℕ) × HasFaultAt text line)
 
--- of these tokens, this is the line of the first that no statement text has behind the tokens before it
-pub record IsFirstFault (ts : List Token) (line : ℕ) : Type 0 where
-  pub before : List Token
-  pub token : Token
-  pub behind : List Token
-  pub whole : ts ≡ before ++ token ∷ behind
-  pub line_is : line ≡ token.line
-  pub more : List Token
-  pub possible : IsText (before ++ more)
-  pub impossible : (others : List Token) → IsText (before ++ token ∷ others) → ⊥
+-- and never both
+abbrev pub NeverBoth : Type 0
+NeverBoth = (text : List ℕ) (root : Statement) (line : ℕ) → TextSpells text root → HasFaultAt text line → ⊥
 
--- a fault other than want of memory is the first of a text, and no tree is spelled by it
-abbrev pub IsFirstOf : WordFault → List ℕ → Type 0
-IsFirstOf (Bad line) cs = IsFirstFault (tokens_of cs) line × ((root : Statement) → TextSpells cs root → ⊥)
-IsFirstOf Memory cs = Unit {0}
+-- it spells at most one tree
+abbrev pub OneTree : Type 0
+OneTree = (text : List ℕ) (root other : Statement) → TextSpells text root → TextSpells text other → root ≡ other
 
--- a text that spells a tree is read as that tree
-abbrev pub SpelledIsRead : Type 0
-SpelledIsRead = (cs : List ℕ) (root : Statement) → TextSpells cs root → reading cs ≡ Ok root
+-- and has a fault at no more than one line
+abbrev pub OneFault : Type 0
+OneFault = (text : List ℕ) (line other : ℕ) → HasFaultAt text line → HasFaultAt text other → line ≡ other
+
+-- how many LF these characters have
+abbrev pub line_feeds : List ℕ → ℕ
+line_feeds [] = 0
+line_feeds (c ∷ cs) = (if c == line_feed then 1 else 0) + line_feeds cs
+
+-- the line after characters from a text's start on is 1 and the number of their LF, so far as a line is
+-- counted
+abbrev pub LinesAreCounted : Type 0
+LinesAreCounted = (cs : List ℕ) → (passed start cs).line ≡ min (1 + line_feeds cs) (2 ^ 32 - 1)

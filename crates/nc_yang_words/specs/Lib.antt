@@ -1,10 +1,11 @@
-pub mod Places
 pub mod Signs
-pub mod Pieces
+pub mod Places
 pub mod Doubles
+pub mod Pieces
 pub mod Tokens
+pub mod Parts
 pub mod Keywords
-pub mod Grammar
-pub mod Laws
 pub mod Spelling
-pub mod Lines
+pub mod Faults
+pub mod Laws
+pub mod inner

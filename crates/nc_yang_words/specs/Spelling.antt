@@ -1,24 +1,37 @@
--- The grammar of statements as a relation between a tree and its tokens (RFC 7950 sections 6.1.3, 6.3
+-- The grammar of statements as a relation between a tree and its tokens (RFC 7950 6.1.3, 6.3
 -- and 14).
 use Rattle.std.specs.Prelude.{◌≡◌, ℕ, zero, suc, true, List, [], ◌∷◌, ◌++◌, Option, Some, None, ◌⊎◌}
+use Rattle.nc_names.specs.Signs.{plus as plus_sign}
 use Rattle.nc_yang_words.specs.Keywords.{is_keyword}
-use Rattle.nc_yang_words.specs.Grammar.{closed, tokens_of}
+use Rattle.nc_yang_words.specs.Tokens.{tokens_of}
 use Rattle.nc_yang_words.specs.declared.statement.Statement.{Statement}
+use Rattle.nc_yang_words.specs.declared.statement.Statement.TheViews.{roll-Statement}
 use Rattle.nc_yang_words.specs.declared.token.Token.{Token}
 use Rattle.nc_yang_words.specs.declared.token.Kind.TheVariants.{Word, Quoted, Semicolon, Open, Close, End}
 
--- more quoted strings, each behind a `+`; the text is theirs, joined (RFC 7950 section 6.1.3)
+-- how many statements may stand inside one another
+abbrev pub deepest : ℕ
+deepest = 64
+
+-- a statement by its parts
+abbrev pub statement : (keyword : List ℕ) (argument : Option (List ℕ)) (line : ℕ) (below : List Statement) → Statement
+statement keyword argument line below =
+    roll-Statement (record { keyword = keyword; argument = argument; line = line; below = below })
+
+-- more quoted strings, each after a `+`; the text is theirs, joined (RFC 7950 6.1.3)
 abbrev pub AreJoined : (text : List ℕ) → List Token → Type 0
 AreJoined text [] = text ≡ []
 AreJoined text (plus ∷ []) = ⊥
 AreJoined text (plus ∷ part ∷ ts) =
-    (first : List ℕ) × ((rest : List ℕ) × ((text ≡ first ++ rest) × ((plus.kind ≡ Word (43 ∷ [])) × ((part.kind ≡ Quoted first) × AreJoined rest ts))))
+    (first : List ℕ) × ((rest : List ℕ) × ((text ≡ first ++ rest)
+    × ((plus.kind ≡ Word (plus_sign ∷ [])) × ((part.kind ≡ Quoted first) × AreJoined rest ts))))
 
 -- a quoted string, which white space or a comment parts from the keyword, and those joined to it
 abbrev pub IsQuoted : (text : List ℕ) → List Token → Type 0
 IsQuoted text [] = ⊥
 IsQuoted text (part ∷ ts) =
-    (part.apart ≡ true) × ((first : List ℕ) × ((rest : List ℕ) × ((text ≡ first ++ rest) × ((part.kind ≡ Quoted first) × AreJoined rest ts))))
+    (part.apart ≡ true) × ((first : List ℕ) × ((rest : List ℕ) × ((text ≡ first ++ rest)
+    × ((part.kind ≡ Quoted first) × AreJoined rest ts))))
 
 -- an unquoted string
 abbrev pub IsUnquoted : (text : List ℕ) → List Token → Type 0
@@ -58,7 +71,7 @@ pub record IsStatement (Of : Statement → List Token → Type 0) (s : Statement
   pub words : List Token
   pub block : List Token
   pub whole : ts ≡ keyword ∷ (words ++ block)
-  pub tree : s ≡ closed (record { keyword = name; argument = argument; line = keyword.line; below = below })
+  pub tree : s ≡ statement name argument keyword.line below
   pub keyword_is : keyword.kind ≡ Word name
   pub name_is : is_keyword name ≡ true
   pub argument_is : IsArgument argument words
@@ -75,7 +88,7 @@ pub record TokensSpell (ts : List Token) (root : Statement) : Type 0 where
   pub last : Token
   pub whole : ts ≡ front ++ last ∷ []
   pub ends : last.kind ≡ End
-  pub spells : Spells 64 root front
+  pub spells : Spells deepest root front
 
 -- the text spells the tree
 abbrev pub TextSpells : List ℕ → Statement → Type 0

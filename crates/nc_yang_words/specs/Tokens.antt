@@ -1,14 +1,13 @@
 -- The tokens of a text.
-use Rattle.std.specs.Prelude.{◌≡◌, ℕ, zero, suc, Bool, true, false, if◌then◌else◌, List, [], ◌∷◌, length}
-use Rattle.nc_yang_words.specs.Places.{after}
-use Rattle.nc_yang_words.specs.Pieces.{piece, is_last}
-use Rattle.nc_yang_words.specs.declared.lexer.Lexer.{Lexer}
+use Rattle.std.specs.Prelude.{ℕ, zero, suc, Bool, true, false, List, [], ◌∷◌}
+use Rattle.nc_yang_words.specs.Places.{after, start}
+use Rattle.nc_yang_words.specs.Pieces.{piece}
 use Rattle.nc_yang_words.specs.declared.place.Place.{Place}
 use Rattle.nc_yang_words.specs.declared.piece.Piece.TheVariants.{Gap, Whole, Torn as NothingWhole}
 use Rattle.nc_yang_words.specs.declared.token.Token.{Token}
 use Rattle.nc_yang_words.specs.declared.token.Kind.TheVariants.{End, Torn}
 
--- RFC 7950 section 6.1: the tokens of a text. The last of them is its end, or what is no whole token.
+-- RFC 7950 6.1: the tokens of a text. The last of them is its end, or what is no whole token.
 -- `skip` characters belong to the piece before, and `apart` says whether white space or a comment
 -- stands just before. `p` is the place of the first character
 abbrev pub tokens : (skip : ℕ) (apart : Bool) (p : Place) → List ℕ → List Token
@@ -21,14 +20,6 @@ tokens zero apart p (c ∷ cs) =
       | NothingWhole ↦ (record { line = p.line; apart = apart; kind = Torn }) ∷ []
     ]
 
--- the tokens that are still to come
-abbrev pub left : Lexer → List Token
-left l = tokens 0 false l.place l.rest.now
-
--- how many characters are still to come
-abbrev pub ahead : Lexer → ℕ
-ahead l = length l.rest.now
-
--- the tokens are this one and those that are left
-abbrev pub Leads : Token → Lexer → List Token → Type 0
-Leads t l ts = ts ≡ t ∷ (if is_last t.kind then [] else left l)
+-- the tokens of the characters of a text
+abbrev pub tokens_of : List ℕ → List Token
+tokens_of cs = tokens 0 false start cs

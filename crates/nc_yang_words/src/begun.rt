@@ -1,6 +1,6 @@
 //! Statements whose end is still to come.
 ghost use Rattle.std.specs.Prelude.{◌≡◌, IfOk};
-ghost use Rattle.nc_yang_words.specs.Grammar.{closed, with_child};
+ghost use Rattle.nc_yang_words.specs.inner.Grammar.{closed, with_child};
 
 use crate::statement::Statement;
 use nc_names::{Many, Memory, Text};

@@ -1,7 +1,8 @@
 //! Double-quoted strings (RFC 7950 6.1.3).
 ghost use Rattle.std.specs.Prelude.{◌≡◌, ◌++◌, ◌∷◌, [], ◌+◌, ◌-◌, ◌<◌, ℕ, List, Bool, true, false, length, encode_utf8, MatchOption, IfOk, IfSome, if◌then◌else◌, ◌==◌, replicate};
 ghost use Rattle.nc_yang_words.specs.Signs.{utf8, columns, starts_with};
-ghost use Rattle.nc_yang_words.specs.Doubles.{escape, double, reads, Turns};
+ghost use Rattle.nc_yang_words.specs.Doubles.{escape};
+ghost use Rattle.nc_yang_words.specs.inner.Streams.{double, held_more, reads, Turns};
 
 use crate::sign::{columns, is_yang_char, push_signs, starts_with};
 use nc_names::{Memory, Text};
@@ -77,7 +78,7 @@ impl Double {
     /// Holds white space back, less what is cut of it.
     fn hold(&mut self, sign: char) -> Result<(), Memory>
         ensures text { IfOk result (λ _. self.new.text ≡ self.old.text) }
-        ensures held { IfOk result (λ _. self.new.held.items ≡ self.old.held.items ++ (if self.old.room == 0 then sign ∷ [] else replicate (columns sign - self.old.room) 32)) }
+        ensures held { IfOk result (λ _. self.new.held.items ≡ held_more self.old.room self.old.held.items sign) }
         ensures room { IfOk result (λ _. self.new.room ≡ self.old.room - columns sign) }
         ensures width { IfOk result (λ _. self.new.width ≡ self.old.width) }
         ensures escaped { IfOk result (λ _. self.new.escaped ≡ self.old.escaped) }
@@ -92,7 +93,7 @@ impl Double {
         Ok(())
     }
 
-    /// Begins a line behind a line break, or goes on with one.
+    /// Begins a line after a line break, or goes on with one.
     fn end_line(&mut self, sign: char, room: usize) -> Result<(), Memory>
         ensures text { IfOk result (λ _. self.new.text ≡ self.old.text ++ encode_utf8 sign) }
         ensures held { IfOk result (λ _. self.new.held.items ≡ []) }
@@ -148,7 +149,7 @@ impl Double {
     }
 }
 
-/// Reads a double-quoted string behind its opening mark. `width` is how many columns there are up to
+/// Reads a double-quoted string after its opening mark. `width` is how many columns there are up to
 /// and with the mark. `None` where it is not whole.
 pub(crate) fn read_double(
     alloc: Global,

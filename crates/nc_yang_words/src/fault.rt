@@ -8,7 +8,7 @@ use nc_names::Memory;
 #[derive(Clone, Copy, Debug, PartialEq, Eq)]
 pub enum WordFault {
     /// The text has no statements: at this line, counted from 1, the first token begins that is not
-    /// whole or that no statement text has behind the tokens before it. Where the text ends too
+    /// whole or that no statement text has after the tokens before it. Where the text ends too
     /// early it is the line of its end (RFC 7950 6.1 to 6.3).
     Bad { line: u32 },
     /// No memory was found.

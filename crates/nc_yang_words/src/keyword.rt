@@ -1,27 +1,8 @@
 //! Keywords (RFC 7950 6.1.2 and 6.2).
 ghost use Rattle.std.specs.Prelude.{◌≡◌};
-ghost use Rattle.std.specs.List.{list_all};
-ghost use Rattle.nc_names.specs.Signs.{is_in_identifier};
-ghost use Rattle.nc_yang_words.specs.Keywords.{is_identifier, is_keyword, is_plus};
+ghost use Rattle.nc_yang_words.specs.Keywords.{is_keyword, is_plus};
 
-use nc_names::{begins_identifier, is_in_identifier};
-
-/// Whether an identifier may go on with the bytes.
-fn all_go_on(bytes: &[u8]) -> bool
-    ensures { result ≡ list_all is_in_identifier bytes.now }
-{
-    bytes.iter().all(|byte| is_in_identifier(*byte))
-}
-
-/// Whether the word is an identifier.
-fn is_identifier(word: &[u8]) -> bool
-    ensures { result ≡ is_identifier word.now }
-{
-    let Some((first, rest)) = word.split_first() else {
-        return false;
-    };
-    begins_identifier(*first) && all_go_on(rest)
-}
+use nc_names::{begins_identifier, is_identifier, is_in_identifier};
 
 /// Whether the word is a keyword: an identifier, or two joined by one colon.
 pub(crate) fn is_keyword(word: &[u8]) -> bool

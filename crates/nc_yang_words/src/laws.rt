@@ -1,17 +1,24 @@
 //! Laws of what a text spells: a function here takes nothing and does nothing, and its contract is
 //! the law.
-ghost use Rattle.nc_yang_words.specs.Laws.{SpelledIsRead};
-ghost use Rattle.nc_yang_words.specs.Lines.{LinesAreLaidOut};
+ghost use Rattle.nc_yang_words.specs.Parts.{TextIsInParts};
+ghost use Rattle.nc_yang_words.specs.Laws.{SpellsOrFails, NeverBoth, OneTree, OneFault, LinesAreCounted};
 
-/// A text whose tokens are those of a tree, by the grammar of statements, and its end, is read as that
-/// tree. So a text spells at most one tree.
-pub fn spelled_is_read()
-    ensures { SpelledIsRead }
+/// A text spells a tree or has a fault at a line, and never both: one tree, or a fault at one line. So
+/// `statements` has one answer for each text, want of memory aside.
+pub fn one_reading()
+    ensures some { SpellsOrFails }
+    ensures never_both { NeverBoth }
+    ensures one_tree { OneTree }
+    ensures one_fault { OneFault }
 {}
 
-/// A double-quoted string of lines without a quotation mark, a backslash or a CR is read as these
-/// lines, less the white space before each line break and that before each later line, up to and with
-/// the column of the opening mark (RFC 7950 6.1.3).
-pub fn lines_are_laid_out()
-    ensures { LinesAreLaidOut }
+/// The line of a place in a text is 1 and the number of LF before it, so far as a line is counted.
+pub fn lines_are_counted()
+    ensures { LinesAreCounted }
+{}
+
+/// The characters of a text are its parts, one after another: white space, comments and tokens. The
+/// tokens of the text are those of the parts, each at its place.
+pub fn text_is_in_parts()
+    ensures { TextIsInParts }
 {}

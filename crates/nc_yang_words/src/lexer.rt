@@ -1,7 +1,8 @@
 //! The tokens of a module text, one after another (RFC 7950 6.1).
 ghost use Rattle.std.specs.Prelude.{◌≡◌, ◌≤◌, ◌<◌, ◌+◌, IfOk, MatchOption, true, false, length, take, drop};
 ghost use Rattle.nc_yang_words.specs.Places.{passed};
-ghost use Rattle.nc_yang_words.specs.Tokens.{tokens, left, ahead, Leads};
+ghost use Rattle.nc_yang_words.specs.Tokens.{tokens, tokens_of};
+ghost use Rattle.nc_yang_words.specs.inner.Lexing.{left, ahead, Leads};
 ghost use Rattle.nc_yang_words.specs.Pieces.{is_last};
 
 use crate::piece::{Piece, read_piece};
@@ -21,7 +22,7 @@ pub(crate) struct Lexer<'a> {
 impl<'a> Lexer<'a> {
     /// The tokens of a text.
     pub(crate) fn new(alloc: Global, signs: &'a [char]) -> Lexer<'a>
-        ensures { left result ≡ tokens 0 false (record { line = 1; column = 0 }) signs.now }
+        ensures { left result ≡ tokens_of signs.now }
     {
         Lexer {
             alloc,
@@ -78,12 +79,13 @@ impl<'a> Lexer<'a> {
         }
     }
 
-    /// The next token: the end of the text behind the last, and what is no whole token where there is
+    /// The next token: the end of the text after the last, and what is no whole token where there is
     /// none.
     pub(crate) fn next_token(&mut self) -> Result<Token, Memory>
         ensures token { IfOk result (λ token. Leads token self.new (left self.old)) }
         ensures keeps { ahead self.new ≤ ahead self.old }
-        ensures shorter { IfOk result (λ token. is_last token.kind ≡ false → ahead self.new < ahead self.old) }
+        ensures shorter { IfOk result (λ token.
+            is_last token.kind ≡ false → ahead self.new < ahead self.old) }
     {
         let mut apart = false;
         loop {

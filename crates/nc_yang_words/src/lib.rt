@@ -3,6 +3,10 @@
 //!
 //! A text is read in two layers. `lexer` gives its tokens one after another, by the readers of
 //! `piece`, and `parser` builds the tree from them. Nothing here knows what a statement means.
+//!
+//! It stands on nc_names alone. `statements` promises the one tree that the text spells, or the line
+//! of the text's one fault, and by the laws each text has one of the two. Time and memory are linear in
+//! the text. The crate `trials_text` tests it.
 #![tactic(auto)]
 
 mod begun;
@@ -19,9 +23,6 @@ mod statement;
 mod token;
 
 pub use fault::WordFault;
-pub use laws::{lines_are_laid_out, spelled_is_read};
+pub use laws::{lines_are_counted, one_reading, text_is_in_parts};
 pub use parser::statements;
 pub use statement::Statement;
-
-#[cfg(test)]
-mod tests;

@@ -1,9 +1,9 @@
 //! The tree of statements that the tokens of a text spell (RFC 7950 6.3).
 ghost use Rattle.std.specs.Prelude.{◌≡◌, ◌<◌, ◌≤◌, ℕ, List, [], ◌∷◌, Option, Some, None, Bool, Ok, IfOk, IfNone, MatchResult, MatchOption, IfErr, length, reverse, if◌then◌else◌};
 ghost use Rattle.std.specs.Str.{chars};
-ghost use Rattle.nc_yang_words.specs.Tokens.{left, ahead};
-ghost use Rattle.nc_yang_words.specs.Grammar.{reads, reading, state, at_end, begun, ended, Faults, entered, Enters, Moves, Stops, risen, word_token, Expect, Begins, Argues, Joins, Ends, Done};
-ghost use Rattle.nc_yang_words.specs.Laws.{IsFirstOf};
+ghost use Rattle.nc_yang_words.specs.inner.Lexing.{left, ahead};
+ghost use Rattle.nc_yang_words.specs.inner.Grammar.{reads, reading, state, at_end, begun, ended, Faults, entered, Enters, Moves, Stops, risen, word_token, Expect, Begins, Argues, Joins, Ends, Done};
+ghost use Rattle.nc_yang_words.specs.Faults.{IsFaultOf};
 ghost use Rattle.nc_yang_words.specs.Spelling.{TextSpells};
 ghost use Rattle.nc_yang_words.specs.declared.begun.Begun.{Begun as TheBegun};
 
@@ -46,7 +46,8 @@ impl Head {
 fn opens(kind: Kind) -> Option<bool>
     ensures { MatchOption result
         ((begun : TheBegun) (above : List TheBegun) → at_end begun above kind ≡ None)
-        (λ opens. (begun : TheBegun) (above : List TheBegun) → at_end begun above kind ≡ Some (entered begun opens above)) }
+        (λ opens. (begun : TheBegun) (above : List TheBegun)
+            → at_end begun above kind ≡ Some (entered begun opens above)) }
 {
     match kind {
         Kind::Semicolon => Some(false),
@@ -55,25 +56,33 @@ fn opens(kind: Kind) -> Option<bool>
     }
 }
 
-/// Whether the next token begins a block or ends a statement, behind an unquoted argument.
+/// Whether the next token begins a block or ends a statement, after an unquoted argument.
 fn read_end(lexer: &mut Lexer<'_>) -> Result<bool, WordFault>
     ensures end { MatchResult result
-        (λ opens. (keyword argument : List ℕ) (line : ℕ) → Enters (Ends keyword argument line) (left lexer.old) (begun keyword (Some argument) line) opens (left lexer.new))
-        (λ fault. (keyword argument : List ℕ) (line : ℕ) → Stops (Ends keyword argument line) (left lexer.old) fault) }
+        (λ opens. (keyword argument : List ℕ) (line : ℕ)
+            → Enters (Ends keyword argument line) (left lexer.old)
+                (begun keyword (Some argument) line) opens (left lexer.new))
+        (λ fault. (keyword argument : List ℕ) (line : ℕ)
+            → Stops (Ends keyword argument line) (left lexer.old) fault) }
     ensures keeps { ahead lexer.new ≤ ahead lexer.old }
 {
     let Token { line, kind, .. } = lexer.next_token()?;
     opens(kind).ok_or(WordFault::Bad { line })
 }
 
-/// Behind a quoted string: puts the string behind a `+` to its end, or says whether the next token
+/// After a quoted string: puts the string after a `+` to its end, or says whether the next token
 /// begins a block or ends a statement (RFC 7950 6.1.3).
 fn read_join(lexer: &mut Lexer<'_>, text: &mut Text) -> Result<Option<bool>, WordFault>
     ensures join { MatchResult result
         (λ opens. MatchOption opens
-        ((keyword : List ℕ) (line : ℕ) → Moves (Joins keyword text.old line) (left lexer.old) (Joins keyword text.new line) (left lexer.new))
-        (λ opens. (keyword : List ℕ) (line : ℕ) → Enters (Joins keyword text.old line) (left lexer.old) (begun keyword (Some text.new) line) opens (left lexer.new)))
-        (λ fault. (keyword : List ℕ) (line : ℕ) → Stops (Joins keyword text.old line) (left lexer.old) fault) }
+            ((keyword : List ℕ) (line : ℕ)
+                → Moves (Joins keyword text.old line) (left lexer.old)
+                    (Joins keyword text.new line) (left lexer.new))
+            (λ opens. (keyword : List ℕ) (line : ℕ)
+                → Enters (Joins keyword text.old line) (left lexer.old)
+                    (begun keyword (Some text.new) line) opens (left lexer.new)))
+        (λ fault. (keyword : List ℕ) (line : ℕ)
+            → Stops (Joins keyword text.old line) (left lexer.old) fault) }
     ensures keeps { ahead lexer.new ≤ ahead lexer.old }
     ensures shorter { IfOk result (λ opens. IfNone opens (ahead lexer.new < ahead lexer.old)) }
 {
@@ -96,12 +105,15 @@ fn read_join(lexer: &mut Lexer<'_>, text: &mut Text) -> Result<Option<bool>, Wor
     }
 }
 
-/// Reads what follows a quoted string of an argument, which the strings behind `+` are put to
+/// Reads what follows a quoted string of an argument, which the strings after `+` are put to
 /// (RFC 7950 6.1.3).
 fn read_joined(lexer: &mut Lexer<'_>, text: &mut Text) -> Result<bool, WordFault>
     ensures joined { MatchResult result
-        (λ opens. (keyword : List ℕ) (line : ℕ) → Enters (Joins keyword text.old line) (left lexer.old) (begun keyword (Some text.new) line) opens (left lexer.new))
-        (λ fault. (keyword : List ℕ) (line : ℕ) → Stops (Joins keyword text.old line) (left lexer.old) fault) }
+        (λ opens. (keyword : List ℕ) (line : ℕ)
+            → Enters (Joins keyword text.old line) (left lexer.old)
+                (begun keyword (Some text.new) line) opens (left lexer.new))
+        (λ fault. (keyword : List ℕ) (line : ℕ)
+            → Stops (Joins keyword text.old line) (left lexer.old) fault) }
     ensures keeps { ahead lexer.new ≤ ahead lexer.old }
 {
     loop {
@@ -111,7 +123,7 @@ fn read_joined(lexer: &mut Lexer<'_>, text: &mut Text) -> Result<bool, WordFault
     }
 }
 
-/// Reads the rest of a statement up to its `;` or `{`, behind its keyword.
+/// Reads the rest of a statement up to its `;` or `{`, after its keyword.
 fn read_head(
     alloc: Global,
     lexer: &mut Lexer<'_>,
@@ -146,7 +158,7 @@ fn read_head(
     }
 }
 
-/// The statements that are begun, and the tokens behind.
+/// The statements that are begun, and the tokens after.
 #[derive(Drop)]
 struct Parser<'a> {
     alloc: Global,
@@ -158,7 +170,8 @@ struct Parser<'a> {
 impl Parser<'_> {
     /// Ends a statement. The root, where it is the root.
     fn end(&mut self, begun: Begun) -> Result<Option<Statement>, Memory>
-        ensures end { IfOk result (λ root. ended begun (reverse self.old.above) ≡ risen root (reverse self.new.above)) }
+        ensures end { IfOk result (λ root.
+            ended begun (reverse self.old.above) ≡ risen root (reverse self.new.above)) }
         ensures lexer { self.new.lexer ≡ self.old.lexer }
     {
         let done = begun.close();
@@ -174,8 +187,13 @@ impl Parser<'_> {
     /// Begins a statement at its keyword, up to its `;` or `{`. The root, where it ends the root.
     fn begin(&mut self, keyword: Text, line: u32) -> Result<Option<Statement>, WordFault>
         ensures begin { MatchResult result
-            (λ root. (apart : Bool) → reads (state Begins (reverse self.old.above)) (word_token line apart keyword ∷ left self.old.lexer) ≡ reads (risen root (reverse self.new.above)) (left self.new.lexer))
-            (λ fault. (apart : Bool) → Faults fault (reads (state Begins (reverse self.old.above)) (word_token line apart keyword ∷ left self.old.lexer))) }
+            (λ root. (apart : Bool)
+                → reads (state Begins (reverse self.old.above))
+                    (word_token line apart keyword ∷ left self.old.lexer)
+                ≡ reads (risen root (reverse self.new.above)) (left self.new.lexer))
+            (λ fault. (apart : Bool)
+                → Faults fault (reads (state Begins (reverse self.old.above))
+                    (word_token line apart keyword ∷ left self.old.lexer))) }
         ensures keeps { ahead self.new.lexer ≤ ahead self.old.lexer }
     {
         if self.above.len() >= MOST_DEPTH || !is_keyword(keyword.as_str().as_bytes()) {
@@ -193,7 +211,8 @@ impl Parser<'_> {
     /// it has ended.
     fn turn(&mut self) -> Result<Option<Statement>, WordFault>
         ensures turn { MatchResult result
-            (λ root. reads (state Begins (reverse self.old.above)) (left self.old.lexer) ≡ reads (risen root (reverse self.new.above)) (left self.new.lexer))
+            (λ root. reads (state Begins (reverse self.old.above)) (left self.old.lexer)
+                ≡ reads (risen root (reverse self.new.above)) (left self.new.lexer))
             (λ fault. Faults fault (reads (state Begins (reverse self.old.above)) (left self.old.lexer))) }
         ensures shorter { IfOk result (λ root. IfNone root (ahead self.new.lexer < ahead self.old.lexer)) }
     {
@@ -213,7 +232,8 @@ impl Parser<'_> {
     /// Reads up to the end of the root.
     fn read_root(&mut self) -> Result<Statement, WordFault>
         ensures { MatchResult result
-            (λ root. reads (state Begins (reverse self.old.above)) (left self.old.lexer) ≡ reads (state (Done root) []) (left self.new.lexer))
+            (λ root. reads (state Begins (reverse self.old.above)) (left self.old.lexer)
+                ≡ reads (state (Done root) []) (left self.new.lexer))
             (λ fault. Faults fault (reads (state Begins (reverse self.old.above)) (left self.old.lexer))) }
     {
         loop {
@@ -253,14 +273,11 @@ fn read_text(alloc: Global, text: &str) -> Result<Statement, WordFault>
 
 /// The one tree of statements that a module text spells (RFC 7950 6.1 to 6.3), at most 64 of them
 /// inside one another. A fault names the line, counted from 1, at which the first token begins that
-/// is not whole or that no statement text has behind the tokens before it, or the line of the end of
+/// is not whole or that no statement text has after the tokens before it, or the line of the end of
 /// a text that ends too early.
 pub fn statements(alloc: Global, text: &str) -> Result<Statement, WordFault>
-    ensures reading { MatchResult result
-        (λ root. reading (chars text.now) ≡ Ok root)
-        (λ fault. Faults fault (reading (chars text.now))) }
     ensures spells { IfOk result (λ root. TextSpells (chars text.now) root) }
-    ensures first_fault { IfErr result (λ fault. IsFirstOf fault (chars text.now)) }
+    ensures fault { IfErr result (λ fault. IsFaultOf (chars text.now) fault) }
 {
     read_text(alloc, text)
 }

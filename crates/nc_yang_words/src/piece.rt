@@ -1,7 +1,8 @@
 //! What stands first in a text: white space, a comment or a token (RFC 7950 6.1.1 to 6.1.3).
 ghost use Rattle.std.specs.Prelude.{◌≡◌, [], ◌<◌, ◌≤◌, ◌+◌, ◌^◌, false, length, IfOk, IfSome};
-ghost use Rattle.nc_yang_words.specs.Pieces.{line_comment, block_comment, word, single, is_pair, is_space, comment, unquoted, single_quoted, double_quoted, token, piece, IsWithin};
-ghost use Rattle.nc_yang_words.specs.Doubles.{double};
+ghost use Rattle.nc_yang_words.specs.Pieces.{line_comment, block_comment, word, single, is_pair, is_space, comment, unquoted, single_quoted, double_quoted, token, piece};
+ghost use Rattle.nc_yang_words.specs.inner.Lexing.{IsWithin};
+ghost use Rattle.nc_yang_words.specs.Doubles.{double_string};
 
 use crate::double::read_double;
 use crate::sign::{ends_word, is_yang_char, push_signs, starts_with};
@@ -12,9 +13,9 @@ use std::alloc::Global;
 /// What stands first in a text that is not empty.
 #[derive(Debug, Drop)]
 pub(crate) enum Piece {
-    /// White space or a comment, and how many characters it has behind its first.
+    /// White space or a comment, and how many characters it has after its first.
     Gap(usize),
-    /// A whole token, and how many characters it has behind its first.
+    /// A whole token, and how many characters it has after its first.
     Whole(Kind, usize),
     /// What is neither.
     Torn,
@@ -37,7 +38,7 @@ fn line_comment(signs: &[char]) -> Option<usize>
     Some(signs.len())
 }
 
-/// How many characters a `/*` comment has up to and with its `*/`, behind its `/*` (RFC 7950 6.1.1).
+/// How many characters a `/*` comment has up to and with its `*/`, after its `/*` (RFC 7950 6.1.1).
 /// `None` where it is not closed, or where a character may not stand in a module text.
 fn block_comment(signs: &[char]) -> Option<usize>
     ensures length { result ≡ block_comment 0 signs.now }
@@ -74,7 +75,7 @@ fn word(signs: &[char]) -> Option<usize>
     Some(signs.len())
 }
 
-/// How many characters stand in a single-quoted string, behind its opening mark (RFC 7950 6.1.3).
+/// How many characters stand in a single-quoted string, after its opening mark (RFC 7950 6.1.3).
 /// `None` where it is not closed, or where a character may not stand in a module text.
 fn single(signs: &[char]) -> Option<usize>
     ensures length { result ≡ single 0 signs.now }
@@ -106,7 +107,7 @@ fn is_space(sign: char, rest: &[char]) -> bool
     sign == ' ' || sign == '\t' || sign == '\n' || is_pair('\r', '\n', sign, rest)
 }
 
-/// A comment with so many characters behind its first `before` and one.
+/// A comment with so many characters after its first `before` and one.
 fn comment(before: usize, more: Option<usize>) -> Piece
     requires { IfSome more (λ n. n + before < 2 ^ 64) }
     ensures { result ≡ comment before more }
@@ -134,7 +135,7 @@ fn unquoted(alloc: Global, sign: char, rest: &[char]) -> Result<Piece, Memory>
     Ok(Piece::Whole(Kind::Word(text), more))
 }
 
-/// A single-quoted string, behind its opening mark.
+/// A single-quoted string, after its opening mark.
 fn single_quoted(alloc: Global, rest: &[char]) -> Result<Piece, Memory>
     ensures piece { IfOk result (λ it. it ≡ single_quoted rest.now (single 0 rest.now)) }
     ensures within { IfOk result (λ it. IsWithin it rest.now) }
@@ -147,9 +148,10 @@ fn single_quoted(alloc: Global, rest: &[char]) -> Result<Piece, Memory>
     Ok(Piece::Whole(Kind::Quoted(text), count + 1))
 }
 
-/// A double-quoted string, behind its opening mark.
+/// A double-quoted string, after its opening mark.
+#[tactic(auto, using(crate::proofs::Strings::streamed))]
 fn double_quoted(alloc: Global, width: usize, rest: &[char]) -> Result<Piece, Memory>
-    ensures piece { IfOk result (λ it. it ≡ double_quoted (double width 0 [] false 0 rest.now)) }
+    ensures piece { IfOk result (λ it. it ≡ double_quoted (double_string width rest.now)) }
     ensures within { IfOk result (λ it. IsWithin it rest.now) }
 {
     match read_double(alloc, width, rest)? {

@@ -12,7 +12,7 @@ pub(crate) struct Place {
 }
 
 impl Place {
-    /// The place behind a character that stands here.
+    /// The place after a character that stands here.
     pub(crate) fn after(self, sign: char) -> Place
         ensures { result ≡ after self sign }
     {
@@ -32,7 +32,7 @@ impl Place {
         }
     }
 
-    /// The place behind the characters that stand from here on.
+    /// The place after the characters that stand from here on.
     pub(crate) fn passed(self, signs: &[char]) -> Place
         ensures { result ≡ passed self signs.now }
     {

@@ -4,3 +4,5 @@
 
 #[cfg(test)]
 mod names_tests;
+#[cfg(test)]
+mod yang_words_tests;

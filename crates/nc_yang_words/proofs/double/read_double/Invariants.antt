@@ -1,5 +1,5 @@
 use Rattle.std.proofs.Common.{◌≡◌, [], false, drop}
-use Rattle.nc_yang_words.specs.Doubles.{double, reads}
+use Rattle.nc_yang_words.specs.inner.Streams.{double, reads}
 use Rattle.nc_yang_words.proofs.double.read_double.Given as goal
 
 abbrev pub invariant-loop-count : goal.invariant-loop-count

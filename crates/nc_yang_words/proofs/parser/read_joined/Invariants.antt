@@ -1,6 +1,6 @@
 use Rattle.std.proofs.Common.{◌≤◌, ℕ, List}
-use Rattle.nc_yang_words.specs.Tokens.{left, ahead}
-use Rattle.nc_yang_words.specs.Grammar.{Moves, Joins}
+use Rattle.nc_yang_words.specs.inner.Lexing.{left, ahead}
+use Rattle.nc_yang_words.specs.inner.Grammar.{Moves, Joins}
 use Rattle.nc_yang_words.proofs.parser.read_joined.Given as goal
 
 abbrev pub invariant-loop-opens : goal.invariant-loop-opens

@@ -1,5 +1,6 @@
 use Rattle.std.proofs.Common.{◌≡◌, ◌≤◌, false}
-use Rattle.nc_yang_words.specs.Tokens.{tokens, ahead}
+use Rattle.nc_yang_words.specs.Tokens.{tokens}
+use Rattle.nc_yang_words.specs.inner.Lexing.{ahead}
 use Rattle.nc_yang_words.proofs.lexer.Lexer.next_token.Given as goal
 
 abbrev pub invariant-loop-token : goal.invariant-loop-token

@@ -1,7 +1,7 @@
 use Rattle.std.proofs.Common.{◌≡◌}
 use Rattle.std.specs.Prelude.{reverse}
-use Rattle.nc_yang_words.specs.Tokens.{left, ahead}
-use Rattle.nc_yang_words.specs.Grammar.{reads, state, Begins}
+use Rattle.nc_yang_words.specs.inner.Lexing.{left, ahead}
+use Rattle.nc_yang_words.specs.inner.Grammar.{reads, state, Begins}
 use Rattle.nc_yang_words.proofs.parser.Parser.read_root.Given as goal
 
 abbrev pub invariant-loop-root : goal.invariant-loop-root

@@ -1,7 +1,7 @@
 use Rattle.std.proofs.Common.{rules, ◌≡◌, ◌∷◌}
 use Rattle.std.specs.Prelude.{reverse}
-use Rattle.nc_yang_words.specs.Tokens.{left}
-use Rattle.nc_yang_words.specs.Grammar.{reads, state, risen, word_token, Begins}
+use Rattle.nc_yang_words.specs.inner.Lexing.{left}
+use Rattle.nc_yang_words.specs.inner.Grammar.{reads, state, risen, word_token, Begins}
 use Rattle.nc_yang_words.proofs.Words.{with_word}
 use Rattle.nc_yang_words.proofs.parser.Parser.turn.Goals as goal
 

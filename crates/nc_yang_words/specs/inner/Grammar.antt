@@ -1,19 +1,19 @@
 -- The tree of statements that tokens spell.
 use Rattle.std.specs.Prelude.{◌≡◌, ℕ, Bool, false, ◌&&◌, if◌then◌else◌, nat_lt, List, [], ◌∷◌, ◌++◌, length, Option, Some, None, Result, Ok, Err}
 use Rattle.nc_yang_words.specs.Keywords.{is_keyword, is_plus}
-use Rattle.nc_yang_words.specs.Tokens.{tokens}
+use Rattle.nc_yang_words.specs.Tokens.{tokens_of}
+use Rattle.nc_yang_words.specs.Spelling.{deepest, statement}
 use Rattle.nc_yang_words.specs.declared.fault.WordFault.{WordFault}
 use Rattle.nc_yang_words.specs.declared.fault.WordFault.TheVariants.{Bad, Memory}
 use Rattle.nc_yang_words.specs.declared.begun.Begun.{Begun}
 use Rattle.nc_yang_words.specs.declared.statement.Statement.{Statement}
-use Rattle.nc_yang_words.specs.declared.statement.Statement.TheViews.{roll-Statement}
 use Rattle.nc_yang_words.specs.declared.token.Token.{Token}
 use Rattle.nc_yang_words.specs.declared.token.Kind.{Kind}
 use Rattle.nc_yang_words.specs.declared.token.Kind.TheVariants.{Word, Quoted, Semicolon, Open, Close, End, Torn}
 
 -- the statement, once it has ended
 abbrev pub closed : Begun → Statement
-closed b = roll-Statement (record { keyword = b.keyword; argument = b.argument; line = b.line; below = b.below })
+closed b = statement b.keyword b.argument b.line b.below
 
 -- a statement at its argument's end
 abbrev pub begun : List ℕ → Option (List ℕ) → ℕ → Begun
@@ -23,9 +23,9 @@ begun keyword argument line = record { keyword = keyword; argument = argument; l
 abbrev pub with_child : Begun → Statement → Begun
 with_child b s = record { keyword = b.keyword; argument = b.argument; line = b.line; below = b.below ++ (s ∷ []) }
 
--- what is to come, by the rules of RFC 7950 section 6.3: the keyword of a statement or the end of the
--- one that it would stand in; an argument or the end of a keyword's statement; behind a quoted string
--- a `+` or that end; behind a `+` a quoted string; the end of a statement; the end of the text; nothing
+-- what is to come, by the rules of RFC 7950 6.3: the keyword of a statement or the end of the
+-- one that it would stand in; an argument or the end of a keyword's statement; after a quoted string
+-- a `+` or that end; after a `+` a quoted string; the end of a statement; the end of the text; nothing
 pub data Expect : Type 0 where
   Begins : Expect
   Argues : (keyword : List ℕ) (line : ℕ) → Expect
@@ -63,9 +63,10 @@ abbrev pub at_close : List Begun → Option State
 at_close [] = None
 at_close (b ∷ above) = Some (ended b above)
 
--- a keyword, under fewer than 64 others, or the end of a block
+-- a keyword, below fewer statements than may stand inside one another, or the end of a block
 abbrev pub at_begin : List Begun → ℕ → Kind → Option State
-at_begin above line (Word w) = if is_keyword w && nat_lt (length above) 64 then Some (state (Argues w line) above) else None
+at_begin above line (Word w) =
+    if is_keyword w && nat_lt (length above) deepest then Some (state (Argues w line) above) else None
 at_begin above line (Quoted q) = None
 at_begin above line Semicolon = None
 at_begin above line Open = None
@@ -83,7 +84,7 @@ at_argument keyword line above apart Close = None
 at_argument keyword line above apart End = None
 at_argument keyword line above apart Torn = None
 
--- RFC 7950 section 6.1.3: quoted strings are joined by `+`
+-- RFC 7950 6.1.3: quoted strings are joined by `+`
 abbrev pub at_join : List ℕ → List ℕ → ℕ → List Begun → Kind → Option State
 at_join keyword text line above (Word w) = if is_plus w then Some (state (Quotes keyword text line) above) else None
 at_join keyword text line above (Quoted q) = None
@@ -122,7 +123,7 @@ at_token (Ends keyword text line) above t = at_end (begun keyword (Some text) li
 at_token (Done root) above t = at_done root t.kind
 at_token (Over root) above t = None
 
--- the root, where the text has ended behind it
+-- the root, where the text has ended after it
 abbrev pub root_of : Expect → Result Statement ℕ
 root_of Begins = Err 0
 root_of (Argues keyword line) = Err 0
@@ -137,10 +138,6 @@ abbrev pub reads : State → List Token → Result Statement ℕ
 reads s [] = root_of s.expect
 reads s (t ∷ ts) = elim (at_token s.expect s.above t) [ None ↦ Err t.line | Some next ↦ reads next ts ]
 
--- the tokens of the characters of a text
-abbrev pub tokens_of : List ℕ → List Token
-tokens_of cs = tokens 0 false (record { line = 1; column = 0 }) cs
-
 -- the tree that the characters of a text spell, or the line of its fault
 abbrev pub reading : List ℕ → Result Statement ℕ
 reading cs = reads (state Begins []) (tokens_of cs)
@@ -150,24 +147,25 @@ abbrev pub Faults : WordFault → Result Statement ℕ → Type 0
 Faults (Bad line) it = it ≡ Err line
 Faults Memory it = Unit {0}
 
--- behind the `{` or the `;` of a statement
+-- after the `{` or the `;` of a statement
 abbrev pub entered : Begun → (opens : Bool) → List Begun → State
 entered b opens above = if opens then state Begins (b ∷ above) else ended b above
 
--- where this is to come, the tokens before lead to a statement's `;` or `{` with the tokens behind
--- left, wherever the statement stands
+-- where this is to come, the tokens before lead to a statement's `;` or `{` with the rest of the
+-- tokens left, wherever the statement stands
 abbrev pub Enters : Expect → List Token → Begun → (opens : Bool) → List Token → Type 0
-Enters e before b opens behind = (above : List Begun) → reads (state e above) before ≡ reads (entered b opens above) behind
+Enters e before b opens rest =
+    (above : List Begun) → reads (state e above) before ≡ reads (entered b opens above) rest
 
--- where this is to come, the tokens before are as good as those behind where that is to come
+-- where this is to come, the tokens before are as good as the rest where that is to come
 abbrev pub Moves : Expect → List Token → Expect → List Token → Type 0
-Moves e before next behind = (above : List Begun) → reads (state e above) before ≡ reads (state next above) behind
+Moves e before next rest = (above : List Begun) → reads (state e above) before ≡ reads (state next above) rest
 
 -- where this is to come, the tokens have this fault
 abbrev pub Stops : Expect → List Token → WordFault → Type 0
 Stops e before fault = (above : List Begun) → Faults fault (reads (state e above) before)
 
--- behind the end of a statement: of the root, or of one under others
+-- after the end of a statement: of the root, or of one under others
 abbrev pub risen : (root : Option Statement) → List Begun → State
 risen None above = state Begins above
 risen (Some root) above = state (Done root) []

@@ -1,6 +1,6 @@
-//! Whole texts with their trees and faults.
-use crate::{Statement, WordFault, statements};
+//! Whole module texts with their trees and faults (nc_yang_words).
 use nc_names::{Memory, Text};
+use nc_yang_words::{Statement, WordFault, statements};
 use std::alloc::Global;
 use std::test::Fail;
 
@@ -39,19 +39,49 @@ fn shown(alloc: Global, text: &str) -> Result<Text, Memory> {
     Ok(out)
 }
 
-const EXAMPLE: &str =
-    "module ex {\n  namespace \"urn:ex\";\n  prefix ex;\n  revision 2024-01-01;\n  container top {\n    leaf host { type string; }\n    list port {\n      key name;\n      unique tag;\n      leaf name { type string; }\n      leaf tag { type uint16; }\n    }\n    leaf up { type leafref { path \"../port/name\"; } }\n  }\n}\n";
+/// Each text beside its tree, or the line of its fault.
+fn compare(rt: HostRuntime, rows: &[(&str, &str)]) -> Result<(), Fail> {
+    for (text, tree) in rows {
+        assert_eq!(rt; shown(rt.alloc(), text)?.as_str(), *tree, "{text}");
+    }
+    Ok(())
+}
+
+const EXAMPLE: &str = "module ex {
+  namespace \"urn:ex\";
+  prefix ex;
+  revision 2024-01-01;
+  container top {
+    leaf host { type string; }
+    list port {
+      key name;
+      unique tag;
+      leaf name { type string; }
+      leaf tag { type uint16; }
+    }
+    leaf up { type leafref { path \"../port/name\"; } }
+  }
+}
+";
 
 #[test]
 fn reads_a_module(rt: HostRuntime) -> Result<(), Fail> {
-    let tree =
-        "module<ex>@1{namespace<urn:ex>@2prefix<ex>@3revision<2024-01-01>@4container<top>@5{leaf<host>@6{type<string>@6}list<port>@7{key<name>@8unique<tag>@9leaf<name>@10{type<string>@10}leaf<tag>@11{type<uint16>@11}}leaf<up>@13{type<leafref>@13{path<../port/name>@13}}}}";
-    assert_eq!(rt; shown(rt.alloc(), EXAMPLE)?.as_str(), tree);
+    let parts = [
+        "module<ex>@1{namespace<urn:ex>@2prefix<ex>@3revision<2024-01-01>@4container<top>@5{",
+        "leaf<host>@6{type<string>@6}",
+        "list<port>@7{key<name>@8unique<tag>@9leaf<name>@10{type<string>@10}leaf<tag>@11{type<uint16>@11}}",
+        "leaf<up>@13{type<leafref>@13{path<../port/name>@13}}}}",
+    ];
+    let mut tree = Text::new(rt.alloc());
+    for part in parts {
+        tree.push_str(part)?;
+    }
+    assert_eq!(rt; shown(rt.alloc(), EXAMPLE)?.as_str(), tree.as_str());
     Ok(())
 }
 
 #[test]
-fn reads_every_form(rt: HostRuntime) -> Result<(), Fail> {
+fn reads_statements_and_words(rt: HostRuntime) -> Result<(), Fail> {
     let rows = [
         ("a;", "a@1"),
         ("a{}", "a@1"),
@@ -60,28 +90,10 @@ fn reads_every_form(rt: HostRuntime) -> Result<(), Fail> {
         ("a b{c;d;}", "a<b>@1{c@1d@1}"),
         ("\n\n a-1.x_y:_b\tc\r\n;\n", "a-1.x_y:_b<c>@3"),
         ("module hello;", "module<hello>@1"),
-        ("module \"hello\";", "module<hello>@1"),
-        ("module 'hello';", "module<hello>@1"),
-        ("module \"hel\" + \"lo\";", "module<hello>@1"),
-        ("module 'hel'+\"lo\";", "module<hello>@1"),
-        (
-            "module 'h' /* + */ + // x\n 'el' + \"lo\"{}",
-            "module<hello>@1",
-        ),
         ("a +;", "a<+>@1"),
         ("a b+c;", "a<b+c>@1"),
         ("a ../b/c;", "a<../b/c>@1"),
         ("a \\n;", "a<\\n>@1"),
-        ("a \"\\\"\";", "a<\">@1"),
-        ("a '\"';", "a<\">@1"),
-        ("a \"\\n\";", "a<\n>@1"),
-        ("a '\\n';", "a<\\n>@1"),
-        ("a \"\\t\\\\\";", "a<\t\\>@1"),
-        ("a '';", "a<>@1"),
-        ("a \"\u{e9}\u{1f600}\";", "a<\u{e9}\u{1f600}>@1"),
-        ("a 'x // y /* z */';", "a<x // y /* z */>@1"),
-        ("a \"x // y /* z */\";", "a<x // y /* z */>@1"),
-        ("a 'x\n  y';", "a<x\n  y>@1"),
         (
             "// one\n/* two\n * three /* **/ a /**/ b//four\n;// five",
             "a<b>@3",
@@ -94,10 +106,32 @@ fn reads_every_form(rt: HostRuntime) -> Result<(), Fail> {
             "a<\u{7f}\u{85}\u{fffd}\u{10fffd}>@1",
         ),
     ];
-    for (text, tree) in rows {
-        assert_eq!(rt; shown(rt.alloc(), text)?.as_str(), tree);
-    }
-    Ok(())
+    compare(rt, &rows)
+}
+
+#[test]
+fn reads_quoted_strings(rt: HostRuntime) -> Result<(), Fail> {
+    let rows = [
+        ("module \"hello\";", "module<hello>@1"),
+        ("module 'hello';", "module<hello>@1"),
+        ("module \"hel\" + \"lo\";", "module<hello>@1"),
+        ("module 'hel'+\"lo\";", "module<hello>@1"),
+        (
+            "module 'h' /* + */ + // x\n 'el' + \"lo\"{}",
+            "module<hello>@1",
+        ),
+        ("a \"\\\"\";", "a<\">@1"),
+        ("a '\"';", "a<\">@1"),
+        ("a \"\\n\";", "a<\n>@1"),
+        ("a '\\n';", "a<\\n>@1"),
+        ("a \"\\t\\\\\";", "a<\t\\>@1"),
+        ("a '';", "a<>@1"),
+        ("a \"\u{e9}\u{1f600}\";", "a<\u{e9}\u{1f600}>@1"),
+        ("a 'x // y /* z */';", "a<x // y /* z */>@1"),
+        ("a \"x // y /* z */\";", "a<x // y /* z */>@1"),
+        ("a 'x\n  y';", "a<x\n  y>@1"),
+    ];
+    compare(rt, &rows)
 }
 
 #[test]
@@ -125,14 +159,21 @@ fn lays_out_lines(rt: HostRuntime) -> Result<(), Fail> {
         ("d \"  a\n     \";", "d<  a\n  >@1"),
         ("/* \u{e9} */ d \"a\n             b\";", "d<a\n  b>@1"),
     ];
-    for (text, tree) in rows {
-        assert_eq!(rt; shown(rt.alloc(), text)?.as_str(), tree);
+    compare(rt, &rows)
+}
+
+/// Each text beside the line of its fault.
+fn compare_faults(rt: HostRuntime, rows: &[(&str, u32)]) -> Result<(), Fail> {
+    for (text, line) in rows {
+        let fault = statements(rt.alloc(), text).err();
+        assert_eq!(rt; fault, Some(WordFault::Bad { line: *line }), "{text}");
     }
     Ok(())
 }
 
+/// A text that ends too early has its fault at its last line.
 #[test]
-fn names_the_line_of_a_fault(rt: HostRuntime) -> Result<(), Fail> {
+fn names_the_line_of_an_early_end(rt: HostRuntime) -> Result<(), Fail> {
     let rows = [
         ("", 1),
         ("\n\n", 3),
@@ -142,6 +183,15 @@ fn names_the_line_of_a_fault(rt: HostRuntime) -> Result<(), Fail> {
         ("a {\n", 2),
         ("a {\n b;\n", 3),
         ("a 'b' +\n", 2),
+        ("a {\n b\n c {\n d;\n}\n", 6),
+    ];
+    compare_faults(rt, &rows)
+}
+
+/// A token that no statement text has there, where it begins.
+#[test]
+fn names_the_line_of_a_token_out_of_place(rt: HostRuntime) -> Result<(), Fail> {
+    let rows = [
         ("a;\nb;", 2),
         ("a;\n}", 2),
         ("\n}", 2),
@@ -156,6 +206,20 @@ fn names_the_line_of_a_fault(rt: HostRuntime) -> Result<(), Fail> {
         ("a 'b' +\nc;", 2),
         ("a 'b' +\n;", 2),
         ("a 'b'\n+c;", 2),
+        ("a {\n 1b;\n}", 2),
+        ("a {\n b:c:d;\n}", 2),
+        ("a {\n b:;\n}", 2),
+        ("a {\n :b;\n}", 2),
+        ("a {\r\n b:1;\r\n}", 2),
+        ("a {\r\n b+;\r\n}", 2),
+    ];
+    compare_faults(rt, &rows)
+}
+
+/// A comment, a string or a word that is not whole, where it begins.
+#[test]
+fn names_the_line_where_a_broken_token_begins(rt: HostRuntime) -> Result<(), Fail> {
+    let rows = [
         ("a ''''", 1),
         ("a \"\"\"", 1),
         ("a'b';", 1),
@@ -176,19 +240,8 @@ fn names_the_line_of_a_fault(rt: HostRuntime) -> Result<(), Fail> {
         ("a {\n\u{feff}b;\n}", 2),
         ("a\n\r;", 2),
         ("a b\r;", 1),
-        ("a {\n 1b;\n}", 2),
-        ("a {\n b:c:d;\n}", 2),
-        ("a {\n b:;\n}", 2),
-        ("a {\n :b;\n}", 2),
-        ("a {\r\n b:1;\r\n}", 2),
-        ("a {\r\n b+;\r\n}", 2),
-        ("a {\n b\n c {\n d;\n}\n", 6),
     ];
-    for (text, line) in rows {
-        let fault = statements(rt.alloc(), text).err();
-        assert_eq!(rt; fault, Some(WordFault::Bad { line }), "{text}");
-    }
-    Ok(())
+    compare_faults(rt, &rows)
 }
 
 /// A text of statements inside one another, each on a line of its own.

@@ -1,6 +1,7 @@
 pub mod Doubles
 pub mod Strings
 pub mod Tokens
+pub mod Forms
 pub mod Parts
 pub mod Words
 pub mod Faults

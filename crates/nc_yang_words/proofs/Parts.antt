@@ -16,58 +16,7 @@ use Rattle.nc_yang_words.specs.declared.token.Token.{Token}
 use Rattle.nc_yang_words.specs.declared.token.Kind.{Kind}
 use Rattle.nc_yang_words.specs.declared.token.Kind.TheVariants.{Word, Quoted as TheQuoted, Semicolon, Open, Close, End, Torn}
 use Rattle.nc_yang_words.proofs.Tokens.{skipped}
-
-same : (a b : ℕ) → a == b ≡ true → a ≡ b
-same a b h = search (rules, tests)
-
-take_none : (cs : List ℕ) → take 0 cs ≡ []
-take_none [] = refl
-take_none (c ∷ cs) = refl
-
--- the piece that stands first has the form of its token
-abbrev HasItsForm : ℕ → List ℕ → Piece → Type 0
-HasItsForm c cs (Gap n) = Unit {0}
-HasItsForm c cs (Whole kind n) = HasForm (Some kind) (c ∷ take n cs)
-HasItsForm c cs NothingWhole = Unit {0}
-
-by_test : (b : Bool) (c : ℕ) (cs : List ℕ) (x y : Piece) → (b ≡ true → HasItsForm c cs x) → HasItsForm c cs y → HasItsForm c cs (if b then x else y)
-by_test true c cs x y h k = h refl
-by_test false c cs x y h k = k
-
-comment_form : (c : ℕ) (cs : List ℕ) (before : ℕ) (n : Option ℕ) → HasItsForm c cs (comment before n)
-comment_form c cs before None = tt
-comment_form c cs before (Some n) = tt
-
-single_form : (c : ℕ) (cs : List ℕ) (n : Option ℕ) → HasItsForm c cs (single_quoted cs n)
-single_form c cs None = tt
-single_form c cs (Some n) = tt
-
-double_form : (c : ℕ) (cs : List ℕ) (q : Option Quoted) → HasItsForm c cs (double_quoted q)
-double_form c cs None = tt
-double_form c cs (Some q) = tt
-
-word_form : (c : ℕ) (cs : List ℕ) (n : Option ℕ) → HasItsForm c cs (unquoted_of c cs n)
-word_form c cs None = tt
-word_form c cs (Some n) = sym (flat_map-cons encode_utf8 c (take n cs))
-
-mark_form : (c mark : ℕ) (cs : List ℕ) → c == mark ≡ true → c ∷ take 0 cs ≡ mark ∷ []
-mark_form c mark cs h = ap (λ xs. c ∷ xs) (take_none cs) ∙ ap (λ x. x ∷ []) (same c mark h)
-
-token_form : (width c : ℕ) (cs : List ℕ) → HasItsForm c cs (token width c cs)
-token_form width c cs =
-    by_test (c == 59) c cs _ _ (λ h. mark_form c 59 cs h)
-    (by_test (c == 123) c cs _ _ (λ h. mark_form c 123 cs h)
-    (by_test (c == 125) c cs _ _ (λ h. mark_form c 125 cs h)
-    (by_test (c == 39) c cs _ _ (λ h. single_form c cs (single 0 cs))
-    (by_test (c == 34) c cs _ _ (λ h. double_form c cs (double_string width cs))
-    (by_test (c == 13 || is_pair 42 47 c cs) c cs _ _ (λ h. tt)
-    (by_test (is_yang_char c) c cs _ _ (λ h. word_form c cs (word 0 cs)) tt))))))
-
-piece_form : (width c : ℕ) (cs : List ℕ) → HasItsForm c cs (piece width c cs)
-piece_form width c cs =
-    by_test (is_space c cs) c cs _ _ (λ h. tt)
-    (by_test (is_pair 47 47 c cs) c cs _ _ (λ h. comment_form c cs 0 (line_comment 0 cs))
-    (by_test (is_pair 47 42 c cs) c cs _ _ (λ h. comment_form c cs 1 (block_comment 0 (drop 1 cs))) (token_form width c cs)))
+use Rattle.nc_yang_words.proofs.Forms.{HasItsForm, piece_form}
 
 -- a part before others
 whole_with : (c n : ℕ) (cs : List ℕ) (parts : List Part) (rest : List ℕ) → drop n cs ≡ all_chars parts ++ rest
@@ -88,7 +37,7 @@ by_piece (Gap n) apart p c cs e later =
       last = r.last;
       whole = whole_with c n cs r.parts r.rest r.whole;
       ends = r.ends;
-      forms = (tt, r.forms);
+      forms = (subst (λ it. HasItsForm c cs it) e (piece_form (after p c).column c cs), r.forms);
       tokens_are = rw (e, tokens) (skipped n true (after p c) cs ∙ r.tokens_are);
     }
 by_piece (Whole kind n) apart p c cs e later =

@@ -11,12 +11,12 @@ use Rattle.nc_yang_words.specs.inner.Streams.{double, with_front, held_more}
 use Rattle.nc_yang_words.specs.declared.double.Quoted.{Quoted}
 use Rattle.nc_yang_words.proofs.Doubles.{front_twice}
 
-both : (a b : Bool) → a && b ≡ true → (a ≡ true) × (b ≡ true)
+pub both : (a b : Bool) → a && b ≡ true → (a ≡ true) × (b ≡ true)
 both true true h = (refl, refl)
 both true false h = absurd (let e : false ≡ true = h in cc)
 both false b h = absurd (let e : false ≡ true = h in cc)
 
-either : (a b : Bool) → a || b ≡ true → (a ≡ true) ⊎ (b ≡ true)
+pub either : (a b : Bool) → a || b ≡ true → (a ≡ true) ⊎ (b ≡ true)
 either true b h = inl refl
 either false b h = inr h
 
@@ -28,11 +28,11 @@ if_same : {A : Type 0} (b : Bool) (x : A) → (if b then x else x) ≡ x
 if_same true x = refl
 if_same false x = refl
 
-bool_cases : (b : Bool) → (b ≡ true) ⊎ (b ≡ false)
+pub bool_cases : (b : Bool) → (b ≡ true) ⊎ (b ≡ false)
 bool_cases true = inl refl
 bool_cases false = inr refl
 
-same : (a b : ℕ) → a == b ≡ true → a ≡ b
+pub same : (a b : ℕ) → a == b ≡ true → a ≡ b
 same a b h = search (rules, tests)
 
 cut_zero : (signs : List Sign) → cut 0 signs ≡ signs

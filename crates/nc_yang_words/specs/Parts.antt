@@ -1,7 +1,9 @@
 -- A text as its parts, one after another.
-use Rattle.std.specs.Prelude.{◌≡◌, ℕ, Bool, true, false, List, [], ◌∷◌, ◌++◌, Option, Some, None, ◌⊎◌}
-use Rattle.nc_names.specs.Signs.{semicolon, opening_brace, closing_brace}
+use Rattle.std.specs.Prelude.{◌≡◌, ℕ, Bool, true, false, ◌==◌, not, List, [], ◌∷◌, ◌++◌, Option, Some, None, ◌⊎◌}
+use Rattle.std.specs.List.{list_all}
+use Rattle.nc_names.specs.Signs.{line_feed, quote, apostrophe, asterisk, slash, semicolon, opening_brace, closing_brace, is_white}
 use Rattle.nc_yang_words.specs.Signs.{utf8}
+use Rattle.nc_yang_words.specs.Doubles.{Sign, signs_of, value}
 use Rattle.nc_yang_words.specs.Places.{passed, start}
 use Rattle.nc_yang_words.specs.Tokens.{tokens}
 use Rattle.nc_yang_words.specs.declared.place.Place.{Place}
@@ -34,13 +36,40 @@ part_tokens apart p (part ∷ parts) last =
 abbrev pub IsLast : Kind → (rest : List ℕ) → Type 0
 IsLast last rest = ((last ≡ End) × (rest ≡ [])) ⊎ ((last ≡ Torn) × ((c : ℕ) × ((cs : List ℕ) × (rest ≡ c ∷ cs))))
 
--- the characters of a word and of a mark are these
+-- white space: a space, a tab, a LF, or the CR of a line break
+abbrev pub IsSpace : List ℕ → Type 0
+IsSpace chars = (c : ℕ) × ((chars ≡ c ∷ []) × (is_white c ≡ true))
+
+-- a comment to the end of its line (RFC 7950 6.1.1)
+abbrev pub IsLineComment : List ℕ → Type 0
+IsLineComment chars = (body : List ℕ) × ((chars ≡ slash ∷ slash ∷ body) × (list_all (λ c. not (c == line_feed)) body ≡ true))
+
+-- a comment up to its `*/`
+abbrev pub IsBlockComment : List ℕ → Type 0
+IsBlockComment chars = (body : List ℕ) × (chars ≡ slash ∷ asterisk ∷ (body ++ asterisk ∷ slash ∷ []))
+
+-- a string between single quotation marks, which has none itself (RFC 7950 6.1.3)
+abbrev pub IsSingleQuoted : (text chars : List ℕ) → Type 0
+IsSingleQuoted text chars =
+    (body : List ℕ) × ((chars ≡ apostrophe ∷ (body ++ apostrophe ∷ [])) × ((text ≡ utf8 body)
+    × (list_all (λ c. not (c == apostrophe)) body ≡ true)))
+
+-- a string between double quotation marks
+abbrev pub IsDoubleQuoted : (text chars : List ℕ) → Type 0
+IsDoubleQuoted text chars =
+    (width : ℕ) × ((body : List ℕ) × ((signs : List Sign) × ((chars ≡ quote ∷ (body ++ quote ∷ []))
+    × ((signs_of false (body ++ quote ∷ []) ≡ Some signs) × (text ≡ value width signs)))))
+
+-- the characters of each kind of part
 abbrev pub HasForm : Option Kind → List ℕ → Type 0
+HasForm None chars = IsSpace chars ⊎ (IsLineComment chars ⊎ IsBlockComment chars)
 HasForm (Some (Word text)) chars = text ≡ utf8 chars
+HasForm (Some (Quoted text)) chars = IsSingleQuoted text chars ⊎ IsDoubleQuoted text chars
 HasForm (Some Semicolon) chars = chars ≡ semicolon ∷ []
 HasForm (Some Open) chars = chars ≡ opening_brace ∷ []
 HasForm (Some Close) chars = chars ≡ closing_brace ∷ []
-HasForm kind chars = Unit {0}
+HasForm (Some End) chars = ⊥
+HasForm (Some Torn) chars = ⊥
 
 abbrev pub HaveForms : List Part → Type 0
 HaveForms [] = Unit {0}

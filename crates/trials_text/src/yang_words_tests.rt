@@ -39,14 +39,6 @@ fn shown(alloc: Global, text: &str) -> Result<Text, Memory> {
     Ok(out)
 }
 
-/// Each text beside its tree, or the line of its fault.
-fn compare(rt: HostRuntime, rows: &[(&str, &str)]) -> Result<(), Fail> {
-    for (text, tree) in rows {
-        assert_eq!(rt; shown(rt.alloc(), text)?.as_str(), *tree, "{text}");
-    }
-    Ok(())
-}
-
 const EXAMPLE: &str = "module ex {
   namespace \"urn:ex\";
   prefix ex;
@@ -106,7 +98,10 @@ fn reads_statements_and_words(rt: HostRuntime) -> Result<(), Fail> {
             "a<\u{7f}\u{85}\u{fffd}\u{10fffd}>@1",
         ),
     ];
-    compare(rt, &rows)
+    for (text, tree) in rows {
+        assert_eq!(rt; shown(rt.alloc(), text)?.as_str(), tree, "{text}");
+    }
+    Ok(())
 }
 
 #[test]
@@ -131,7 +126,10 @@ fn reads_quoted_strings(rt: HostRuntime) -> Result<(), Fail> {
         ("a \"x // y /* z */\";", "a<x // y /* z */>@1"),
         ("a 'x\n  y';", "a<x\n  y>@1"),
     ];
-    compare(rt, &rows)
+    for (text, tree) in rows {
+        assert_eq!(rt; shown(rt.alloc(), text)?.as_str(), tree, "{text}");
+    }
+    Ok(())
 }
 
 #[test]
@@ -159,14 +157,8 @@ fn lays_out_lines(rt: HostRuntime) -> Result<(), Fail> {
         ("d \"  a\n     \";", "d<  a\n  >@1"),
         ("/* \u{e9} */ d \"a\n             b\";", "d<a\n  b>@1"),
     ];
-    compare(rt, &rows)
-}
-
-/// Each text beside the line of its fault.
-fn compare_faults(rt: HostRuntime, rows: &[(&str, u32)]) -> Result<(), Fail> {
-    for (text, line) in rows {
-        let fault = statements(rt.alloc(), text).err();
-        assert_eq!(rt; fault, Some(WordFault::Bad { line: *line }), "{text}");
+    for (text, tree) in rows {
+        assert_eq!(rt; shown(rt.alloc(), text)?.as_str(), tree, "{text}");
     }
     Ok(())
 }
@@ -185,7 +177,11 @@ fn names_the_line_of_an_early_end(rt: HostRuntime) -> Result<(), Fail> {
         ("a 'b' +\n", 2),
         ("a {\n b\n c {\n d;\n}\n", 6),
     ];
-    compare_faults(rt, &rows)
+    for (text, line) in rows {
+        let fault = statements(rt.alloc(), text).err();
+        assert_eq!(rt; fault, Some(WordFault::Bad { line }), "{text}");
+    }
+    Ok(())
 }
 
 /// A token that no statement text has there, where it begins.
@@ -213,7 +209,11 @@ fn names_the_line_of_a_token_out_of_place(rt: HostRuntime) -> Result<(), Fail> {
         ("a {\r\n b:1;\r\n}", 2),
         ("a {\r\n b+;\r\n}", 2),
     ];
-    compare_faults(rt, &rows)
+    for (text, line) in rows {
+        let fault = statements(rt.alloc(), text).err();
+        assert_eq!(rt; fault, Some(WordFault::Bad { line }), "{text}");
+    }
+    Ok(())
 }
 
 /// A comment, a string or a word that is not whole, where it begins.
@@ -241,7 +241,11 @@ fn names_the_line_where_a_broken_token_begins(rt: HostRuntime) -> Result<(), Fai
         ("a\n\r;", 2),
         ("a b\r;", 1),
     ];
-    compare_faults(rt, &rows)
+    for (text, line) in rows {
+        let fault = statements(rt.alloc(), text).err();
+        assert_eq!(rt; fault, Some(WordFault::Bad { line }), "{text}");
+    }
+    Ok(())
 }
 
 /// A text of statements inside one another, each on a line of its own.

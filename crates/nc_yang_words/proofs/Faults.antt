@@ -36,7 +36,7 @@ by_piece (Whole kind more) apart p q cs ih = ended_more (record { line = p.line;
 by_piece NothingWhole apart p q cs ih = refl
 
 -- the tokens of a text are ended
-tokens_ended : (skip : ℕ) (apart : Bool) (p : Place) (cs : List ℕ) → IsEnded (tokens skip apart p cs)
+pub tokens_ended : (skip : ℕ) (apart : Bool) (p : Place) (cs : List ℕ) → IsEnded (tokens skip apart p cs)
 tokens_ended zero apart p [] = refl
 tokens_ended (suc skip) apart p [] = refl
 tokens_ended (suc skip) apart p (c ∷ cs) = tokens_ended skip apart (after p c) cs

@@ -1,10 +1,13 @@
 -- Laws of module texts.
-use Rattle.std.specs.Prelude.{◌≡◌, ℕ, ◌+◌, ◌-◌, ◌^◌, ◌==◌, if◌then◌else◌, min, List, [], ◌∷◌, ◌⊎◌}
+use Rattle.std.specs.Prelude.{◌≡◌, ℕ, ◌+◌, ◌-◌, ◌^◌, ◌==◌, if◌then◌else◌, min, List, [], ◌∷◌, ◌++◌, ◌⊎◌}
 use Rattle.nc_names.specs.Signs.{line_feed}
 use Rattle.nc_yang_words.specs.Places.{passed, start}
+use Rattle.nc_yang_words.specs.Tokens.{tokens_of}
 use Rattle.nc_yang_words.specs.Spelling.{TextSpells}
 use Rattle.nc_yang_words.specs.Faults.{HasFaultAt}
 use Rattle.nc_yang_words.specs.declared.statement.Statement.{Statement}
+use Rattle.nc_yang_words.specs.declared.token.Token.{Token}
+use Rattle.nc_yang_words.specs.declared.token.Kind.TheVariants.{End}
 
 -- a text spells a tree, or has a fault at a line
 abbrev pub SpellsOrFails : Type 0
@@ -31,3 +34,9 @@ line_feeds (c ∷ cs) = (if c == line_feed then 1 else 0) + line_feeds cs
 -- counted
 abbrev pub LinesAreCounted : Type 0
 LinesAreCounted = (cs : List ℕ) → (passed start cs).line ≡ min (1 + line_feeds cs) (2 ^ 32 - 1)
+
+-- the end of a text is a token at the line that is 1 and the number of its LF, so far as a line is counted
+abbrev pub EndIsCounted : Type 0
+EndIsCounted =
+    (text : List ℕ) (before : List Token) (last : Token) → tokens_of text ≡ before ++ last ∷ [] → last.kind ≡ End
+    → last.line ≡ min (1 + line_feeds text) (2 ^ 32 - 1)

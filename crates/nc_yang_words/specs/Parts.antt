@@ -29,7 +29,8 @@ part_tokens apart p [] last = (record { line = p.line; apart = apart; kind = las
 part_tokens apart p (part ∷ parts) last =
     elim part.kind [
       | None ↦ part_tokens true (passed p part.chars) parts last
-      | Some kind ↦ (record { line = p.line; apart = apart; kind = kind }) ∷ part_tokens false (passed p part.chars) parts last
+      | Some kind ↦
+        (record { line = p.line; apart = apart; kind = kind }) ∷ part_tokens false (passed p part.chars) parts last
     ]
 
 -- the last token is the end where no character is left, and what is no whole token where one is
@@ -42,7 +43,8 @@ IsSpace chars = (c : ℕ) × ((chars ≡ c ∷ []) × (is_white c ≡ true))
 
 -- a comment to the end of its line (RFC 7950 6.1.1)
 abbrev pub IsLineComment : List ℕ → Type 0
-IsLineComment chars = (body : List ℕ) × ((chars ≡ slash ∷ slash ∷ body) × (list_all (λ c. not (c == line_feed)) body ≡ true))
+IsLineComment chars =
+    (body : List ℕ) × ((chars ≡ slash ∷ slash ∷ body) × (list_all (λ c. not (c == line_feed)) body ≡ true))
 
 -- a comment up to its `*/`
 abbrev pub IsBlockComment : List ℕ → Type 0

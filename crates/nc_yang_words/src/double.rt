@@ -78,7 +78,8 @@ impl Double {
     /// Holds white space back, less what is cut of it.
     fn hold(&mut self, sign: char) -> Result<(), Memory>
         ensures text { IfOk result (λ _. self.new.text ≡ self.old.text) }
-        ensures held { IfOk result (λ _. self.new.held.items ≡ held_more self.old.room self.old.held.items sign) }
+        ensures held { IfOk result (λ _.
+            self.new.held.items ≡ held_more self.old.room self.old.held.items sign) }
         ensures room { IfOk result (λ _. self.new.room ≡ self.old.room - columns sign) }
         ensures width { IfOk result (λ _. self.new.width ≡ self.old.width) }
         ensures escaped { IfOk result (λ _. self.new.escaped ≡ self.old.escaped) }

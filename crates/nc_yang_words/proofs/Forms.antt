@@ -1,17 +1,16 @@
 -- The characters of white space, comments and tokens.
-use Rattle.std.proofs.Common.{◌≡◌, ℕ, zero, suc, ◌+◌, Bool, true, false, ◌==◌, ◌||◌, ◌&&◌, if◌then◌else◌, List, [], ◌∷◌, ◌++◌, length, take, drop, Option, Some, None, inl, inr, refl, ap, sym, subst, ◌∙◌, arith, rules, tests, encode_utf8}
+use Rattle.std.proofs.Common.{◌≡◌, ℕ, zero, suc, ◌+◌, Bool, true, false, ◌==◌, ◌||◌, ◌&&◌, if◌then◌else◌, List, [], ◌∷◌, ◌++◌, take, drop, Option, Some, None, inl, inr, refl, ap, sym, subst, ◌∙◌, arith, encode_utf8}
 use Rattle.std.specs.Prelude.{not}
 use Rattle.std.specs.List.{list_all}
 use Rattle.std.proofs.lemmas.List.Concat.{flat_map-cons}
 use Rattle.nc_names.specs.Signs.{is_white}
 use Rattle.nc_yang_words.specs.Signs.{is_yang_char, is_blank, starts_with}
-use Rattle.nc_yang_words.specs.Doubles.{Sign, Plain, Return, Meant, escape, with_sign, signs_of, characters, characters_of, value, double_string}
+use Rattle.nc_yang_words.specs.Doubles.{Sign, Plain, Return, Meant, escape, with_sign, signs_of, characters, characters_of, value}
 use Rattle.nc_yang_words.specs.Pieces.{piece, token, comment, line_comment, block_comment, single, single_quoted, double_quoted, unquoted_of, word, is_pair, is_space}
 use Rattle.nc_yang_words.specs.Parts.{HasForm, IsSpace}
-use Rattle.nc_yang_words.specs.declared.double.Quoted.{Quoted}
 use Rattle.nc_yang_words.specs.declared.piece.Piece.{Piece}
 use Rattle.nc_yang_words.specs.declared.piece.Piece.TheVariants.{Gap, Whole, Torn}
-use Rattle.nc_yang_words.proofs.Strings.{both, either, bool_cases, same}
+use Rattle.nc_yang_words.proofs.Strings.{both, either, same}
 
 take_none : (cs : List ℕ) → take 0 cs ≡ []
 take_none [] = refl
@@ -231,10 +230,11 @@ double_plain false false false false c cs signs m s r y h later escaped = absurd
 double_ends : (cs : List ℕ) (signs : List Sign)
     → (signs_of false cs ≡ Some signs → DoubleEnds false cs signs) × (signs_of true cs ≡ Some signs → DoubleEnds true cs signs)
 double_ends [] signs = (λ h. absurd (nothing signs h), λ h. absurd (nothing signs h))
-double_ends (c ∷ cs) signs =
-    (λ h. double_plain (c == 34) (c == 92) (c == 13 && starts_with 10 cs) (is_yang_char c) c cs signs refl refl refl refl h
+double_ends (c ∷ cs) signs = (
+  λ h. double_plain (c == 34) (c == 92) (c == 13 && starts_with 10 cs) (is_yang_char c) c cs signs refl refl refl refl h
       (λ rest. (double_ends cs rest).0) (λ rest. (double_ends cs rest).1),
-     λ h. double_escaped (escape c) c cs signs refl h (λ rest. (double_ends cs rest).0))
+  λ h. double_escaped (escape c) c cs signs refl h (λ rest. (double_ends cs rest).0),
+)
 
 double_by : (width c : ℕ) (cs : List ℕ) (o : Option (List Sign)) → c == 34 ≡ true → signs_of false cs ≡ o
     → HasItsForm c cs (double_quoted (elim o [ None ↦ None | Some signs ↦ Some (record { text = value width signs; count = characters_of signs }) ]))

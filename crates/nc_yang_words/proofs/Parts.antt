@@ -1,20 +1,15 @@
 -- A text is its parts, one after another.
-use Rattle.std.proofs.Common.{◌≡◌, ℕ, zero, suc, ◌+◌, ◌-◌, ◌≤◌, Bool, true, false, ◌==◌, ◌||◌, if◌then◌else◌, List, [], ◌∷◌, ◌++◌, length, take, drop, Option, Some, None, inl, inr, refl, ap, sym, subst, ◌∙◌, arith, rules, tests, append_assoc, encode_utf8}
+use Rattle.std.proofs.Common.{◌≡◌, ℕ, zero, suc, ◌-◌, ◌≤◌, Bool, true, false, List, [], ◌∷◌, ◌++◌, length, take, drop, Some, None, inl, inr, refl, ap, sym, subst, ◌∙◌, arith, append_assoc}
 use Rattle.std.proofs.lemmas.List.{take-append-drop, length-drop}
-use Rattle.std.proofs.lemmas.List.Concat.{flat_map-cons}
-use Rattle.nc_yang_words.specs.Signs.{is_yang_char}
 use Rattle.nc_yang_words.specs.Places.{after, passed, start}
-use Rattle.nc_yang_words.specs.Doubles.{double_string}
-use Rattle.nc_yang_words.specs.Pieces.{piece, token, comment, line_comment, block_comment, single, single_quoted, double_quoted, unquoted, unquoted_of, word, is_pair, is_space}
+use Rattle.nc_yang_words.specs.Pieces.{piece}
 use Rattle.nc_yang_words.specs.Tokens.{tokens}
-use Rattle.nc_yang_words.specs.Parts.{Part, all_chars, part_tokens, IsLast, HasForm, HaveForms, IsInParts, TextIsInParts}
-use Rattle.nc_yang_words.specs.declared.double.Quoted.{Quoted}
+use Rattle.nc_yang_words.specs.Parts.{Part, all_chars, IsInParts, TextIsInParts}
 use Rattle.nc_yang_words.specs.declared.place.Place.{Place}
 use Rattle.nc_yang_words.specs.declared.piece.Piece.{Piece}
 use Rattle.nc_yang_words.specs.declared.piece.Piece.TheVariants.{Gap, Whole, Torn as NothingWhole}
 use Rattle.nc_yang_words.specs.declared.token.Token.{Token}
-use Rattle.nc_yang_words.specs.declared.token.Kind.{Kind}
-use Rattle.nc_yang_words.specs.declared.token.Kind.TheVariants.{Word, Quoted as TheQuoted, Semicolon, Open, Close, End, Torn}
+use Rattle.nc_yang_words.specs.declared.token.Kind.TheVariants.{End, Torn}
 use Rattle.nc_yang_words.proofs.Tokens.{skipped}
 use Rattle.nc_yang_words.proofs.Forms.{HasItsForm, piece_form}
 
@@ -66,7 +61,7 @@ by_piece NothingWhole apart p c cs e later =
 
 no_more : (apart : Bool) (p : Place) → IsInParts apart p []
 no_more apart p =
-    record { parts = []; rest = []; last = End; whole = refl; ends = inl (refl, refl); forms = tt; tokens_are = refl; }
+    record { parts = []; rest = []; last = End; whole = refl; ends = inl (refl, refl); forms = tt; tokens_are = refl }
 
 in_parts : (m : ℕ) (apart : Bool) (p : Place) (cs : List ℕ) → length cs ≤ m → IsInParts apart p cs
 in_parts m apart p [] h = no_more apart p

@@ -1,5 +1,5 @@
 -- The tokens of a text, one piece after another.
-use Rattle.std.proofs.Common.{◌≡◌, ℕ, zero, suc, ◌+◌, ◌≤◌, Bool, true, false, List, [], ◌∷◌, length, take, drop, refl, ap, sym, ◌∙◌, arith, add-one}
+use Rattle.std.proofs.Common.{◌≡◌, ℕ, zero, suc, ◌+◌, ◌≤◌, Bool, true, false, List, [], ◌∷◌, length, take, drop, refl, ap, sym, ◌∙◌, add-one}
 use Rattle.nc_yang_words.specs.Places.{after, passed}
 use Rattle.nc_yang_words.specs.Pieces.{piece}
 use Rattle.nc_yang_words.specs.Tokens.{tokens}

@@ -30,7 +30,7 @@ part_tokens apart p (part ∷ parts) last =
     elim part.kind [
       | None ↦ part_tokens true (passed p part.chars) parts last
       | Some kind ↦
-        (record { line = p.line; apart = apart; kind = kind }) ∷ part_tokens false (passed p part.chars) parts last
+          (record { line = p.line; apart = apart; kind = kind }) ∷ part_tokens false (passed p part.chars) parts last
     ]
 
 -- the last token is the end where no character is left, and what is no whole token where one is

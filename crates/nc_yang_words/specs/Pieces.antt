@@ -1,5 +1,5 @@
 -- What stands first in a text.
-use Rattle.std.specs.Prelude.{◌≡◌, ℕ, ◌+◌, Bool, true, false, ◌==◌, ◌||◌, ◌&&◌, if◌then◌else◌, List, [], ◌∷◌, take, drop, length, ◌≤◌, ◌++◌, encode_utf8, Option, Some, None}
+use Rattle.std.specs.Prelude.{ℕ, ◌+◌, Bool, true, false, ◌==◌, ◌||◌, ◌&&◌, if◌then◌else◌, List, [], ◌∷◌, take, drop, ◌++◌, encode_utf8, Option, Some, None}
 use Rattle.nc_names.specs.Signs.{line_feed, carriage_return, quote, apostrophe, asterisk, slash, semicolon, opening_brace, closing_brace}
 use Rattle.nc_yang_words.specs.Signs.{is_yang_char, is_blank, ends_word, starts_with, utf8}
 use Rattle.nc_yang_words.specs.Doubles.{double_string}

@@ -47,7 +47,7 @@ fn opens(kind: Kind) -> Option<bool>
     ensures { MatchOption result
         ((begun : TheBegun) (above : List TheBegun) → at_end begun above kind ≡ None)
         (λ opens. (begun : TheBegun) (above : List TheBegun)
-            → at_end begun above kind ≡ Some (entered begun opens above)) }
+        → at_end begun above kind ≡ Some (entered begun opens above)) }
 {
     match kind {
         Kind::Semicolon => Some(false),
@@ -60,10 +60,10 @@ fn opens(kind: Kind) -> Option<bool>
 fn read_end(lexer: &mut Lexer<'_>) -> Result<bool, WordFault>
     ensures end { MatchResult result
         (λ opens. (keyword argument : List ℕ) (line : ℕ)
-            → Enters (Ends keyword argument line) (left lexer.old)
-                (begun keyword (Some argument) line) opens (left lexer.new))
+        → Enters (Ends keyword argument line) (left lexer.old)
+        (begun keyword (Some argument) line) opens (left lexer.new))
         (λ fault. (keyword argument : List ℕ) (line : ℕ)
-            → Stops (Ends keyword argument line) (left lexer.old) fault) }
+        → Stops (Ends keyword argument line) (left lexer.old) fault) }
     ensures keeps { ahead lexer.new ≤ ahead lexer.old }
 {
     let Token { line, kind, .. } = lexer.next_token()?;
@@ -75,14 +75,14 @@ fn read_end(lexer: &mut Lexer<'_>) -> Result<bool, WordFault>
 fn read_join(lexer: &mut Lexer<'_>, text: &mut Text) -> Result<Option<bool>, WordFault>
     ensures join { MatchResult result
         (λ opens. MatchOption opens
-            ((keyword : List ℕ) (line : ℕ)
-                → Moves (Joins keyword text.old line) (left lexer.old)
-                    (Joins keyword text.new line) (left lexer.new))
-            (λ opens. (keyword : List ℕ) (line : ℕ)
-                → Enters (Joins keyword text.old line) (left lexer.old)
-                    (begun keyword (Some text.new) line) opens (left lexer.new)))
+        ((keyword : List ℕ) (line : ℕ)
+        → Moves (Joins keyword text.old line) (left lexer.old)
+        (Joins keyword text.new line) (left lexer.new))
+        (λ opens. (keyword : List ℕ) (line : ℕ)
+        → Enters (Joins keyword text.old line) (left lexer.old)
+        (begun keyword (Some text.new) line) opens (left lexer.new)))
         (λ fault. (keyword : List ℕ) (line : ℕ)
-            → Stops (Joins keyword text.old line) (left lexer.old) fault) }
+        → Stops (Joins keyword text.old line) (left lexer.old) fault) }
     ensures keeps { ahead lexer.new ≤ ahead lexer.old }
     ensures shorter { IfOk result (λ opens. IfNone opens (ahead lexer.new < ahead lexer.old)) }
 {
@@ -110,10 +110,10 @@ fn read_join(lexer: &mut Lexer<'_>, text: &mut Text) -> Result<Option<bool>, Wor
 fn read_joined(lexer: &mut Lexer<'_>, text: &mut Text) -> Result<bool, WordFault>
     ensures joined { MatchResult result
         (λ opens. (keyword : List ℕ) (line : ℕ)
-            → Enters (Joins keyword text.old line) (left lexer.old)
-                (begun keyword (Some text.new) line) opens (left lexer.new))
+        → Enters (Joins keyword text.old line) (left lexer.old)
+        (begun keyword (Some text.new) line) opens (left lexer.new))
         (λ fault. (keyword : List ℕ) (line : ℕ)
-            → Stops (Joins keyword text.old line) (left lexer.old) fault) }
+        → Stops (Joins keyword text.old line) (left lexer.old) fault) }
     ensures keeps { ahead lexer.new ≤ ahead lexer.old }
 {
     loop {
@@ -188,12 +188,12 @@ impl Parser<'_> {
     fn begin(&mut self, keyword: Text, line: u32) -> Result<Option<Statement>, WordFault>
         ensures begin { MatchResult result
             (λ root. (apart : Bool)
-                → reads (state Begins (reverse self.old.above))
-                    (word_token line apart keyword ∷ left self.old.lexer)
-                ≡ reads (risen root (reverse self.new.above)) (left self.new.lexer))
+            → reads (state Begins (reverse self.old.above))
+            (word_token line apart keyword ∷ left self.old.lexer)
+            ≡ reads (risen root (reverse self.new.above)) (left self.new.lexer))
             (λ fault. (apart : Bool)
-                → Faults fault (reads (state Begins (reverse self.old.above))
-                    (word_token line apart keyword ∷ left self.old.lexer))) }
+            → Faults fault (reads (state Begins (reverse self.old.above))
+            (word_token line apart keyword ∷ left self.old.lexer))) }
         ensures keeps { ahead self.new.lexer ≤ ahead self.old.lexer }
     {
         if self.above.len() >= MOST_DEPTH || !is_keyword(keyword.as_str().as_bytes()) {
@@ -212,7 +212,7 @@ impl Parser<'_> {
     fn turn(&mut self) -> Result<Option<Statement>, WordFault>
         ensures turn { MatchResult result
             (λ root. reads (state Begins (reverse self.old.above)) (left self.old.lexer)
-                ≡ reads (risen root (reverse self.new.above)) (left self.new.lexer))
+            ≡ reads (risen root (reverse self.new.above)) (left self.new.lexer))
             (λ fault. Faults fault (reads (state Begins (reverse self.old.above)) (left self.old.lexer))) }
         ensures shorter { IfOk result (λ root. IfNone root (ahead self.new.lexer < ahead self.old.lexer)) }
     {
@@ -233,7 +233,7 @@ impl Parser<'_> {
     fn read_root(&mut self) -> Result<Statement, WordFault>
         ensures { MatchResult result
             (λ root. reads (state Begins (reverse self.old.above)) (left self.old.lexer)
-                ≡ reads (state (Done root) []) (left self.new.lexer))
+            ≡ reads (state (Done root) []) (left self.new.lexer))
             (λ fault. Faults fault (reads (state Begins (reverse self.old.above)) (left self.old.lexer))) }
     {
         loop {

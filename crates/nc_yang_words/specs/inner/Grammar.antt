@@ -1,5 +1,5 @@
 -- The tree of statements that tokens spell.
-use Rattle.std.specs.Prelude.{◌≡◌, ℕ, Bool, false, ◌&&◌, if◌then◌else◌, nat_lt, List, [], ◌∷◌, ◌++◌, length, Option, Some, None, Result, Ok, Err}
+use Rattle.std.specs.Prelude.{◌≡◌, ℕ, Bool, ◌&&◌, if◌then◌else◌, nat_lt, List, [], ◌∷◌, ◌++◌, length, Option, Some, None, Result, Ok, Err}
 use Rattle.nc_yang_words.specs.Keywords.{is_keyword, is_plus}
 use Rattle.nc_yang_words.specs.Tokens.{tokens_of}
 use Rattle.nc_yang_words.specs.Spelling.{deepest, statement}

@@ -1,5 +1,5 @@
 -- The tokens that are still to come.
-use Rattle.std.specs.Prelude.{◌≡◌, ℕ, true, false, if◌then◌else◌, List, [], ◌∷◌, length, ◌≤◌}
+use Rattle.std.specs.Prelude.{◌≡◌, ℕ, false, if◌then◌else◌, List, [], ◌∷◌, length, ◌≤◌}
 use Rattle.nc_yang_words.specs.Pieces.{is_last}
 use Rattle.nc_yang_words.specs.Tokens.{tokens}
 use Rattle.nc_yang_words.specs.declared.lexer.Lexer.{Lexer}

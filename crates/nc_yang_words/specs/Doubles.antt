@@ -98,7 +98,7 @@ cut room (Return ∷ signs) = Return ∷ signs
 cut room (Meant c ∷ signs) = Meant c ∷ signs
 
 -- white space before a line break is stripped, and so is that before a later line, up to and with the
--- column of the opening quotation mark, before which `width` - 1 columns stand
+-- column of the opening quotation mark, which is the last of `width` columns
 abbrev pub laid_out : (width : ℕ) (first : List Sign) (later : List (List Sign)) → List Sign
 laid_out width first [] = first
 laid_out width first (line ∷ later) = strip_end first ++ Plain line_feed ∷ laid_out width (cut width line) later
@@ -107,8 +107,8 @@ laid_out width first (line ∷ later) = strip_end first ++ Plain line_feed ∷ l
 abbrev pub value : (width : ℕ) → List Sign → List ℕ
 value width signs = utf8 (map meaning (laid_out width (first_line signs) (later_lines signs)))
 
--- the double-quoted string that goes on after its opening mark, up to and with whose column there are
--- `width` columns: its value, and how many characters stand before its closing mark
+-- the double-quoted string that goes on after its opening mark, which stands in the last of `width`
+-- columns: its value, and how many characters stand before its closing mark
 abbrev pub double_string : (width : ℕ) → List ℕ → Option Quoted
 double_string width cs =
     elim (signs_of false cs) [

@@ -5,8 +5,8 @@
 //! `piece`, and `parser` builds the tree from them. Nothing here knows what a statement means.
 //!
 //! It stands on nc_names alone. `statements` promises the one tree that the text spells, or the line
-//! of the text's one fault, and by the laws each text has one of the two. Time and memory are linear in
-//! the text. The crate `trials_text` tests it.
+//! of the text's one fault, and by the laws each text has one of the two. The crate `trials_text` tests
+//! it.
 #![tactic(auto)]
 
 mod begun;

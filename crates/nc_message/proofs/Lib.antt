@@ -1,5 +1,6 @@
+pub mod Showing
 pub mod Children
 pub mod Declaring
 pub mod Example
-pub mod Extending
+pub mod Looking
 pub mod Tags

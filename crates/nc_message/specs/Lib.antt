@@ -1,4 +1,5 @@
-pub mod Appends
+pub mod Bindings
 pub mod Marks
 pub mod Unmarked
 pub mod Written
+pub mod inner

@@ -1,9 +1,9 @@
 //! Text and attribute values, with the references that they need.
-#![tactic(auto, using(crate::proofs::Extending::extends_self, crate::proofs::Extending::extends_more))]
+#![tactic(auto, using(nc_names::proofs::Extending::extends_self, nc_names::proofs::Extending::extends_more))]
 
 ghost use Rattle.std.specs.Prelude.{◌≡◌, ℕ, [], ◌∷◌, ◌++◌};
 ghost use Rattle.std.specs.List.{flat_map};
-ghost use Rattle.nc_message.specs.Appends.{Appends};
+ghost use Rattle.nc_names.specs.Appending.{Appends};
 ghost use Rattle.nc_message.specs.Written.{text_char, value_char, quoted};
 
 use crate::marks;

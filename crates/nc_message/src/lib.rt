@@ -4,11 +4,14 @@
 //! The tests of the program above write messages; `proofs/Example.antt` has a tree with its text.
 #![tactic(auto)]
 
+mod bounds;
 mod escape;
 mod marks;
+mod prefixes;
 mod start;
 mod tree;
 mod writer;
 
+pub use bounds::{Bindings, Bounds, Level};
 pub use tree::{Attr, Elem, Part, Tree, Why};
 pub use writer::{write, written_holds_no_mark};

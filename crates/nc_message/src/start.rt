@@ -1,15 +1,16 @@
 //! Start tags: the namespace declarations and the attributes of an element.
-#![tactic(auto, using(crate::proofs::Extending::extends_self, crate::proofs::Extending::extends_more))]
+#![tactic(auto, using(nc_names::proofs::Extending::extends_self, nc_names::proofs::Extending::extends_more))]
 
-ghost use Rattle.std.specs.Prelude.{◌≡◌, ℕ, [], ◌∷◌, ◌++◌, ◌↔◌, IsTrue, List, map, if◌then◌else◌};
+ghost use Rattle.std.specs.Prelude.{◌≡◌, [], ◌∷◌, ◌++◌, List, map, if◌then◌else◌, OnOk, OnErr};
 ghost use Rattle.std.specs.List.{flat_map, list_any};
-ghost use Rattle.std.specs.Str.{bytes_eq};
-ghost use Rattle.nc_message.specs.Appends.{Appends};
-ghost use Rattle.nc_message.specs.Written.{is_chars, is_declarable, quoted, default_declaration, prefix_declaration, declaration, declarations, use_of, uses, start_of, prefixed, attribute};
+ghost use Rattle.nc_names.specs.Appending.{Extends, Appends};
+ghost use Rattle.nc_message.specs.inner.Declaring.{Declares};
+ghost use Rattle.nc_message.specs.Written.{is_chars, is_declarable, default_declaration, prefix_declaration, declarations, use_of, uses, start_of, prefixed, attribute};
 
 use crate::escape::push_quoted;
-use crate::{Attr, Elem, Part, marks};
-use nc_names::{Bound, Bytes, Memory};
+use crate::prefixes::Prefixes;
+use crate::{Attr, Bounds, Elem, Part, marks};
+use nc_names::{Bytes, Memory, Text};
 
 fn push_default(above: &str, space: &str, out: &mut Bytes) -> Result<(), Memory>
     ensures { Appends result out.old out.new (default_declaration above.now space.now) }
@@ -37,73 +38,67 @@ fn has_to_be_declared(prefix: &str) -> bool
 }
 
 /// Declares a prefix at its use, where it has to be declared and was not seen before.
-fn push_use(seen: bool, prefix: &str, space: &str, out: &mut Bytes) -> Result<(), Memory>
-    ensures { Appends result out.old out.new (if is_declarable prefix.now then (if seen then [] else prefix_declaration (record { prefix = prefix.now; space = space.now })) else []) }
+fn push_use(
+    seen: &mut Prefixes,
+    prefix: &Text,
+    space: &Text,
+    out: &mut Bytes,
+) -> Result<(), Memory>
+    ensures ok { OnOk result (Declares seen.old.seen seen.new.seen out.old out.new
+        (record { prefix = prefix.now; space = space.now } ∷ [])) }
+    ensures err { OnErr result (Extends out.old out.new) }
 {
-    if seen || !has_to_be_declared(prefix) {
+    if !has_to_be_declared(prefix.as_str()) {
         return Ok(());
     }
-    push_declaration(prefix, space, out)
+    let added = seen.add(prefix)?;
+    if !added {
+        return Ok(());
+    }
+    push_declaration(prefix.as_str(), space.as_str(), out)?;
+    Ok(())
 }
 
-fn is_used(attrs: &[Attr], prefix: &str) -> bool
-    ensures { result ≡ list_any (bytes_eq prefix.now) (map (λ a. a.prefix) attrs.now) }
+fn push_attr_uses(attrs: &[Attr], seen: &mut Prefixes, out: &mut Bytes) -> Result<(), Memory>
+    ensures ok { OnOk result (Declares seen.old.seen seen.new.seen out.old out.new (map use_of attrs.now)) }
+    ensures err { OnErr result (Extends out.old out.new) }
 {
     for attr in attrs {
-        if prefix == attr.prefix.as_str() {
-            return true;
-        }
-    }
-    false
-}
-
-fn is_bound(bounds: &[Bound], prefix: &str) -> bool
-    ensures { result ≡ list_any (bytes_eq prefix.now) (map (λ b. b.prefix) bounds.now) }
-{
-    for bound in bounds {
-        if prefix == bound.prefix.as_str() {
-            return true;
-        }
-    }
-    false
-}
-
-/// Whether a prefix is used by one of the attributes or bound by one of the bindings.
-fn is_seen(attrs: &[Attr], bounds: &[Bound], prefix: &str) -> bool
-    ensures { result ≡ list_any (bytes_eq prefix.now) (map (λ a. a.prefix) attrs.now ++ map (λ b. b.prefix) bounds.now) }
-{
-    is_used(attrs, prefix) || is_bound(bounds, prefix)
-}
-
-fn push_attr_uses(attrs: &[Attr], out: &mut Bytes) -> Result<(), Memory>
-    ensures { Appends result out.old out.new (declarations [] (map use_of attrs.now)) }
-{
-    for (place, attr) in attrs.iter().enumerate() {
-        let prefix = attr.prefix.as_str();
-        let seen = is_used(attrs.split_at(place).0, prefix);
-        push_use(seen, prefix, attr.name.space.as_str(), out)?;
+        push_use(seen, &attr.prefix, &attr.name.space, out)?;
     }
     Ok(())
 }
 
-fn push_bound_uses(attrs: &[Attr], bounds: &[Bound], out: &mut Bytes) -> Result<(), Memory>
-    ensures { Appends result out.old out.new (declarations (map (λ a. a.prefix) attrs.now) bounds.now) }
+fn push_bound_uses(bounds: &Bounds, seen: &mut Prefixes, out: &mut Bytes) -> Result<(), Memory>
+    ensures ok { OnOk result (Declares seen.old.seen seen.new.seen out.old out.new bounds.now) }
+    ensures err { OnErr result (Extends out.old out.new) }
 {
-    for (place, bound) in bounds.iter().enumerate() {
-        let prefix = bound.prefix.as_str();
-        let seen = is_seen(attrs, bounds.split_at(place).0, prefix);
-        push_use(seen, prefix, bound.space.as_str(), out)?;
+    let mut rest = bounds.iter();
+    while let Some(bound) = rest.next() {
+        push_use(seen, &bound.prefix, &bound.space, out)?;
     }
+    Ok(())
+}
+
+// Where an element has text, all that is bound in it is used.
+fn push_text_uses(elem: &Elem, seen: &mut Prefixes, out: &mut Bytes) -> Result<(), Memory>
+    ensures ok { OnOk result (Declares seen.old.seen seen.new.seen out.old out.new
+        (if list_any is_chars elem.now.parts then elem.now.bounds else [])) }
+    ensures err { OnErr result (Extends out.old out.new) }
+{
+    if !has_text(elem.parts.as_slice()) {
+        return Ok(());
+    }
+    push_bound_uses(&elem.bounds, seen, out)?;
     Ok(())
 }
 
 fn push_declarations(elem: &Elem, out: &mut Bytes) -> Result<(), Memory>
     ensures { Appends result out.old out.new (declarations [] (uses elem.now.bounds elem.now.attrs elem.now.parts)) }
 {
-    push_attr_uses(elem.attrs.as_slice(), out)?;
-    if has_text(elem.parts.as_slice()) {
-        push_bound_uses(elem.attrs.as_slice(), elem.bounds.as_slice(), out)?;
-    }
+    let mut seen = Prefixes::new(out.alloc());
+    push_attr_uses(elem.attrs.as_slice(), &mut seen, out)?;
+    push_text_uses(elem, &mut seen, out)?;
     Ok(())
 }
 

@@ -1,7 +1,10 @@
 //! A message as a tree of elements.
-ghost use Rattle.std.specs.Prelude.{◌≡◌, IfOk, take};
+ghost use Rattle.std.specs.Prelude.{◌≡◌, true, false, IfOk, MatchOption};
+ghost use Rattle.nc_message.specs.Written.{is_chars};
+ghost use Rattle.nc_message.specs.declared.tree.Part.TheVariants.{Child, Chars};
 
-use nc_names::{Bound, Boxed, Copies, Many, Memory, QName, Text};
+use crate::Bounds;
+use nc_names::{Boxed, Copies, Many, Memory, QName, Text};
 
 /// An attribute (XML 1.0, 3.1): its name, the prefix that it is written with, which is empty where
 /// it has no namespace, and its value.
@@ -28,7 +31,7 @@ impl Copies for Attr {
 #[derive(PartialEq, Eq, Debug, Drop)]
 pub struct Elem {
     pub name: QName,
-    pub bounds: Many<Bound>,
+    pub bounds: Bounds,
     pub attrs: Many<Attr>,
     pub parts: Many<Part>,
 }
@@ -39,6 +42,28 @@ pub struct Elem {
 pub enum Part {
     Child(Boxed<Elem>),
     Chars(Text),
+}
+
+impl Part {
+    /// The child element that the part is, or `None` where it is text.
+    pub fn child(&self) -> Option<&Elem>
+        ensures { MatchOption result (is_chars self.now ≡ true) (λ elem. self.now ≡ Child elem.now) }
+    {
+        match self {
+            Part::Child(elem) => Some(elem.get()),
+            Part::Chars(_) => None,
+        }
+    }
+
+    /// The text that the part is, or `None` where it is a child element.
+    pub fn text(&self) -> Option<&Text>
+        ensures { MatchOption result (is_chars self.now ≡ false) (λ text. self.now ≡ Chars text.now) }
+    {
+        match self {
+            Part::Child(_) => None,
+            Part::Chars(text) => Some(text),
+        }
+    }
 }
 
 /// A whole message: its root element.

@@ -1,8 +1,8 @@
 //! The text of a tree.
-#![tactic(auto, using(crate::proofs::Extending::extends_self, crate::proofs::Extending::extends_more))]
+#![tactic(auto, using(nc_names::proofs::Extending::extends_self, nc_names::proofs::Extending::extends_more))]
 
 ghost use Rattle.std.specs.Prelude.{◌≡◌, ◌++◌, OnOk, OnErr};
-ghost use Rattle.nc_message.specs.Appends.{Appends};
+ghost use Rattle.nc_names.specs.Appending.{Appends};
 ghost use Rattle.nc_message.specs.Unmarked.{HoldsNoMark};
 ghost use Rattle.nc_message.specs.Written.{end_of, written_part, written_elem, written};
 

@@ -1,7 +1,8 @@
-use Rattle.std.proofs.Common.{◌≡◌, [], ◌++◌, take, map}
-use Rattle.nc_message.specs.Written.{declarations, use_of}
+use Rattle.std.proofs.Common.{map, take}
+use Rattle.nc_message.specs.Written.{use_of}
+use Rattle.nc_message.specs.inner.Declaring.{Declares}
 use Rattle.nc_message.proofs.start.push_attr_uses.Given as goal
 
 -- the uses so far are declared
-abbrev pub invariant-loop-place : goal.invariant-loop-place
-invariant-loop-place l = l.out ≡ l.fn.out ++ declarations [] (map use_of (take l.place l.attrs))
+abbrev pub invariant-loop-attr : goal.invariant-loop-attr
+invariant-loop-attr l = Declares l.fn.seen.seen l.seen.seen l.fn.out l.out (map use_of (take l.attr-index l.attrs))

@@ -5,7 +5,7 @@ ghost use Rattle.nc_session.specs.Hello.{base_elem, text_elem};
 ghost use Rattle.nc_session.specs.Words.{base_space};
 
 use crate::words;
-use nc_message::{Elem, Part};
+use nc_message::{Bounds, Elem, Part};
 use nc_names::{Boxed, Many, Memory, QName, Text};
 use std::alloc::Global;
 
@@ -48,7 +48,7 @@ pub(crate) fn base_element(alloc: Global, name: &str, parts: Many<Part>) -> Resu
 {
     Ok(Elem {
         name: base_name(alloc, name)?,
-        bounds: Many::new(alloc),
+        bounds: Bounds::new(),
         attrs: Many::new(alloc),
         parts,
     })

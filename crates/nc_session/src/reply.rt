@@ -13,7 +13,7 @@ use crate::ask::{Asked, Operation};
 use crate::elems::{base_name, base_part, one_part, text_part, two_parts};
 use crate::inbox::MARK;
 use crate::{SessionEnd, words};
-use nc_message::{Elem, Part, Tree, write};
+use nc_message::{Bounds, Elem, Part, Tree, write};
 use nc_names::{Bytes, Many, Memory, Text};
 use nc_outside::{Sink, write_all};
 use std::alloc::Global;
@@ -55,7 +55,7 @@ pub(crate) fn reply_message(alloc: Global, asked: Asked) -> Result<Tree, Memory>
     Ok(Tree {
         root: Elem {
             name: base_name(alloc, words::reply_name())?,
-            bounds: Many::new(alloc),
+            bounds: Bounds::new(),
             attrs: asked.attributes,
             parts: one_part(alloc, part)?,
         },

@@ -8,7 +8,7 @@ ghost use Rattle.nc_session.specs.NarrowReadings as readings;
 
 use crate::narrow::reader::Reader;
 use crate::narrow::tag::Started;
-use nc_message::{Attr, Elem, Part};
+use nc_message::{Attr, Bounds, Elem, Part};
 use nc_names::{Bound, Boxed, Copies, Many, Memory, QName, Text};
 use std::alloc::Global;
 
@@ -55,7 +55,7 @@ fn take_space(attrs: &mut Many<Attr>, above: &Text) -> Result<Text, Memory>
 }
 
 /// The bindings in force under a default namespace.
-fn bounds_of(alloc: Global, space: &Text) -> Result<Many<Bound>, Memory>
+fn bounds_of(alloc: Global, space: &Text) -> Result<Bounds, Memory>
     ensures { IfOk result (λ it. it ≡ shapes.bounds_of space.now) }
 {
     let mut bounds = Many::new(alloc);
@@ -65,7 +65,7 @@ fn bounds_of(alloc: Global, space: &Text) -> Result<Many<Bound>, Memory>
             space: space.copy()?,
         })?;
     }
-    Ok(bounds)
+    Bounds::from_many(alloc, &bounds)
 }
 
 /// Puts text at the end of content, where there is any.

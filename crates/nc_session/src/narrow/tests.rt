@@ -23,7 +23,8 @@ fn show_elem(shown: &mut String, elem: &Elem) -> Result<(), Memory> {
 }
 
 fn show_bounds(shown: &mut String, elem: &Elem) -> Result<(), Memory> {
-    for bound in elem.bounds.as_slice() {
+    let bounds = elem.bounds.to_many(elem.name.name.alloc())?;
+    for bound in bounds.as_slice() {
         let Bound { prefix, space } = bound;
         write!(shown, " xmlns:{prefix}«{space}»")?;
     }

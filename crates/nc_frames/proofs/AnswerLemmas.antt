@@ -5,14 +5,16 @@ use Rattle.std.specs.List.{flat_map, concat, AllByRecursion}
 use Rattle.std.specs.Fmt.{decimal}
 use Rattle.std.proofs.lemmas.List.{append_assoc, append-nil, length-append, nil_from_length, length-replicate}
 use Rattle.std.proofs.lemmas.List.Concat.{flat_map-append}
+use Rattle.nc_names.specs.Limits.{message_limit}
 use Rattle.nc_frames.specs.declared.fault.FrameFault.{FrameFault}
 use Rattle.nc_frames.specs.declared.fault.FrameFault.TheVariants.{BadFrame, TooBig, Memory}
 use Rattle.nc_frames.specs.declared.header.Header.TheVariants.{Close}
 use Rattle.nc_frames.specs.declared.header.Stop.TheVariants.{End, TooBig as Big}
 use Rattle.nc_frames.specs.Framing.{Mode, Marks, Chunks, mark, with_mark, chunk, end_of_chunks, in_chunks, IsSize, IsChunk, AreChunks, IsPartialChunks, BeginsChunks, IsFramed, IsTooLong, AnnouncesTooMuch, IsBad, IsUnfinished}
-use Rattle.nc_frames.specs.Steps.{Reading, run, start, start_of, StopsAt}
-use Rattle.nc_frames.specs.Kept.{IsFaultOf, capped}
-use Rattle.nc_frames.specs.Runs.{HasOneAnswer}
+use Rattle.nc_frames.specs.inner.Steps.{Reading, run, start, start_of, StopsAt}
+use Rattle.nc_frames.specs.Framing.{capped}
+use Rattle.nc_frames.specs.Replies.{IsFaultOf}
+use Rattle.nc_frames.specs.Laws.{HasOneAnswer}
 use Rattle.nc_frames.proofs.StepLemmas.{run-append-some}
 use Rattle.nc_frames.proofs.ChunkReads.{at_header, run-chunks, run-close, same_stop, stops_step}
 use Rattle.nc_frames.proofs.StreamLemmas.{stops_big}
@@ -42,7 +44,7 @@ unfinished_fault Marks bytes u first (BadFrame at) = λ f. f
 unfinished_fault Marks bytes u first Memory = λ f. f
 unfinished_fault Chunks bytes u first Memory = λ f. f
 
-not_too_long : (bytes framed rest m : List ℕ) (place : ℕ) → bytes ≡ framed ++ rest → framed ≡ with_mark m → length m ≤ 4194304 → IsTooLong bytes place → ⊥
+not_too_long : (bytes framed rest m : List ℕ) (place : ℕ) → bytes ≡ framed ++ rest → framed ≡ with_mark m → length m ≤ message_limit → IsTooLong bytes place → ⊥
 not_too_long bytes framed rest m place e f small t = elim (splits framed t.front rest t.rest (sym e ∙ t.bytes_are)) [
   | inl w ↦ t.unmarked m w.0 (marked_in_front m w.0 t.front framed w.1 f)
   | inr w ↦ (
@@ -55,11 +57,11 @@ not_too_long bytes framed rest m place e f small t = elim (splits framed t.front
 not_bad : (bytes rest : List ℕ) (cs : List (List ℕ)) (place : ℕ) → bytes ≡ in_chunks cs ++ rest → AreChunks cs → IsBad bytes place → ⊥
 not_bad bytes rest cs place e each b = elim (splits (in_chunks cs) b.before rest (b.byte ∷ b.rest) (sym e ∙ b.bytes_are)) [
   | inl w ↦ partial_has_none cs b.before w.0 each b.unfinished.partial w.1
-  | inr w ↦ behind w.0 w.1 w.2
+  | inr w ↦ beyond w.0 w.1 w.2
 ] where
-  behind : (z : List ℕ) → in_chunks cs ≡ b.before ++ z → b.byte ∷ b.rest ≡ z ++ rest → ⊥
-  behind [] f g = partial_has_none cs b.before [] each b.unfinished.partial (sym (append-nil b.before) ∙ sym f ∙ sym (append-nil (in_chunks cs)))
-  behind (x ∷ z) f g =
+  beyond : (z : List ℕ) → in_chunks cs ≡ b.before ++ z → b.byte ∷ b.rest ≡ z ++ rest → ⊥
+  beyond [] f g = partial_has_none cs b.before [] each b.unfinished.partial (sym (append-nil b.before) ∙ sym f ∙ sym (append-nil (in_chunks cs)))
+  beyond (x ∷ z) f g =
       let head : x ≡ b.byte = cc in
       b.wrong (record { chunks = cs; each = each; more = z; whole = f ∙ ap (λ y. b.before ++ y ∷ z) head ∙ sym (append_assoc b.before (b.byte ∷ []) z) })
 
@@ -67,7 +69,7 @@ end_is_not_big : End ≢ Big
 end_is_not_big = λ e. cc
 
 -- a message that is not too big is read to its last byte
-run-whole : (cs : List (List ℕ)) → AreChunks cs → length (concat cs) ≤ 4194304 → run (flat_map chunk cs ++ (10 ∷ 35 ∷ 35 ∷ [])) start ≡ Some (at_header Close (concat cs))
+run-whole : (cs : List (List ℕ)) → AreChunks cs → length (concat cs) ≤ message_limit → run (flat_map chunk cs ++ (10 ∷ 35 ∷ 35 ∷ [])) start ≡ Some (at_header Close (concat cs))
 run-whole cs each small =
     run-append-some (flat_map chunk cs) (10 ∷ 35 ∷ 35 ∷ []) start (start_of (concat cs)) (run-chunks cs [] each.1 (omega (arith, small)))
     ∙ run-close (concat cs) (some_octets cs each)
@@ -76,7 +78,7 @@ run-whole cs each small =
     some_octets [] each = absurd (each.0 refl)
     some_octets (c ∷ cs) each = omega (arith, length-append c (concat cs), each.1.0.0)
 
-not_announced : (bytes rest : List ℕ) (cs : List (List ℕ)) (place : ℕ) → bytes ≡ in_chunks cs ++ rest → AreChunks cs → length (concat cs) ≤ 4194304 → AnnouncesTooMuch bytes place → ⊥
+not_announced : (bytes rest : List ℕ) (cs : List (List ℕ)) (place : ℕ) → bytes ≡ in_chunks cs ++ rest → AreChunks cs → length (concat cs) ≤ message_limit → AnnouncesTooMuch bytes place → ⊥
 not_announced bytes rest cs place e each small a =
     let w = stops_big bytes place a in
     let front : List ℕ = flat_map chunk cs ++ (10 ∷ 35 ∷ 35 ∷ []) in
@@ -92,7 +94,7 @@ not_announced bytes rest cs place e each small a =
         let both = sym p.stops ∙ r.stops in
         cc
 
-message_fault : (mode : Mode) (bytes framed rest message : List ℕ) → bytes ≡ framed ++ rest → IsFramed mode framed message → length message ≤ 4194304 → (first : ℕ) (fault : FrameFault) → ¬ IsFaultOf mode first bytes fault
+message_fault : (mode : Mode) (bytes framed rest message : List ℕ) → bytes ≡ framed ++ rest → IsFramed mode framed message → length message ≤ message_limit → (first : ℕ) (fault : FrameFault) → ¬ IsFaultOf mode first bytes fault
 message_fault Marks bytes framed rest m e f small first (TooBig at) = λ t. not_too_long bytes framed rest m t.0 e f.0 small t.1
 message_fault Chunks bytes framed rest m e f small first (TooBig at) = λ t. not_announced bytes rest f.chunks t.0 (e ∙ ap (λ l. l ++ rest) f.bytes_are) f.each (omega (arith, small, ap length f.message_is)) t.1
 message_fault Chunks bytes framed rest m e f small first (BadFrame at) = λ t. not_bad bytes rest f.chunks t.0 (e ∙ ap (λ l. l ++ rest) f.bytes_are) f.each t.1
@@ -114,7 +116,7 @@ AreChunks-push : (cs : List (List ℕ)) (c : List ℕ) → AllByRecursion IsChun
 AreChunks-push [] c each is = ((λ e. cc), (is, tt))
 AreChunks-push (d ∷ cs) c each is = ((λ e. cc), (each.0, (AreChunks-push cs c each.1 is).1))
 
--- a size and the LF behind it begin a message
+-- a size and the LF after it begin a message
 begins_size : (cs : List (List ℕ)) (size : ℕ) → AllByRecursion IsChunk cs → IsSize size → BeginsChunks ((flat_map chunk cs ++ (10 ∷ 35 ∷ decimal size)) ++ 10 ∷ [])
 begins_size cs size each is =
     let os : List ℕ = replicate size 0 in
@@ -137,7 +139,7 @@ text a = flat_map chunk a.chunks ++ (10 ∷ 35 ∷ decimal a.size)
 bad_or_big : (bytes : List ℕ) (p q : ℕ) → IsBad bytes p → AnnouncesTooMuch bytes q → ⊥
 bad_or_big bytes p q b a = elim (splits b.before (text a) (b.byte ∷ b.rest) (10 ∷ a.rest) (sym b.bytes_are ∙ a.bytes_are)) [
   | inl w ↦ within w.0 w.1 w.2
-  | inr w ↦ behind w.0 w.1 w.2
+  | inr w ↦ beyond w.0 w.1 w.2
 ] where
   begins : BeginsChunks (text a ++ 10 ∷ [])
   begins = begins_size a.chunks a.size a.each a.is_size
@@ -152,11 +154,11 @@ bad_or_big bytes p q b a = elim (splits b.before (text a) (b.byte ∷ b.rest) (1
       ap (λ l. l ++ 10 ∷ []) (e ∙ ap (λ y. b.before ++ y ∷ z) head ∙ sym (append_assoc b.before (b.byte ∷ []) z)) ∙ append_assoc (b.before ++ b.byte ∷ []) z (10 ∷ []) in
       b.wrong (begins_prefix (b.before ++ b.byte ∷ []) (z ++ 10 ∷ []) (subst BeginsChunks longer begins))
 
-  behind : (z : List ℕ) → b.before ≡ text a ++ z → 10 ∷ a.rest ≡ z ++ b.byte ∷ b.rest → ⊥
-  behind [] e f =
+  beyond : (z : List ℕ) → b.before ≡ text a ++ z → 10 ∷ a.rest ≡ z ++ b.byte ∷ b.rest → ⊥
+  beyond [] e f =
       let head : 10 ≡ b.byte = cc in
       b.wrong (subst BeginsChunks (ap (λ l. l ++ 10 ∷ []) (sym (e ∙ append-nil (text a))) ∙ ap (λ x. b.before ++ x ∷ []) head) begins)
-  behind (x ∷ z) e f =
+  beyond (x ∷ z) e f =
       let head : x ≡ 10 = cc in
       b.unfinished.small (length (text a)) (record {
         chunks = a.chunks;

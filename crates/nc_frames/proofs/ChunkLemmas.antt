@@ -7,13 +7,14 @@ use Rattle.std.specs.Fmt.{decimal}
 use Rattle.std.proofs.lemmas.List.{append_assoc, append-nil, length_push, nil_from_length}
 use Rattle.std.proofs.lemmas.Fmt.{decimal_digit, decimal_step}
 use Rattle.std.proofs.lemmas.Bool.Decides.{nat_tests}
+use Rattle.nc_names.specs.Limits.{message_limit}
 use Rattle.nc_frames.specs.declared.header.Header.{Header}
 use Rattle.nc_frames.specs.declared.header.Header.TheVariants.{Start, Line, Hash, Size, Close}
 use Rattle.nc_frames.specs.declared.header.Step.{Step}
 use Rattle.nc_frames.specs.declared.header.Step.TheVariants.{On, Octets, Stop as Stops}
 use Rattle.nc_frames.specs.declared.header.Stop.TheVariants.{End, Bad, TooBig}
-use Rattle.nc_frames.specs.Framing.{chunk, IsSize, IsChunk, IsInChunks, AnnouncesTooMuch}
-use Rattle.nc_frames.specs.Steps.{Reading, run, step, step_at, stepped, start, header_step, StopsAt}
+use Rattle.nc_frames.specs.Framing.{chunk, IsSize, IsChunk, IsInChunks, AnnouncesTooMuch, largest_size}
+use Rattle.nc_frames.specs.inner.Steps.{Reading, run, step, step_at, stepped, start, header_step, StopsAt}
 
 pub cond_is : {A : Type 0} (t : Bool) (x y z : A) → cond t x y ≡ z → ((t ≡ true) × (x ≡ z)) ⊎ ((t ≡ false) × (y ≡ z))
 cond_is true x y z e = inl (refl, e)
@@ -24,10 +25,10 @@ abbrev digit_step : ℕ → Step
 digit_step b = if nat_lt 48 b && nat_le b 57 then On (Size (b - 48)) else Stops Bad
 
 abbrev ended_step : ℕ → ℕ → Step
-ended_step size n = if nat_lt (4194304 - n) size then Stops TooBig else Octets size
+ended_step size n = if nat_lt (message_limit - n) size then Stops TooBig else Octets size
 
 abbrev longer_step : ℕ → ℕ → Step
-longer_step size b = if nat_lt 4294967295 (size * 10 + (b - 48)) then Stops Bad else On (Size (size * 10 + (b - 48)))
+longer_step size b = if nat_lt largest_size (size * 10 + (b - 48)) then Stops Bad else On (Size (size * 10 + (b - 48)))
 
 abbrev next_step : ℕ → ℕ → Step
 next_step size b = if nat_le 48 b && nat_le b 57 then longer_step size b else Stops Bad
@@ -40,7 +41,7 @@ text_of Hash = 10 ∷ 35 ∷ []
 text_of (Size size) = 10 ∷ 35 ∷ decimal size
 text_of Close = 10 ∷ 35 ∷ 35 ∷ []
 
--- a size fits, and the end of the chunks stands behind a chunk
+-- a size fits, and the end of the chunks stands after a chunk
 abbrev pub IsGoodHeader : Header → ℕ → Type 0
 IsGoodHeader Start octets = Unit {0}
 IsGoodHeader Line octets = Unit {0}
@@ -51,7 +52,7 @@ IsGoodHeader Close octets = 0 < octets
 pub record IsGood (s : Reading) : Type 0 where
   pub header : IsGoodHeader s.header (length s.message)
   pub octets : 0 < s.left → s.header ≡ Start
-  pub small : length s.message + s.left ≤ 4194304
+  pub small : length s.message + s.left ≤ message_limit
 
 -- one byte further into a header
 abbrev LeadsOn : Header → ℕ → ℕ → Header → Type 0
@@ -90,7 +91,7 @@ hash_on n b to e = elim (cond_is (b == 35 && nat_lt 0 n) (On Close) (digit_step 
 ]
 
 -- a digit more
-decimal_more : (size d : ℕ) → 0 < size → d < 10 → size * 10 + d ≤ 4294967295 → decimal (size * 10 + d) ≡ decimal size ++ (48 + d) ∷ []
+decimal_more : (size d : ℕ) → 0 < size → d < 10 → size * 10 + d ≤ largest_size → decimal (size * 10 + d) ≡ decimal size ++ (48 + d) ∷ []
 decimal_more size d some below fits =
     let quotient : (size * 10 + d) / 10 ≡ size = omega arith in
     let rest : (size * 10 + d) % 10 ≡ d = omega arith in
@@ -98,16 +99,16 @@ decimal_more size d some below fits =
 
 size_on : (size n b : ℕ) (to : Header) → IsSize size → header_step (Size size) n b ≡ On to → LeadsOn (Size size) n b to
 size_on size n b to good e = elim (cond_is (b == 10) (ended_step size n) (next_step size b) (On to) e) [
-  | inl p ↦ elim (cond_is (nat_lt (4194304 - n) size) (Stops TooBig) (Octets size) (On to) p.1) [
+  | inl p ↦ elim (cond_is (nat_lt (message_limit - n) size) (Stops TooBig) (Octets size) (On to) p.1) [
     | inl q ↦ absurd (let no : Stops TooBig ≡ On to = q.1 in cc)
     | inr q ↦ absurd (let no : Octets size ≡ On to = q.1 in cc)
   ]
   | inr p ↦ elim (cond_is (nat_le 48 b && nat_le b 57) (longer_step size b) (Stops Bad) (On to) p.1) [
-    | inl q ↦ elim (cond_is (nat_lt 4294967295 (size * 10 + (b - 48))) (Stops Bad) (On (Size (size * 10 + (b - 48)))) (On to) q.1) [
+    | inl q ↦ elim (cond_is (nat_lt largest_size (size * 10 + (b - 48))) (Stops Bad) (On (Size (size * 10 + (b - 48)))) (On to) q.1) [
       | inl r ↦ absurd (let no : Stops Bad ≡ On to = r.1 in cc)
       | inr r ↦ (let low : 48 ≤ b = grind (arith, nat_tests) in
           let high : b ≤ 57 = grind (arith, nat_tests) in
-          let fits : size * 10 + (b - 48) ≤ 4294967295 = grind (arith, nat_tests) in
+          let fits : size * 10 + (b - 48) ≤ largest_size = grind (arith, nat_tests) in
           let same : Size (size * 10 + (b - 48)) ≡ to = cc in
           let digits : decimal (size * 10 + (b - 48)) ≡ decimal size ++ b ∷ [] = decimal_more size (b - 48) good.0 (omega arith) fits ∙ ap (λ x. decimal size ++ x ∷ []) (omega arith) in
           subst (LeadsOn (Size size) n b) same (ap (λ l. 10 ∷ 35 ∷ l) digits, (omega (arith, good.0), fits)))
@@ -133,13 +134,13 @@ header_on Close n b to good e = close_on n b to e
 pub record EndsSize (h : Header) (n b size : ℕ) : Type 0 where
   pub header : h ≡ Size size
   pub byte : b ≡ 10
-  pub fits : n + size ≤ 4194304
+  pub fits : n + size ≤ message_limit
 
 not_on : (t : Bool) (x y : Header) (size : ℕ) → cond t (On x) (Stops Bad) ≡ Octets size → ⊥
 not_on true x y size e = cc
 not_on false x y size e = cc
 
-header_octets : (h : Header) (n b size : ℕ) → n ≤ 4194304 → header_step h n b ≡ Octets size → EndsSize h n b size
+header_octets : (h : Header) (n b size : ℕ) → n ≤ message_limit → header_step h n b ≡ Octets size → EndsSize h n b size
 header_octets Start n b size small e = absurd (not_on (b == 10) Line Line size e)
 header_octets Line n b size small e = absurd (not_on (b == 35) Hash Hash size e)
 header_octets Hash n b size small e = elim (cond_is (b == 35 && nat_lt 0 n) (On Close) (digit_step b) (Octets size) e) [
@@ -147,14 +148,14 @@ header_octets Hash n b size small e = elim (cond_is (b == 35 && nat_lt 0 n) (On 
   | inr p ↦ absurd (not_on (nat_lt 48 b && nat_le b 57) (Size (b - 48)) Line size p.1)
 ]
 header_octets (Size k) n b size small e = elim (cond_is (b == 10) (ended_step k n) (next_step k b) (Octets size) e) [
-  | inl p ↦ elim (cond_is (nat_lt (4194304 - n) k) (Stops TooBig) (Octets k) (Octets size) p.1) [
+  | inl p ↦ elim (cond_is (nat_lt (message_limit - n) k) (Stops TooBig) (Octets k) (Octets size) p.1) [
     | inl q ↦ absurd (let no : Stops TooBig ≡ Octets size = q.1 in cc)
     | inr q ↦ (let same : k ≡ size = cc in
-        let within : k ≤ 4194304 - n = grind (arith, nat_tests) in
+        let within : k ≤ message_limit - n = grind (arith, nat_tests) in
         record { header = ap Size same; byte = grind (arith, nat_tests); fits = omega arith })
   ]
   | inr p ↦ elim (cond_is (nat_le 48 b && nat_le b 57) (longer_step k b) (Stops Bad) (Octets size) p.1) [
-    | inl q ↦ elim (cond_is (nat_lt 4294967295 (k * 10 + (b - 48))) (Stops Bad) (On (Size (k * 10 + (b - 48)))) (Octets size) q.1) [
+    | inl q ↦ elim (cond_is (nat_lt largest_size (k * 10 + (b - 48))) (Stops Bad) (On (Size (k * 10 + (b - 48)))) (Octets size) q.1) [
       | inl r ↦ absurd (let no : Stops Bad ≡ Octets size = r.1 in cc)
       | inr r ↦ absurd (let no : On (Size (k * 10 + (b - 48))) ≡ Octets size = r.1 in cc)
     ]
@@ -166,7 +167,7 @@ header_octets Close n b size small e = elim (cond_is (b == 10) (Stops End) (Stop
   | inr p ↦ absurd (let no : Stops Bad ≡ Octets size = p.1 in cc)
 ]
 
--- With the octets that are still to come, `more`, the text behind s is these chunks and what there is
+-- With the octets that are still to come, `more`, the text after s is these chunks and what there is
 -- of a header at t. First come the octets that are still to come at s.
 pub record Comes (s : Reading) (bytes : List ℕ) (t : Reading) (more : List ℕ) : Type 0 where
   pub octets : List ℕ
@@ -217,7 +218,7 @@ leads_on h to m b good e =
     }
 
 -- a chunk of so many octets
-leads_size : (size : ℕ) (m : List ℕ) (b : ℕ) → IsGood (record { header = Size size; left = 0; message = m }) → b ≡ 10 → length m + size ≤ 4194304 → Leads (record { header = Size size; left = 0; message = m }) b (record { header = Start; left = size; message = m })
+leads_size : (size : ℕ) (m : List ℕ) (b : ℕ) → IsGood (record { header = Size size; left = 0; message = m }) → b ≡ 10 → length m + size ≤ message_limit → Leads (record { header = Size size; left = 0; message = m }) b (record { header = Start; left = size; message = m })
 leads_size size m b good lf fits = record {
   good = record { header = tt; octets = λ _. refl; small = fits };
   back = λ bytes t more w.
@@ -332,12 +333,12 @@ header_end Hash n b e = elim (cond_is (b == 35 && nat_lt 0 n) (On Close) (digit_
   | inr p ↦ absurd (not_end (nat_lt 48 b && nat_le b 57) (Size (b - 48)) p.1)
 ]
 header_end (Size k) n b e = elim (cond_is (b == 10) (ended_step k n) (next_step k b) (Stops End) e) [
-  | inl p ↦ elim (cond_is (nat_lt (4194304 - n) k) (Stops TooBig) (Octets k) (Stops End) p.1) [
+  | inl p ↦ elim (cond_is (nat_lt (message_limit - n) k) (Stops TooBig) (Octets k) (Stops End) p.1) [
     | inl q ↦ absurd (let no : Stops TooBig ≡ Stops End = q.1 in cc)
     | inr q ↦ absurd (let no : Octets k ≡ Stops End = q.1 in cc)
   ]
   | inr p ↦ elim (cond_is (nat_le 48 b && nat_le b 57) (longer_step k b) (Stops Bad) (Stops End) p.1) [
-    | inl q ↦ elim (cond_is (nat_lt 4294967295 (k * 10 + (b - 48))) (Stops Bad) (On (Size (k * 10 + (b - 48)))) (Stops End) q.1) [
+    | inl q ↦ elim (cond_is (nat_lt largest_size (k * 10 + (b - 48))) (Stops Bad) (On (Size (k * 10 + (b - 48)))) (Stops End) q.1) [
       | inl r ↦ absurd (let no : Stops Bad ≡ Stops End = r.1 in cc)
       | inr r ↦ absurd (let no : On (Size (k * 10 + (b - 48))) ≡ Stops End = r.1 in cc)
     ]
@@ -354,9 +355,9 @@ pub record EndsBigSize (h : Header) (n b : ℕ) : Type 0 where
   pub size : ℕ
   pub header : h ≡ Size size
   pub byte : b ≡ 10
-  pub big : 4194304 < n + size
+  pub big : message_limit < n + size
 
-header_big : (h : Header) (n b : ℕ) → n ≤ 4194304 → header_step h n b ≡ Stops TooBig → EndsBigSize h n b
+header_big : (h : Header) (n b : ℕ) → n ≤ message_limit → header_step h n b ≡ Stops TooBig → EndsBigSize h n b
 header_big Start n b small e = absurd (not_big (b == 10) Line e)
 header_big Line n b small e = absurd (not_big (b == 35) Hash e)
 header_big Hash n b small e = elim (cond_is (b == 35 && nat_lt 0 n) (On Close) (digit_step b) (Stops TooBig) e) [
@@ -364,13 +365,13 @@ header_big Hash n b small e = elim (cond_is (b == 35 && nat_lt 0 n) (On Close) (
   | inr p ↦ absurd (not_big (nat_lt 48 b && nat_le b 57) (Size (b - 48)) p.1)
 ]
 header_big (Size k) n b small e = elim (cond_is (b == 10) (ended_step k n) (next_step k b) (Stops TooBig) e) [
-  | inl p ↦ elim (cond_is (nat_lt (4194304 - n) k) (Stops TooBig) (Octets k) (Stops TooBig) p.1) [
-    | inl q ↦ (let past : 4194304 - n < k = grind (arith, nat_tests) in
+  | inl p ↦ elim (cond_is (nat_lt (message_limit - n) k) (Stops TooBig) (Octets k) (Stops TooBig) p.1) [
+    | inl q ↦ (let past : message_limit - n < k = grind (arith, nat_tests) in
         record { size = k; header = refl; byte = grind (arith, nat_tests); big = omega arith })
     | inr q ↦ absurd (let no : Octets k ≡ Stops TooBig = q.1 in cc)
   ]
   | inr p ↦ elim (cond_is (nat_le 48 b && nat_le b 57) (longer_step k b) (Stops Bad) (Stops TooBig) p.1) [
-    | inl q ↦ elim (cond_is (nat_lt 4294967295 (k * 10 + (b - 48))) (Stops Bad) (On (Size (k * 10 + (b - 48)))) (Stops TooBig) q.1) [
+    | inl q ↦ elim (cond_is (nat_lt largest_size (k * 10 + (b - 48))) (Stops Bad) (On (Size (k * 10 + (b - 48)))) (Stops TooBig) q.1) [
       | inl r ↦ absurd (let no : Stops Bad ≡ Stops TooBig = r.1 in cc)
       | inr r ↦ absurd (let no : On (Size (k * 10 + (b - 48))) ≡ Stops TooBig = r.1 in cc)
     ]

@@ -7,13 +7,14 @@ use Rattle.std.proofs.lemmas.List.{append_assoc, append-nil, length-append}
 use Rattle.std.proofs.lemmas.Fmt.{decimal_by_steps}
 use Rattle.std.proofs.lemmas.Bool.{cases_lt}
 use Rattle.std.proofs.lemmas.Bool.Decides.{nat_tests}
+use Rattle.nc_names.specs.Limits.{message_limit}
 use Rattle.nc_frames.specs.declared.header.Header.{Header}
 use Rattle.nc_frames.specs.declared.header.Header.TheVariants.{Start, Hash, Size, Close}
 use Rattle.nc_frames.specs.declared.header.Step.TheVariants.{On, Octets, Stop as Stops}
 use Rattle.nc_frames.specs.declared.header.Stop.{Stop}
 use Rattle.nc_frames.specs.declared.header.Stop.TheVariants.{End, Bad, TooBig}
-use Rattle.nc_frames.specs.Framing.{chunk, end_of_chunks, IsSize, IsChunk}
-use Rattle.nc_frames.specs.Steps.{Reading, run, step, stepped, start_of, hash_step, size_step, StopsAt}
+use Rattle.nc_frames.specs.Framing.{chunk, end_of_chunks, IsSize, IsChunk, largest_size}
+use Rattle.nc_frames.specs.inner.Steps.{Reading, run, step, stepped, start_of, hash_step, size_step, StopsAt}
 use Rattle.nc_frames.proofs.StepLemmas.{run-append-some, run-octets, run-header}
 use Rattle.nc_frames.proofs.ChunkLemmas.{some_from_and}
 
@@ -25,13 +26,13 @@ hash_digit n o some small =
     let high : nat_le (48 + n) 57 ≡ true = grind (arith, nat_tests) in
     rw (other, low, high) (ap (λ k. On (Size k)) (omega arith))
 
-size_digit : (n o : ℕ) → n ≤ 4294967295 → size_step (n / 10) o (48 + n % 10) ≡ On (Size n)
+size_digit : (n o : ℕ) → n ≤ largest_size → size_step (n / 10) o (48 + n % 10) ≡ On (Size n)
 size_digit n o fits =
     let other : ((48 + n % 10) == 10) ≡ false = grind (arith, nat_tests) in
     let low : nat_le 48 (48 + n % 10) ≡ true = grind (arith, nat_tests) in
     let high : nat_le (48 + n % 10) 57 ≡ true = grind (arith, nat_tests) in
     let is : n / 10 * 10 + (48 + n % 10 - 48) ≡ n = omega arith in
-    let within : nat_lt 4294967295 n ≡ false = grind (arith, nat_tests) in
+    let within : nat_lt largest_size n ≡ false = grind (arith, nat_tests) in
     rw (other, low, high, is, within) refl
 
 abbrev pub at_header : Header → List ℕ → Reading
@@ -52,24 +53,24 @@ pub run-size : (m : List ℕ) (n : ℕ) → IsSize n → run (10 ∷ 35 ∷ deci
 unfolding run step
 run-size m n size = run-decimal m n size
 
-small_size : (m : List ℕ) (n : ℕ) → length m + n ≤ 4194304 → size_step n (length m) 10 ≡ Octets n
+small_size : (m : List ℕ) (n : ℕ) → length m + n ≤ message_limit → size_step n (length m) 10 ≡ Octets n
 small_size m n fits =
-    let within : nat_lt (4194304 - length m) n ≡ false = grind (arith, nat_tests) in
+    let within : nat_lt (message_limit - length m) n ≡ false = grind (arith, nat_tests) in
     rw within refl
 
-pub big_size : (m : List ℕ) (n : ℕ) → 0 < n → 4194304 < length m + n → size_step n (length m) 10 ≡ Stops TooBig
+pub big_size : (m : List ℕ) (n : ℕ) → 0 < n → message_limit < length m + n → size_step n (length m) 10 ≡ Stops TooBig
 big_size m n some past =
-    let beyond : nat_lt (4194304 - length m) n ≡ true = grind (arith, nat_tests) in
+    let beyond : nat_lt (message_limit - length m) n ≡ true = grind (arith, nat_tests) in
     rw beyond refl
 
 -- a chunk
-run-chunk : (m os : List ℕ) → IsChunk os → length m + length os ≤ 4194304 → run (chunk os) (start_of m) ≡ Some (start_of (m ++ os))
+run-chunk : (m os : List ℕ) → IsChunk os → length m + length os ≤ message_limit → run (chunk os) (start_of m) ≡ Some (start_of (m ++ os))
 run-chunk m os is fits =
     run-append-some (10 ∷ 35 ∷ decimal (length os)) (10 ∷ os) (start_of m) (at_header (Size (length os)) m) (run-size m (length os) is)
     ∙ run-append-some (10 ∷ []) os (at_header (Size (length os)) m) (record { header = Start; left = length os; message = m }) (run-header 10 (Size (length os)) m ∙ ap (λ st. stepped st m) (small_size m (length os) fits))
     ∙ run-octets os Start (length os) 0 m (omega arith)
 
-pub run-chunks : (cs : List (List ℕ)) (m : List ℕ) → AllByRecursion IsChunk cs → length m + length (concat cs) ≤ 4194304 → run (flat_map chunk cs) (start_of m) ≡ Some (start_of (m ++ concat cs))
+pub run-chunks : (cs : List (List ℕ)) (m : List ℕ) → AllByRecursion IsChunk cs → length m + length (concat cs) ≤ message_limit → run (flat_map chunk cs) (start_of m) ≡ Some (start_of (m ++ concat cs))
 unfolding run
 run-chunks [] m each fits = ap (λ l. Some (start_of l)) (sym (append-nil m))
 run-chunks (c ∷ cs) m each fits =
@@ -112,7 +113,7 @@ Halts-after xs ys s t e h = record {
   not_bad = h.not_bad;
 }
 
-pub halts : (cs : List (List ℕ)) (m : List ℕ) → AllByRecursion IsChunk cs → (cs ≡ [] → 0 < length m) → length m ≤ 4194304 → Halts (start_of m) (flat_map chunk cs ++ end_of_chunks)
+pub halts : (cs : List (List ℕ)) (m : List ℕ) → AllByRecursion IsChunk cs → (cs ≡ [] → 0 < length m) → length m ≤ message_limit → Halts (start_of m) (flat_map chunk cs ++ end_of_chunks)
 halts [] m each some small = record {
   front = 10 ∷ 35 ∷ 35 ∷ [];
   byte = 10;
@@ -124,7 +125,7 @@ halts [] m each some small = record {
   stops = record { left = refl; stops = refl };
   not_bad = λ e. cc;
 }
-halts (c ∷ cs) m each some small = elim (cases_lt 4194304 (length m + length c)) [
+halts (c ∷ cs) m each some small = elim (cases_lt message_limit (length m + length c)) [
   | inl past ↦ subst (Halts (start_of m)) (sym (append_assoc (chunk c) (flat_map chunk cs) end_of_chunks)) (subst (Halts (start_of m)) (sym (append_assoc (10 ∷ 35 ∷ decimal (length c)) (10 ∷ c) (flat_map chunk cs ++ end_of_chunks))) (record {
     front = 10 ∷ 35 ∷ decimal (length c);
     byte = 10;

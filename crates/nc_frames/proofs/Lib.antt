@@ -10,3 +10,7 @@ pub mod RunLemmas
 pub mod ReadingLemmas
 pub mod AnswerLemmas
 pub mod BadLemmas
+pub mod OneLemmas
+pub mod BoundLemmas
+pub mod FrameLemmas
+mod Worked

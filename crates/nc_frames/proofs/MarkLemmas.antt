@@ -1,15 +1,15 @@
 -- Where the mark stands.
-use Rattle.std.proofs.Common.{◌≡◌, ◌≢◌, ◌⊎◌, inl, inr, ℕ, ◌+◌, ◌<◌, suc, List, [], ◌∷◌, ◌++◌, length, get_or, take, ◌-◌, ◌≤◌, refl, ap, sym, ◌∙◌, subst, arith}
-use Rattle.std.proofs.lemmas.List.{append_assoc, append-nil, same_from_push, take_more, length-take-le, get_or-take}
+use Rattle.std.proofs.Common.{◌≡◌, ◌≢◌, ◌⊎◌, inl, inr, ℕ, ◌+◌, ◌<◌, suc, List, [], ◌∷◌, ◌++◌, length, get_or, take, drop, ◌-◌, ◌≤◌, refl, ap, sym, ◌∙◌, subst, arith}
+use Rattle.std.proofs.lemmas.List.{append_assoc, append-nil, same_from_push, take_more, length-take-le, length-drop, get_or-take}
 use Rattle.nc_frames.specs.Framing.{mark, HasNoMark}
-use Rattle.nc_frames.specs.Kept.{EndsInMark, IsStretch}
+use Rattle.nc_frames.specs.inner.Marks.{EndsInMark, IsStretch}
 
 -- a list has nothing, or a last element
 pub last_of : (xs : List ℕ) → (xs ≡ []) ⊎ ((front : List ℕ) × (last : ℕ) × (xs ≡ front ++ last ∷ []))
 last_of [] = inl refl
 last_of (x ∷ xs) = elim (last_of xs) [ inl e ↦ inr ([], x, ap (λ l. x ∷ l) e) | inr p ↦ inr (x ∷ p.0, p.1, ap (λ l. x ∷ l) p.2) ]
 
--- where a mark stands, with something behind it, it stands in what is before the last byte too
+-- where a mark stands, with something after it, it stands in what is before the last byte too
 before_last : (t : List ℕ) (b : ℕ) (before front : List ℕ) (last : ℕ) → t ++ b ∷ [] ≡ before ++ (mark ++ (front ++ last ∷ [])) → t ≡ before ++ (mark ++ front)
 before_last t b before front last e = (same_from_push t (before ++ (mark ++ front)) b last (e ∙ sym (append_assoc before (mark ++ front) (last ∷ [])))).0
 
@@ -32,13 +32,13 @@ HasNoMark-more (b ∷ bs) t none other =
 regrouped : (old new front : List ℕ) (last : ℕ) → new ≡ old ++ (front ++ last ∷ []) → (old ++ front) ++ last ∷ [] ≡ new
 regrouped old new front last e = append_assoc old front (last ∷ []) ∙ sym e
 
--- a stretch behind which no mark ends holds none
+-- a stretch after which no mark ends holds none
 pub HasNoMark-stretch : (old new : List ℕ) → HasNoMark old → IsStretch old new → ((before : List ℕ) → new ≢ before ++ mark) → HasNoMark new
 HasNoMark-stretch old new none s no_end =
     let e = regrouped old new s.front s.last s.new_is in
     subst HasNoMark e (HasNoMark-push (old ++ s.front) s.last (HasNoMark-more s.front old none s.none) (λ before h. no_end before (sym e ∙ h)))
 
--- the first mark that ends behind a stretch
+-- the first mark that ends after a stretch
 pub EndsInMark-stretch : (old new before : List ℕ) → HasNoMark old → IsStretch old new → new ≡ before ++ mark → EndsInMark new
 EndsInMark-stretch old new before none s ends =
     let e = regrouped old new s.front s.last s.new_is in
@@ -66,3 +66,7 @@ IsStretch-take old new rest count some within other e =
           let below : k < n = omega arith in
           λ is_mark. other k (omega arith) (sym (get_or-take n rest k 0 below) ∙ is_mark);
     }
+
+-- fewer bytes wait
+pub drop_is_shorter : (xs ys : List ℕ) (count : ℕ) → ys ≡ drop count xs → 0 < count → 0 < length xs → length ys < length xs
+drop_is_shorter xs ys count e some any = omega (arith, ap length e, length-drop count xs)

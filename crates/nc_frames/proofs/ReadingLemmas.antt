@@ -1,12 +1,11 @@
--- A stream has one reading.
-use Rattle.std.proofs.Common.{◌≡◌, ◌≢◌, ◌⊎◌, inl, inr, ℕ, ◌+◌, ◌%◌, ◌^◌, ◌<◌, ◌≤◌, List, [], ◌∷◌, ◌++◌, length, map, refl, ap, sym, ◌∙◌, arith}
-use Rattle.std.specs.List.{flat_map, concat, AllByRecursion}
+-- Of two messages at the front of one list both are one.
+use Rattle.std.proofs.Common.{◌≡◌, ◌≢◌, ◌⊎◌, inl, inr, ℕ, ◌+◌, ◌%◌, ◌^◌, ◌<◌, ◌≤◌, List, [], ◌∷◌, ◌++◌, length, refl, ap, sym, ◌∙◌, arith}
+use Rattle.std.specs.List.{flat_map, AllByRecursion}
 use Rattle.std.specs.Fmt.{decimal}
 use Rattle.std.specs.Str.Parse.{digits_value}
 use Rattle.std.proofs.lemmas.List.{append_assoc, append-nil, length-append, append_cancel_left, append_cancel_right}
 use Rattle.std.proofs.lemmas.Fmt.{decimal_by_steps, decimal_is_IsNumeral}
-use Rattle.nc_frames.specs.Framing.{Marks, Chunks, mark, HasNoMark, IsMarked, with_mark, chunk, end_of_chunks, in_chunks, IsChunk, AreChunks, IsPartialChunks}
-use Rattle.nc_frames.specs.Runs.{HasOneReading}
+use Rattle.nc_frames.specs.Framing.{mark, IsMarked, with_mark, chunk, end_of_chunks, in_chunks, IsChunk, AreChunks, IsPartialChunks}
 
 -- of two beginnings of one list one begins the other
 abbrev pub IsLonger : (a b x y : List ℕ) → Type 0
@@ -34,17 +33,6 @@ one_marked m n x y p q e = elim (splits (with_mark m) (with_mark n) x y e) [
   | inl w ↦ (let s = same_marked m n w.0 q w.1 in (s.0, w.2 ∙ ap (λ l. l ++ y) s.1))
   | inr w ↦ (let s = same_marked n m w.0 p w.1 in (sym s.0, sym (w.2 ∙ ap (λ l. l ++ x) s.1)))
 ]
-
-pub marked_stream_one : (ms ns : List (List ℕ)) (x y : List ℕ) → AllByRecursion IsMarked ms → AllByRecursion IsMarked ns → HasNoMark x → HasNoMark y → flat_map with_mark ms ++ x ≡ flat_map with_mark ns ++ y → (ms ≡ ns) × (x ≡ y)
-marked_stream_one [] [] x y p q nx ny e = (refl, e)
-marked_stream_one [] (n ∷ ns) x y p q nx ny e =
-    absurd (nx n (flat_map with_mark ns ++ y) (e ∙ append_assoc (with_mark n) (flat_map with_mark ns) y ∙ append_assoc n mark (flat_map with_mark ns ++ y)))
-marked_stream_one (m ∷ ms) [] x y p q nx ny e =
-    absurd (ny m (flat_map with_mark ms ++ x) (sym e ∙ append_assoc (with_mark m) (flat_map with_mark ms) x ∙ append_assoc m mark (flat_map with_mark ms ++ x)))
-marked_stream_one (m ∷ ms) (n ∷ ns) x y p q nx ny e =
-    let heads = one_marked m n (flat_map with_mark ms ++ x) (flat_map with_mark ns ++ y) p.0 q.0 (sym (append_assoc (with_mark m) (flat_map with_mark ms) x) ∙ e ∙ append_assoc (with_mark n) (flat_map with_mark ns) y) in
-    let tails = marked_stream_one ms ns x y p.1 q.1 nx ny heads.1 in
-    (ap (λ a. a ∷ ms) heads.0 ∙ ap (λ l. n ∷ l) tails.0, tails.1)
 
 -- no byte of a decimal is below `0`
 abbrev AreDigits : List ℕ → Type 0
@@ -86,7 +74,7 @@ same_front (x ∷ c) (y ∷ d) u v len e =
     let w = same_front c d u v (omega (arith, len)) tails in
     (ap (λ a. a ∷ c) head ∙ ap (λ l. y ∷ l) w.0, w.1)
 
--- what stands behind LF # of a chunk
+-- what stands after LF # of a chunk
 chunk_text : (c u : List ℕ) → chunk c ++ u ≡ 10 ∷ 35 ∷ (decimal (length c) ++ 10 ∷ (c ++ u))
 chunk_text c u = append_assoc (10 ∷ 35 ∷ decimal (length c)) (10 ∷ c) u
 
@@ -134,20 +122,3 @@ pub partial_has_none : (cs : List (List ℕ)) (rest more : List ℕ) → AreChun
 partial_has_none cs rest more each part = λ e.
     let w = one_in_chunks part.chunks cs [] (more ++ part.more) part.each.1 each.1 (append-nil (in_chunks part.chunks) ∙ part.whole ∙ ap (λ l. l ++ part.more) e ∙ append_assoc (in_chunks cs) more part.more) in
     part.some (nil_right more part.more (sym w.1))
-
-chunked_stream_one : (ms ns : List (List (List ℕ))) (x y : List ℕ) → AllByRecursion AreChunks ms → AllByRecursion AreChunks ns → IsPartialChunks x → IsPartialChunks y → flat_map in_chunks ms ++ x ≡ flat_map in_chunks ns ++ y → (ms ≡ ns) × (x ≡ y)
-chunked_stream_one [] [] x y p q px py e = (refl, e)
-chunked_stream_one [] (n ∷ ns) x y p q px py e =
-    absurd (partial_has_none n x (flat_map in_chunks ns ++ y) q.0 px (e ∙ append_assoc (in_chunks n) (flat_map in_chunks ns) y))
-chunked_stream_one (m ∷ ms) [] x y p q px py e =
-    absurd (partial_has_none m y (flat_map in_chunks ms ++ x) p.0 py (sym e ∙ append_assoc (in_chunks m) (flat_map in_chunks ms) x))
-chunked_stream_one (m ∷ ms) (n ∷ ns) x y p q px py e =
-    let heads = one_in_chunks m n (flat_map in_chunks ms ++ x) (flat_map in_chunks ns ++ y) p.0.1 q.0.1 (sym (append_assoc (in_chunks m) (flat_map in_chunks ms) x) ∙ e ∙ append_assoc (in_chunks n) (flat_map in_chunks ns) y) in
-    let tails = chunked_stream_one ms ns x y p.1 q.1 px py heads.1 in
-    (ap (λ a. a ∷ ms) heads.0 ∙ ap (λ l. n ∷ l) tails.0, tails.1)
-
-pub one_reading : HasOneReading
-one_reading Marks bytes ms ns rest other s t = marked_stream_one ms ns rest other s.each t.each s.partial t.partial (sym s.whole ∙ t.whole)
-one_reading Chunks bytes ms ns rest other s t =
-    let w = chunked_stream_one s.chunks t.chunks rest other s.each t.each s.partial t.partial (sym s.whole ∙ t.whole) in
-    (s.messages_are ∙ ap (map concat) w.0 ∙ sym t.messages_are, w.1)

@@ -4,9 +4,11 @@ use Rattle.std.proofs.lemmas.List.{append_assoc, append-nil, length-append}
 use Rattle.nc_frames.specs.declared.chunks.Reader.{Reader}
 use Rattle.nc_frames.specs.declared.header.Stop.TheVariants.{Bad, TooBig}
 use Rattle.nc_frames.specs.Framing.{Chunks, AnnouncesTooMuch, IsUnfinished, IsBad}
-use Rattle.nc_frames.specs.Steps.{run, start}
-use Rattle.nc_frames.specs.Kept.{Chunking, Gives, IsReadTo, capped, reading_of}
-use Rattle.nc_frames.specs.Turns.{Advances, EndsMessage, StopsBefore}
+use Rattle.nc_frames.specs.inner.Steps.{run, start}
+use Rattle.nc_frames.specs.Framing.{capped}
+use Rattle.nc_frames.specs.Replies.{Gives, Unread}
+use Rattle.nc_frames.specs.inner.Kept.{Chunking, IsReadTo, reading_of}
+use Rattle.nc_frames.specs.inner.Turns.{Advances, EndsMessage, StopsBefore}
 use Rattle.nc_frames.proofs.StepLemmas.{run-append-some}
 use Rattle.nc_frames.proofs.ChunkLemmas.{good, whole, big}
 use Rattle.nc_frames.proofs.StreamLemmas.{unfinished, bad}
@@ -26,7 +28,7 @@ IsReadTo-all b ys first bytes none r =
     unfinished bytes (reading_of b) (ap (λ l. run l start) all ∙ r.reads)
 
 pub Gives-ended : (a b : Reader) (xs ys : List ℕ) (first : ℕ) (bytes message : List ℕ) → EndsMessage a xs b ys → IsReadTo a.place (reading_of a) xs first bytes → message ≡ b.message → Gives (Chunking b.place (record { header = b.header; left = b.left; message = [] }) ys) Chunks first bytes message
-unfolding run
+unfolding run Unread
 Gives-ended a b xs ys first bytes message p r same =
     let taken : List ℕ = r.taken ++ p.taken in
     let reads : run taken start ≡ Some p.at = run-append-some r.taken p.taken start (reading_of a) r.reads ∙ p.reads in
@@ -35,8 +37,10 @@ Gives-ended a b xs ys first bytes message p r same =
       framed = taken ++ p.byte ∷ [];
       rest = ys;
       bytes_are = r.bytes_are ∙ ap (λ l. r.taken ++ l) p.bytes_are ∙ sym (append_assoc r.taken p.taken (p.byte ∷ ys)) ∙ sym (append_assoc taken (p.byte ∷ []) ys);
-      is_framed = rw is (whole taken p.at p.byte reads p.stops);
-      small = omega (arith, ap length is, (good taken p.at reads).small);
+      is_message = record {
+        is_framed = rw is (whole taken p.at p.byte reads p.stops);
+        small = omega (arith, ap length is, (good taken p.at reads).small);
+      };
       unread = record {
         taken = [];
         bytes_are = refl;

@@ -3,7 +3,7 @@ use Rattle.std.proofs.Common.{◌≡◌, ℕ, suc, ◌+◌, List, [], ◌∷◌,
 use Rattle.std.specs.Option.{option_and_then}
 use Rattle.std.proofs.lemmas.List.{append_assoc, append-nil}
 use Rattle.nc_frames.specs.declared.header.Header.{Header}
-use Rattle.nc_frames.specs.Steps.{Reading, run, step, stepped, header_step}
+use Rattle.nc_frames.specs.inner.Steps.{Reading, run, step, stepped, header_step}
 
 -- reading two pieces one after the other
 pub run-append : (xs ys : List ℕ) (s : Reading) → run (xs ++ ys) s ≡ option_and_then (run ys) (run xs s)

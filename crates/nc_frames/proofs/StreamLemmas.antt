@@ -10,7 +10,7 @@ use Rattle.nc_frames.specs.declared.header.Header.{Header}
 use Rattle.nc_frames.specs.declared.header.Header.TheVariants.{Start, Line, Hash, Size, Close}
 use Rattle.nc_frames.specs.declared.header.Stop.TheVariants.{Bad, TooBig}
 use Rattle.nc_frames.specs.Framing.{Chunks, chunk, end_of_chunks, IsChunk, IsPartialChunks, AnnouncesTooMuch, IsUnfinished, IsBad}
-use Rattle.nc_frames.specs.Steps.{Reading, run, step, start, start_of, StopsAt}
+use Rattle.nc_frames.specs.inner.Steps.{Reading, run, step, start, start_of, StopsAt}
 use Rattle.nc_frames.proofs.StepLemmas.{run-append-some}
 use Rattle.nc_frames.proofs.ChunkLemmas.{text_of, IsGoodHeader, came, good}
 use Rattle.nc_frames.proofs.ChunkReads.{at_header, run-size, run-chunks, big_size, halts, stops_step, same_stop}
@@ -19,7 +19,7 @@ AreChunks-append : (xs ys : List (List ℕ)) → AllByRecursion IsChunk xs → A
 AreChunks-append [] ys p q = q
 AreChunks-append (x ∷ xs) ys p q = (p.0, AreChunks-append xs ys p.1 q)
 
--- how a message may go on behind what there is of a header, after so many octets
+-- how a message may go on after what there is of a header, after so many octets
 record Finish (h : Header) (octets : ℕ) : Type 0 where
   tail : List ℕ
   last : List (List ℕ)
@@ -105,7 +105,7 @@ stops_big bytes place a = record {
   place_is = a.place_is;
 }
 
--- what is behind a byte that leads nowhere is not read
+-- what is after a byte that leads nowhere is not read
 pub run_past : (front : List ℕ) (b : ℕ) (rest : List ℕ) (s t : Reading) → run front s ≡ Some t → step t b ≡ None → run (front ++ b ∷ rest) s ≡ None
 unfolding run
 run_past front b rest s t e none = run-append-some front (b ∷ rest) s t e ∙ ap (λ o. option_and_then (λ u. run rest u) o) none

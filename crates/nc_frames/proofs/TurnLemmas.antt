@@ -7,9 +7,10 @@ use Rattle.nc_frames.specs.declared.header.Step.{Step}
 use Rattle.nc_frames.specs.declared.header.Step.TheVariants.{Stop as Stops}
 use Rattle.nc_frames.specs.declared.header.Stop.{Stop}
 use Rattle.nc_frames.specs.declared.header.Stop.TheVariants.{End, Bad, TooBig}
-use Rattle.nc_frames.specs.Steps.{run, stepped, header_step}
-use Rattle.nc_frames.specs.Kept.{capped, reading_of}
-use Rattle.nc_frames.specs.Turns.{Advances, StopsBefore, EndsMessage, Turned, IsFurther}
+use Rattle.nc_frames.specs.inner.Steps.{run, stepped, header_step}
+use Rattle.nc_frames.specs.Framing.{capped}
+use Rattle.nc_frames.specs.inner.Kept.{reading_of}
+use Rattle.nc_frames.specs.inner.Turns.{Advances, StopsBefore, EndsMessage, Turned, IsFurther}
 use Rattle.nc_frames.proofs.StepLemmas.{run-append-some, run-header, run-octets}
 
 pub Advances-none : (a : Reader) (bytes : List ℕ) → Advances a bytes a bytes
@@ -104,7 +105,7 @@ Advances-octets a b n xs within some header left message moved =
       further = subst (IsFurther a.place b.place) (sym len) (IsFurther-moved a.place b.place n moved);
     }
 
--- bytes behind those that are read
+-- bytes after those that are read
 pub Advances-more : {a b : Reader} {xs ys : List ℕ} (zs : List ℕ) → Advances a xs b ys → Advances a (xs ++ zs) b (ys ++ zs)
 Advances-more {a} {b} {xs} {ys} zs p = record {
   taken = p.taken;

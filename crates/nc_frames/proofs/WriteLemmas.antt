@@ -4,7 +4,7 @@ use Rattle.std.specs.List.{flat_map, concat, AllByRecursion}
 use Rattle.std.proofs.lemmas.List.{append_assoc, append-nil, length-take-le, length-drop, take-append-drop}
 use Rattle.std.proofs.lemmas.List.Concat.{flat_map-append}
 use Rattle.nc_frames.specs.Framing.{chunk, end_of_chunks}
-use Rattle.nc_frames.specs.Writing.{IsCut, AppendsChunks, AppendsPart}
+use Rattle.nc_frames.specs.Writing.{IsCut, AppendsChunks}
 
 abbrev pub IsFull : ℕ → List ℕ → Type 0
 IsFull size octets = length octets ≡ size
@@ -65,7 +65,3 @@ Cutting-end size old now new end body rest c few e f = record {
       f ∙ ap (λ l. l ++ end_of_chunks) (e ∙ written_push old now c.chunks rest c.now_is)
       ∙ append_assoc old (flat_map chunk (c.chunks ++ rest ∷ [])) end_of_chunks;
 }
-
--- parts one after the other
-pub AppendsPart-then : (old now new part : List ℕ) → now ≡ old ++ part → AppendsPart now new → AppendsPart old new
-AppendsPart-then old now new part e p = record { part = part ++ p.part; new_is = p.new_is ∙ ap (λ l. l ++ p.part) e ∙ append_assoc old part p.part }

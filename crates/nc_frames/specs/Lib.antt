@@ -1,6 +1,6 @@
 pub mod Framing
-pub mod Steps
-pub mod Kept
+pub mod Replies
+pub mod Streams
 pub mod Writing
-pub mod Turns
-pub mod Runs
+pub mod Laws
+pub mod inner

@@ -3,6 +3,10 @@ use Rattle.std.specs.Prelude.{◌≡◌, ℕ, ◌<◌, ◌≤◌, List, [], ◌�
 use Rattle.std.specs.List.{concat}
 use Rattle.nc_frames.specs.Framing.{in_chunks}
 
+-- how many octets the chunks have that are written, but for the last of a message
+abbrev pub written_chunk : ℕ
+written_chunk = 65536
+
 -- chunks of this many octets, and a last one of as many or fewer
 abbrev pub IsCut : ℕ → List (List ℕ) → Type 0
 IsCut size [] = ⊥
@@ -15,8 +19,3 @@ pub record AppendsChunks (size : ℕ) (old new message : List ℕ) : Type 0 wher
   pub cut : IsCut size chunks
   pub message_is : concat chunks ≡ message
   pub new_is : new ≡ old ++ in_chunks chunks
-
--- something was put at the end
-pub record AppendsPart (old new : List ℕ) : Type 0 where
-  pub part : List ℕ
-  pub new_is : new ≡ old ++ part

@@ -2,8 +2,9 @@
 ghost use Rattle.std.specs.Prelude.{◌≡◌, ◌++◌, ◌+◌, ◌-◌, ◌^◌, ◌<◌, ◌≤◌, ◌∷◌, min, drop, List, ℕ, [], length, IsNone, IfOk, OnOk, OnErr};
 ghost use Rattle.nc_frames.specs.declared.header.Header.TheVariants.{Start};
 ghost use Rattle.nc_frames.specs.Framing.{Chunks};
-ghost use Rattle.nc_frames.specs.Kept.{Chunking, IsReadTo, Replies, reading_of};
-ghost use Rattle.nc_frames.specs.Turns.{Advances, Turned};
+ghost use Rattle.nc_frames.specs.Replies.{Replies};
+ghost use Rattle.nc_frames.specs.inner.Kept.{Kept, Chunking, IsReadTo, reading_of};
+ghost use Rattle.nc_frames.specs.inner.Turns.{Advances, Turned};
 
 use crate::FrameFault;
 use crate::header::{Header, Step, Stop};
@@ -12,7 +13,7 @@ use nc_names::{Bytes, Memory};
 use std::alloc::Global;
 use std::mem::replace;
 
-/// The next message, out of what is read of it and what waits.
+// The next message, out of what is read of it and what waits.
 pub(crate) fn chunked_message(
     alloc: Global,
     reader: &mut Reader,
@@ -21,7 +22,8 @@ pub(crate) fn chunked_message(
 ) -> Result<Option<Bytes>, FrameFault>
     ensures { (first : ℕ) (bytes : List ℕ)
         → IsReadTo reader.old.place (reading_of reader.old) (earlier.old ++ waiting.old) first bytes
-        → Replies result (Chunking reader.new.place (reading_of reader.new) (earlier.new ++ waiting.new)) Chunks first bytes }
+        → (let kept : Kept = Chunking reader.new.place (reading_of reader.new) (earlier.new ++ waiting.new) in
+        Replies result kept Chunks first bytes) }
 {
     match reader.read_both(earlier, waiting)? {
         None => Ok(None),
@@ -31,22 +33,22 @@ pub(crate) fn chunked_message(
     }
 }
 
-/// How far the reading of a message has come.
+// How far the reading of a message has come.
 #[derive(Debug, Drop)]
 pub(crate) struct Reader {
-    /// What has come of the message. With the end-of-message mark its bytes may stand here too.
+    // What has come of the message. With the end-of-message mark its bytes may stand here too.
     pub(crate) message: Bytes,
-    /// The place of the next byte, or with the end-of-message mark that of the message's first byte,
-    /// counted from the session's first byte. It stays at 2^64 - 1 where it would be larger.
+    // The place of the next byte, or with the end-of-message mark that of the message's first byte,
+    // counted from the session's first byte. It stays at 2^64 - 1 where it would be larger.
     pub(crate) place: u64,
-    /// What has come of a header.
+    // What has come of a header.
     pub(crate) header: Header,
-    /// How many octets of the chunk are still to come.
+    // How many octets of the chunk are still to come.
     pub(crate) left: u32,
 }
 
 impl Reader {
-    /// Nothing of the stream's first message.
+    // Nothing of the stream's first message.
     pub(crate) fn new(message: Bytes) -> Reader
         ensures { result ≡ record { message = message; place = 0; header = Start; left = 0 } }
     {
@@ -58,15 +60,17 @@ impl Reader {
         }
     }
 
-    /// Reads on in `earlier`, and then in `waiting`.
+    // Reads on in `earlier`, and then in `waiting`.
     fn read_both(
         &mut self,
         earlier: &mut Source,
         waiting: &mut Source,
     ) -> Result<Option<Stop>, Memory>
-        ensures read { IfOk result (λ stop. Turned stop self.old (earlier.old ++ waiting.old) self.new (earlier.new ++ waiting.new)) }
+        ensures read { IfOk result (λ stop.
+            Turned stop self.old (earlier.old ++ waiting.old) self.new (earlier.new ++ waiting.new)) }
         ensures all { IfOk result (λ stop. IsNone stop → earlier.new ++ waiting.new ≡ []) }
-        ensures err { OnErr result (Advances self.old (earlier.old ++ waiting.old) self.new (earlier.new ++ waiting.new)) }
+        ensures err { OnErr result
+            (Advances self.old (earlier.old ++ waiting.old) self.new (earlier.new ++ waiting.new)) }
     {
         if let Some(stop) = self.read(earlier)? {
             return Ok(Some(stop));
@@ -74,8 +78,8 @@ impl Reader {
         self.read(waiting)
     }
 
-    /// Reads on until a byte leads nowhere in the message, and says why it does not; `None` where no
-    /// byte is left. A byte that ends the message is taken too.
+    // Reads on until a byte leads nowhere in the message, and says why it does not; `None` where no
+    // byte is left. A byte that ends the message is taken too.
     fn read(&mut self, source: &mut Source) -> Result<Option<Stop>, Memory>
         ensures read { IfOk result (λ stop. Turned stop self.old source.old self.new source.new) }
         ensures all { IfOk result (λ stop. IsNone stop → source.new ≡ []) }
@@ -89,7 +93,7 @@ impl Reader {
         Ok(None)
     }
 
-    /// Reads the octets of the chunk that have come, or one byte of a header.
+    // Reads the octets of the chunk that have come, or one byte of a header.
     fn turn(&mut self, source: &mut Source, byte: u8) -> Result<Option<Stop>, Memory>
         requires { (rest : List ℕ) × (source.old ≡ byte ∷ rest) }
         ensures read { IfOk result (λ stop. Turned stop self.old source.old self.new source.new) }
@@ -104,7 +108,7 @@ impl Reader {
         }
     }
 
-    /// Reads one byte of a header, or of the end of the chunks.
+    // Reads one byte of a header, or of the end of the chunks.
     fn read_header(&mut self, source: &mut Source, byte: u8) -> Option<Stop>
         requires left { self.old.left ≡ 0 }
         requires byte { (rest : List ℕ) × (source.old ≡ byte ∷ rest) }
@@ -133,7 +137,7 @@ impl Reader {
         }
     }
 
-    /// Takes octets of the chunk, as many as there are.
+    // Takes octets of the chunk, as many as there are.
     fn read_octets(&mut self, source: &mut Source) -> Result<(), Memory>
         requires left { 0 < self.old.left }
         requires some { 0 < length source.old }
@@ -149,7 +153,7 @@ impl Reader {
         Ok(())
     }
 
-    /// Leaves so many bytes of the source behind.
+    // Passes over so many bytes of the source.
     fn pass(&mut self, source: &mut Source, count: usize)
         requires { count ≤ length source.old }
         ensures source { source.new ≡ drop count source.old }

@@ -13,7 +13,7 @@ pub enum FrameFault {
     #[error("bad frame at {at}")]
     BadFrame { at: u64 },
     /// A message is longer than `MESSAGE_LIMIT`. With the end-of-message mark the place is that of the
-    /// first byte past the limit; in chunks it is that of the LF behind the size that goes past it.
+    /// first byte past the limit; in chunks it is that of the LF after the size that goes past it.
     #[error("too big at {at}")]
     TooBig { at: u64 },
     /// No memory was found. Nothing of the stream is lost.

@@ -1,5 +1,5 @@
 //! The messages of a stream that comes in pieces.
-ghost use Rattle.std.specs.Prelude.{◌≡◌, ◌≢◌, ℕ, List, [], IfErr, OnOk, OnErr};
+ghost use Rattle.std.specs.Prelude.{◌≡◌, ◌≢◌, ℕ, List, [], IfErr};
 
 use crate::FrameFault;
 use crate::chunks::{Reader, chunked_message};
@@ -10,14 +10,14 @@ use std::alloc::Global;
 use std::marker::Model;
 use std::mem::replace;
 
-/// How the messages of a stream are framed, or the fault that it has shown.
+// How the messages of a stream are framed, or the fault that it has shown.
 #[derive(Clone, Copy, Debug, PartialEq, Eq)]
 pub(crate) enum State {
-    /// With the end-of-message mark (RFC 6242 4.3).
+    // With the end-of-message mark (RFC 6242 4.3).
     Marked,
-    /// In chunks (RFC 6242 4.2).
+    // In chunks (RFC 6242 4.2).
     Chunked,
-    /// No further message is given.
+    // No further message is given.
     Faulty(FrameFault),
 }
 
@@ -27,14 +27,14 @@ pub struct Frames {
     alloc: Global,
     state: State,
     reader: Reader,
-    /// Bytes that were read with the mark and are to be read again as chunks.
+    // Bytes that were read with the mark and are to be read again as chunks.
     earlier: Source,
-    /// Bytes that were fed and are not yet read.
+    // Bytes that were fed and are not yet read.
     waiting: Source,
 }
 
 impl Model for Frames {
-    ghost use Rattle.nc_frames.specs.Kept.{Kept, kept_of, IsSound};
+    ghost use Rattle.nc_frames.specs.inner.Kept.{Kept, kept_of, IsSound};
 
     ghost Value = { Kept };
 
@@ -44,15 +44,16 @@ impl Model for Frames {
 }
 
 impl Frames {
-    ghost use Rattle.nc_frames.specs.declared.fault.FrameFault.{FrameFault};
     ghost use Rattle.nc_frames.specs.declared.fault.FrameFault.TheVariants.{Memory as FrameMemory};
-    ghost use Rattle.nc_frames.specs.Framing.{Mode};
-    ghost use Rattle.nc_frames.specs.Kept.{Marking, Failed, Unread, Replies, IsMarking, IsChunking, fed, switched};
+    ghost use Rattle.nc_frames.specs.Framing.{Mode, Marks};
+    ghost use Rattle.nc_frames.specs.Replies.{Unread, HasFailed, Replies, Feeds, Answers, Switches};
+    ghost use Rattle.nc_frames.specs.inner.Kept.{IsMarking, IsChunking};
 
     /// A stream of messages with the end-of-message mark, of which no byte has come. It takes no
     /// memory.
+    #[tactic(auto, unfolding(crate::specs::Replies::Unread, crate::specs::Replies::HasFailed))]
     pub fn new(alloc: Global) -> Frames
-        ensures { result ≡ Marking 0 [] }
+        ensures { Unread result Marks 0 [] }
     {
         Frames {
             alloc,
@@ -63,10 +64,9 @@ impl Frames {
         }
     }
 
-    /// Takes the next piece of the stream. Behind a fault it is let go.
+    /// Takes the next piece of the stream. After a fault it is let go.
     pub fn feed(&mut self, piece: &[u8]) -> Result<(), Memory>
-        ensures ok { OnOk result (self.new ≡ fed self.old piece.now) }
-        ensures err { OnErr result (self.new ≡ self.old) }
+        ensures { Feeds self.old piece.now result self.new }
     {
         match self.state {
             State::Faulty(_) => Ok(()),
@@ -75,12 +75,9 @@ impl Frames {
     }
 
     /// The next whole message, or `None` where it is not whole yet. A fault is answered by every later
-    /// call; `Memory` loses nothing.
+    /// call; `Memory` loses nothing. After each other answer the stream has shown no fault yet.
     pub fn next(&mut self) -> Result<Option<Bytes>, FrameFault>
-        ensures replies { (mode : Mode) (first : ℕ) (bytes : List ℕ) → Unread self.old mode first bytes
-            → Replies result self.new mode first bytes }
-        ensures fault { IfErr result (λ fault. fault ≢ FrameMemory → self.new ≡ Failed fault) }
-        ensures standing { (fault : FrameFault) → self.old ≡ Failed fault → (result ≡ Err fault) × (self.new ≡ self.old) }
+        ensures { Answers self.old result self.new }
     {
         match self.state {
             State::Marked => self.next_marked(),
@@ -92,7 +89,7 @@ impl Frames {
     /// Reads all bytes of which no message was given yet, and all that follow, as chunks. It takes no
     /// memory.
     pub fn switch(&mut self)
-        ensures { self.new ≡ switched self.old }
+        ensures { Switches self.old self.new }
     {
         if let State::Marked = self.state {
             let read = replace(&mut self.reader.message, Bytes::new(self.alloc));
@@ -101,11 +98,12 @@ impl Frames {
         }
     }
 
+    #[tactic(auto, unfolding(crate::specs::Replies::Unread, crate::specs::Replies::HasFailed))]
     fn next_marked(&mut self) -> Result<Option<Bytes>, FrameFault>
         requires { IsMarking self.old }
-        ensures replies { (mode : Mode) (first : ℕ) (bytes : List ℕ) → Unread self.old mode first bytes
-            → Replies result self.new mode first bytes }
-        ensures fault { IfErr result (λ fault. fault ≢ FrameMemory → self.new ≡ Failed fault) }
+        ensures replies { (mode : Mode) (first : ℕ) (bytes : List ℕ)
+            → Unread self.old mode first bytes → Replies result self.new mode first bytes }
+        ensures fault { IfErr result (λ fault. fault ≢ FrameMemory → HasFailed self.new fault) }
     {
         match marked_message(self.alloc, &mut self.reader, &mut self.waiting) {
             Ok(found) => Ok(found),
@@ -117,11 +115,12 @@ impl Frames {
         }
     }
 
+    #[tactic(auto, unfolding(crate::specs::Replies::Unread, crate::specs::Replies::HasFailed))]
     fn next_chunked(&mut self) -> Result<Option<Bytes>, FrameFault>
         requires { IsChunking self.old }
-        ensures replies { (mode : Mode) (first : ℕ) (bytes : List ℕ) → Unread self.old mode first bytes
-            → Replies result self.new mode first bytes }
-        ensures fault { IfErr result (λ fault. fault ≢ FrameMemory → self.new ≡ Failed fault) }
+        ensures replies { (mode : Mode) (first : ℕ) (bytes : List ℕ)
+            → Unread self.old mode first bytes → Replies result self.new mode first bytes }
+        ensures fault { IfErr result (λ fault. fault ≢ FrameMemory → HasFailed self.new fault) }
     {
         match chunked_message(
             self.alloc,

@@ -1,48 +1,51 @@
 //! The header of a chunk, and the end of the chunks, byte by byte (RFC 6242 4.2).
 ghost use Rattle.std.specs.Prelude.{◌≡◌};
-ghost use Rattle.nc_frames.specs.Steps.{header_step, hash_step, size_step};
+ghost use Rattle.nc_frames.specs.inner.Steps.{header_step, hash_step, size_step};
 
-use crate::MESSAGE_LIMIT;
+use nc_names::MESSAGE_LIMIT;
 
-/// How much of a chunk's header, or of the end of the chunks, has come.
+// The largest size of a chunk.
+const LARGEST_SIZE: u64 = 4_294_967_295;
+
+// How much of a chunk's header, or of the end of the chunks, has come.
 #[derive(Clone, Copy, Debug, PartialEq, Eq)]
 pub(crate) enum Header {
-    /// Nothing.
+    // Nothing.
     Start,
-    /// LF.
+    // LF.
     Line,
-    /// LF and `#`.
+    // LF and `#`.
     Hash,
-    /// LF, `#`, and digits that spell this number.
+    // LF, `#`, and digits that spell this number.
     Size(u32),
-    /// LF, `#` and `#`.
+    // LF, `#` and `#`.
     Close,
 }
 
-/// Where a byte leads to.
+// Where a byte leads to.
 #[derive(Clone, Copy, Debug, PartialEq, Eq)]
 pub(crate) enum Step {
-    /// Further into the header.
+    // Further into the header.
     On(Header),
-    /// To the octets of a chunk, this many.
+    // To the octets of a chunk, this many.
     Octets(u32),
-    /// Nowhere in this message.
+    // Nowhere in this message.
     Stop(Stop),
 }
 
-/// Why a byte leads nowhere in its message.
+// Why a byte leads nowhere in its message.
 #[derive(Clone, Copy, Debug, PartialEq, Eq)]
 pub(crate) enum Stop {
-    /// It ends the message.
+    // It ends the message.
     End,
-    /// No chunked stream has it there.
+    // No chunked stream has it there.
     Bad,
-    /// It ends a size with which the message is longer than `MESSAGE_LIMIT`.
+    // It ends a size with which the message is longer than `MESSAGE_LIMIT`.
     TooBig,
 }
 
 impl Header {
-    /// Where the next byte leads to, behind `length` octets of the message.
+    // Where the next byte leads to, where `length` octets of the message have come.
     pub(crate) fn step(self, length: usize, byte: u8) -> Step
         ensures { result ≡ header_step self length byte }
     {
@@ -74,7 +77,7 @@ impl Header {
     }
 }
 
-/// The byte behind `LF #`: the first digit of a size, or the second `#` behind the last chunk.
+// The byte after `LF #`: the first digit of a size, or the second `#` after the last chunk.
 fn first_digit(length: usize, byte: u8) -> Step
     ensures { result ≡ hash_step length byte }
 {
@@ -87,7 +90,7 @@ fn first_digit(length: usize, byte: u8) -> Step
     }
 }
 
-/// The byte behind the digits of a size: another digit, or the LF that ends it.
+// The byte after the digits of a size: another digit, or the LF that ends it.
 fn next_digit(size: u32, length: usize, byte: u8) -> Step
     ensures { result ≡ size_step size length byte }
 {
@@ -99,7 +102,7 @@ fn next_digit(size: u32, length: usize, byte: u8) -> Step
         }
     } else if byte >= b'0' && byte <= b'9' {
         let longer = u64::from(size) * 10 + u64::from(byte - b'0');
-        if longer > 4_294_967_295 {
+        if longer > LARGEST_SIZE {
             Step::Stop(Stop::Bad)
         } else {
             Step::On(Header::Size(longer as u32))

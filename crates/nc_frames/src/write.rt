@@ -1,17 +1,17 @@
 //! The writing of messages (RFC 6242 4.2 and 4.3).
 ghost use Rattle.std.specs.Prelude.{◌≡◌, ◌<◌, ◌≤◌, ◌++◌, length, OnOk, OnErr};
 ghost use Rattle.nc_frames.specs.Framing.{with_mark, chunk};
-ghost use Rattle.nc_frames.specs.Writing.{AppendsChunks, AppendsPart};
+ghost use Rattle.nc_frames.specs.Writing.{AppendsChunks, written_chunk};
+ghost use Rattle.nc_names.specs.Appending.{Extends, Appends};
 
 use crate::marks::MARK;
-use crate::source::tail;
 use itoa::Buffer;
-use nc_names::{Bytes, Memory};
+use nc_names::{Bytes, Memory, tail};
 
-/// How many octets the chunks have that are written, but for the last of a message.
+// How many octets the chunks have that are written, but for the last of a message.
 const CHUNK: usize = 65_536;
 
-/// Appends a message with the end-of-message mark behind it (RFC 6242 4.3). The body with the mark
+/// Appends a message with the end-of-message mark after it (RFC 6242 4.3). The body with the mark
 /// has to hold the mark only at its end, or it is read as other messages. `Memory` changes nothing.
 pub fn write_eom(body: &[u8], out: &mut Bytes) -> Result<(), Memory>
     ensures ok { OnOk result (out.new ≡ out.old ++ with_mark body.now) }
@@ -26,8 +26,7 @@ pub fn write_eom(body: &[u8], out: &mut Bytes) -> Result<(), Memory>
 }
 
 fn push_marked(body: &[u8], out: &mut Bytes) -> Result<(), Memory>
-    ensures ok { OnOk result (out.new ≡ out.old ++ with_mark body.now) }
-    ensures err { OnErr result (AppendsPart out.old out.new) }
+    ensures { Appends result out.old out.new (with_mark body.now) }
 {
     out.push_slice(body)?;
     out.push_slice(MARK)
@@ -37,7 +36,7 @@ fn push_marked(body: &[u8], out: &mut Bytes) -> Result<(), Memory>
 /// `Memory` changes nothing.
 pub fn write_chunks(body: &[u8], out: &mut Bytes) -> Result<(), Memory>
     requires { 0 < length body.now }
-    ensures ok { OnOk result (AppendsChunks 65536 out.old out.new body.now) }
+    ensures ok { OnOk result (AppendsChunks written_chunk out.old out.new body.now) }
     ensures err { OnErr result (out.new ≡ out.old) }
 {
     let len = out.len();
@@ -48,12 +47,12 @@ pub fn write_chunks(body: &[u8], out: &mut Bytes) -> Result<(), Memory>
     written
 }
 
-/// Appends a message in chunks of so many octets and a last one with the rest.
+// Appends a message in chunks of so many octets and a last one with the rest.
 fn push_chunks(body: &[u8], size: usize, out: &mut Bytes) -> Result<(), Memory>
     requires some { 0 < length body.now }
     requires size { 0 < size }
     ensures ok { OnOk result (AppendsChunks size out.old out.new body.now) }
-    ensures err { OnErr result (AppendsPart out.old out.new) }
+    ensures err { OnErr result (Extends out.old out.new) }
 {
     let mut rest = body;
     while rest.len() > size {
@@ -64,10 +63,9 @@ fn push_chunks(body: &[u8], size: usize, out: &mut Bytes) -> Result<(), Memory>
     out.push_slice(b"\n##\n")
 }
 
-/// Appends one chunk.
+// Appends one chunk.
 fn push_chunk(octets: &[u8], out: &mut Bytes) -> Result<(), Memory>
-    ensures ok { OnOk result (out.new ≡ out.old ++ chunk octets.now) }
-    ensures err { OnErr result (AppendsPart out.old out.new) }
+    ensures { Appends result out.old out.new (chunk octets.now) }
 {
     let mut buffer = Buffer::new();
     out.push_slice(b"\n#")?;

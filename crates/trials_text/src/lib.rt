@@ -3,6 +3,8 @@
 #![tactic(auto)]
 
 #[cfg(test)]
+mod frames_tests;
+#[cfg(test)]
 mod names_tests;
 #[cfg(test)]
 mod yang_words_tests;

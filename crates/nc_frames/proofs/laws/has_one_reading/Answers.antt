@@ -1,4 +1,4 @@
-use Rattle.nc_frames.proofs.ReadingLemmas.{one_reading}
+use Rattle.nc_frames.proofs.OneLemmas.{one_reading}
 use Rattle.nc_frames.proofs.laws.has_one_reading.Goals as goal
 
 pub returns : goal.returns

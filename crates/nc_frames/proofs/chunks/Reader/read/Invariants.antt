@@ -1,5 +1,5 @@
 use Rattle.std.proofs.Common.{length}
-use Rattle.nc_frames.specs.Turns.{Advances}
+use Rattle.nc_frames.specs.inner.Turns.{Advances}
 use Rattle.nc_frames.proofs.chunks.Reader.read.Given as goal
 
 abbrev pub invariant-loop-byte : goal.invariant-loop-byte

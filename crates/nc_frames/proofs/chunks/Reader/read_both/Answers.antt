@@ -1,6 +1,6 @@
 use Rattle.std.proofs.Common.{◌++◌, None, Some, refl}
 use Rattle.std.proofs.lemmas.Result.{IfOk-weaker, on_err_weaker}
-use Rattle.nc_frames.specs.Turns.{Turned}
+use Rattle.nc_frames.specs.inner.Turns.{Turned}
 use Rattle.nc_frames.proofs.TurnLemmas.{Turned-more, Turned-both}
 use Rattle.nc_frames.proofs.chunks.Reader.read_both.Goals as goal
 

@@ -1,7 +1,7 @@
 use Rattle.std.proofs.Common.{◌≡◌, length}
 use Rattle.nc_frames.specs.declared.header.Step.TheVariants.{On, Octets, Stop as Stops}
 use Rattle.nc_frames.specs.declared.header.Stop.TheVariants.{End, Bad, TooBig}
-use Rattle.nc_frames.specs.Steps.{header_step}
+use Rattle.nc_frames.specs.inner.Steps.{header_step}
 use Rattle.nc_frames.proofs.TurnLemmas.{Advances-one, EndsMessage-one, StopsBefore-one}
 use Rattle.nc_frames.proofs.chunks.Reader.read_header.Goals as goal
 

@@ -1,6 +1,9 @@
 -- The reading of chunks byte by byte. The relations of Framing stand apart from it, and laws tie both.
 use Rattle.std.specs.Prelude.{◌≡◌, ℕ, zero, suc, ◌+◌, ◌-◌, ◌*◌, nat_lt, nat_le, ◌==◌, ◌&&◌, if◌then◌else◌, List, [], ◌∷◌, ◌++◌, length, Option, Some, None}
 use Rattle.std.specs.Option.{option_and_then}
+use Rattle.nc_names.specs.Limits.{message_limit}
+use Rattle.nc_names.specs.Signs.{line_feed, number_sign}
+use Rattle.nc_frames.specs.Framing.{largest_size}
 use Rattle.nc_frames.specs.declared.header.Header.{Header}
 use Rattle.nc_frames.specs.declared.header.Header.TheVariants.{Start, Line, Hash, Size, Close}
 use Rattle.nc_frames.specs.declared.header.Step.{Step}
@@ -8,27 +11,38 @@ use Rattle.nc_frames.specs.declared.header.Step.TheVariants.{On, Octets, Stop as
 use Rattle.nc_frames.specs.declared.header.Stop.{Stop}
 use Rattle.nc_frames.specs.declared.header.Stop.TheVariants.{End, Bad, TooBig}
 
--- the byte behind LF #, after this many octets of the message
+-- the characters of digits
+abbrev pub digit_zero : ℕ
+digit_zero = 48
+
+abbrev pub digit_nine : ℕ
+digit_nine = 57
+
+-- a number with one digit more
+abbrev pub with_digit : ℕ → ℕ → ℕ
+with_digit size byte = size * 10 + (byte - digit_zero)
+
+-- the byte after LF #, where this many octets of the message have come
 abbrev pub hash_step : ℕ → ℕ → Step
 hash_step octets byte =
-    if byte == 35 && nat_lt 0 octets then On Close
-    else (if nat_lt 48 byte && nat_le byte 57 then On (Size (byte - 48)) else Stops Bad)
+    if byte == number_sign && nat_lt 0 octets then On Close
+    else (if nat_lt digit_zero byte && nat_le byte digit_nine then On (Size (byte - digit_zero)) else Stops Bad)
 
--- the byte behind the digits of a size
+-- the byte after the digits of a size
 abbrev pub size_step : ℕ → ℕ → ℕ → Step
 size_step size octets byte =
-    if byte == 10 then (if nat_lt (4194304 - octets) size then Stops TooBig else Octets size)
-    else (if nat_le 48 byte && nat_le byte 57
-    then (if nat_lt 4294967295 (size * 10 + (byte - 48)) then Stops Bad else On (Size (size * 10 + (byte - 48))))
+    if byte == line_feed then (if nat_lt (message_limit - octets) size then Stops TooBig else Octets size)
+    else (if nat_le digit_zero byte && nat_le byte digit_nine
+    then (if nat_lt largest_size (with_digit size byte) then Stops Bad else On (Size (with_digit size byte)))
     else Stops Bad)
 
--- the byte behind this much of a header
+-- the byte after this much of a header
 abbrev pub header_step : Header → ℕ → ℕ → Step
-header_step Start octets byte = if byte == 10 then On Line else Stops Bad
-header_step Line octets byte = if byte == 35 then On Hash else Stops Bad
+header_step Start octets byte = if byte == line_feed then On Line else Stops Bad
+header_step Line octets byte = if byte == number_sign then On Hash else Stops Bad
 header_step Hash octets byte = hash_step octets byte
 header_step (Size size) octets byte = size_step size octets byte
-header_step Close octets byte = if byte == 10 then Stops End else Stops Bad
+header_step Close octets byte = if byte == line_feed then Stops End else Stops Bad
 
 -- how far the reading of a message has come: what there is of a header, how many octets of the chunk
 -- are still to come, and the octets of the message so far

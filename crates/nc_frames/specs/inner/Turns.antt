@@ -1,7 +1,8 @@
 -- What a reader of chunks has done, in the terms of the reading byte by byte.
 use Rattle.std.specs.Prelude.{◌≡◌, ℕ, ◌+◌, List, ◌∷◌, ◌++◌, length, Option, Some, None}
-use Rattle.nc_frames.specs.Steps.{Reading, run, StopsAt}
-use Rattle.nc_frames.specs.Kept.{capped, reading_of}
+use Rattle.nc_frames.specs.inner.Steps.{Reading, run, StopsAt}
+use Rattle.nc_frames.specs.Framing.{capped}
+use Rattle.nc_frames.specs.inner.Kept.{reading_of}
 use Rattle.nc_frames.specs.declared.chunks.Reader.{Reader}
 use Rattle.nc_frames.specs.declared.header.Header.TheVariants.{Start}
 use Rattle.nc_frames.specs.declared.header.Stop.{Stop}

@@ -1,8 +1,21 @@
 //! Streams of both framings, cut and whole, faults with their places, and what is written.
-use crate::{FrameFault, Frames, MESSAGE_LIMIT, write_chunks, write_eom};
-use nc_names::{Bytes, Memory};
+use nc_frames::{FrameFault, Frames, write_chunks, write_eom};
+use nc_names::{Bytes, MESSAGE_LIMIT, Memory};
 use std::alloc::Global;
 use std::test::Fail;
+
+/// The largest size of a chunk as it is written, and the number after it.
+const LARGEST_SIZE: &[u8] = b"\n#4294967295\n";
+
+const PAST_LARGEST: &[u8] = b"\n#4294967296";
+
+/// Sizes at the limit of a message.
+const AT_LIMIT: &[u8] = b"\n#1\nx\n#4194304\n";
+
+const PAST_LIMIT: &[u8] = b"\n#4194305\n";
+
+/// How many octets a written chunk has that is not the last.
+const CHUNK: usize = 65_536;
 
 /// Takes messages while there are any, and says whether each is the next that is wanted. `given` counts
 /// them.
@@ -52,12 +65,22 @@ fn marks_are_found_at_every_cut(rt: HostRuntime) -> Result<(), Fail> {
 
 /// The example of RFC 6242 4.2.
 fn rfc_example() -> &'static [u8] {
-    b"\n#4\n<rpc\n#18\n message-id=\"102\"\n\n#79\n     xmlns=\"urn:ietf:params:xml:ns:netconf:base:1.0\">\n  <close-session/>\n</rpc>\n##\n"
+    concat!(
+        "\n#4\n<rpc\n#18\n message-id=\"102\"\n\n#79\n",
+        "     xmlns=\"urn:ietf:params:xml:ns:netconf:base:1.0\">\n",
+        "  <close-session/>\n</rpc>\n##\n"
+    )
+    .as_bytes()
 }
 
 /// The message of that example.
 fn rfc_message() -> &'static [u8] {
-    b"<rpc message-id=\"102\"\n     xmlns=\"urn:ietf:params:xml:ns:netconf:base:1.0\">\n  <close-session/>\n</rpc>"
+    concat!(
+        "<rpc message-id=\"102\"\n",
+        "     xmlns=\"urn:ietf:params:xml:ns:netconf:base:1.0\">\n",
+        "  <close-session/>\n</rpc>"
+    )
+    .as_bytes()
 }
 
 #[test]
@@ -74,9 +97,9 @@ fn chunks_are_read_at_every_cut(rt: HostRuntime) -> Result<(), Fail> {
     Ok(())
 }
 
-/// What is answered to these bytes in chunks behind a hello that takes 9 bytes with its mark, also when
+/// What is answered to these bytes in chunks after a hello that takes 9 bytes with its mark, also when
 /// more has come.
-fn fault_behind_hello(alloc: Global, bytes: &[u8]) -> Result<Option<FrameFault>, Fail> {
+fn fault_after_hello(alloc: Global, bytes: &[u8]) -> Result<Option<FrameFault>, Fail> {
     let mut frames = Frames::new(alloc);
     frames.feed(b"<hi]]>]]>")?;
     if frames.next()?.is_none() {
@@ -92,28 +115,28 @@ fn fault_behind_hello(alloc: Global, bytes: &[u8]) -> Result<Option<FrameFault>,
 
 #[test]
 fn sizes_too_big_have_places(rt: HostRuntime) -> Result<(), Fail> {
-    let fault = fault_behind_hello(rt.alloc(), b"\n#4294967295\n")?;
+    let fault = fault_after_hello(rt.alloc(), LARGEST_SIZE)?;
     assert!(rt; fault == Some(FrameFault::TooBig { at: 21 }));
-    let fault = fault_behind_hello(rt.alloc(), b"\n#4194305\n")?;
+    let fault = fault_after_hello(rt.alloc(), PAST_LIMIT)?;
     assert!(rt; fault == Some(FrameFault::TooBig { at: 18 }));
-    let fault = fault_behind_hello(rt.alloc(), b"\n#1\nx\n#4194304\n")?;
+    let fault = fault_after_hello(rt.alloc(), AT_LIMIT)?;
     assert!(rt; fault == Some(FrameFault::TooBig { at: 23 }));
     Ok(())
 }
 
 #[test]
 fn bad_frames_have_places(rt: HostRuntime) -> Result<(), Fail> {
-    let fault = fault_behind_hello(rt.alloc(), b"\n#4294967296")?;
+    let fault = fault_after_hello(rt.alloc(), PAST_LARGEST)?;
     assert!(rt; fault == Some(FrameFault::BadFrame { at: 20 }));
-    let fault = fault_behind_hello(rt.alloc(), b"\n#01")?;
+    let fault = fault_after_hello(rt.alloc(), b"\n#01")?;
     assert!(rt; fault == Some(FrameFault::BadFrame { at: 11 }));
-    let fault = fault_behind_hello(rt.alloc(), b"\n#0")?;
+    let fault = fault_after_hello(rt.alloc(), b"\n#0")?;
     assert!(rt; fault == Some(FrameFault::BadFrame { at: 11 }));
-    let fault = fault_behind_hello(rt.alloc(), b"\n##")?;
+    let fault = fault_after_hello(rt.alloc(), b"\n##")?;
     assert!(rt; fault == Some(FrameFault::BadFrame { at: 11 }));
-    let fault = fault_behind_hello(rt.alloc(), b"\n#+1\n")?;
+    let fault = fault_after_hello(rt.alloc(), b"\n#+1\n")?;
     assert!(rt; fault == Some(FrameFault::BadFrame { at: 11 }));
-    let fault = fault_behind_hello(rt.alloc(), b"\n#1\nab")?;
+    let fault = fault_after_hello(rt.alloc(), b"\n#1\nab")?;
     assert!(rt; fault == Some(FrameFault::BadFrame { at: 14 }));
     Ok(())
 }
@@ -164,21 +187,22 @@ fn read_back(alloc: Global, chunked: bool, len: usize) -> Result<bool, FrameFaul
 fn limit_is_exact_with_the_mark(rt: HostRuntime) -> Result<(), Fail> {
     assert!(rt; read_back(rt.alloc(), false, MESSAGE_LIMIT)?);
     let fault = read_back(rt.alloc(), false, MESSAGE_LIMIT + 1).err();
-    assert!(rt; fault == Some(FrameFault::TooBig { at: 4_194_304 }));
+    assert!(rt;
+        fault
+            == Some(FrameFault::TooBig {
+                at: MESSAGE_LIMIT as u64
+            })
+    );
     Ok(())
 }
 
 #[test]
 fn limit_is_exact_in_chunks(rt: HostRuntime) -> Result<(), Fail> {
     assert!(rt; read_back(rt.alloc(), true, MESSAGE_LIMIT)?);
-    // behind 64 chunks of 65,536 octets, LF # 1
+    // after 64 chunks, LF # 1
     let fault = read_back(rt.alloc(), true, MESSAGE_LIMIT + 1).err();
-    assert!(rt;
-        fault
-            == Some(FrameFault::TooBig {
-                at: 64 * (8 + 65_536) + 3
-            })
-    );
+    let at = 64 * (8 + CHUNK as u64) + 3;
+    assert!(rt; fault == Some(FrameFault::TooBig { at }));
     Ok(())
 }
 
@@ -195,8 +219,26 @@ fn written(alloc: Global, len: usize) -> Result<usize, Fail> {
 #[test]
 fn chunks_are_written_full(rt: HostRuntime) -> Result<(), Fail> {
     // "\n#65536\n" and "\n##\n"
-    assert_eq!(rt; written(rt.alloc(), 65_536)?, 8 + 65_536 + 4);
+    assert_eq!(rt; written(rt.alloc(), CHUNK)?, 8 + CHUNK + 4);
     // and "\n#1\n"
-    assert_eq!(rt; written(rt.alloc(), 65_537)?, 8 + 65_536 + 4 + 1 + 4);
+    assert_eq!(rt; written(rt.alloc(), CHUNK + 1)?, 8 + CHUNK + 4 + 1 + 4);
+    Ok(())
+}
+
+#[test]
+fn what_follows_the_hello_is_not_read_with_the_mark(rt: HostRuntime) -> Result<(), Fail> {
+    let mut stream = Bytes::new(rt.alloc());
+    stream.push_slice(b"<hi]]>]]>")?;
+    let body = filled(rt.alloc(), MESSAGE_LIMIT / 2 + CHUNK)?;
+    write_chunks(body.as_slice(), &mut stream)?;
+    write_chunks(body.as_slice(), &mut stream)?;
+    let mut frames = Frames::new(rt.alloc());
+    frames.feed(stream.as_slice())?;
+    assert!(rt; matches!(frames.next(), Ok(Some(_))));
+    frames.switch();
+    let wanted = [body.as_slice(), body.as_slice()];
+    let mut given = 0;
+    assert!(rt; takes(&mut frames, &wanted, &mut given));
+    assert_eq!(rt; given, 2);
     Ok(())
 }

@@ -47,7 +47,8 @@ pub record GivesTheSession : Type 0 where
   pub chunks : (events later : List Event) (old greeting greeted switched between new : Kept) (hello : List ℕ)
       → (reply : Result (Option (List ℕ)) FrameFault) (end : Option FrameFault)
       → Unread old Marks 0 [] → Runs old events greeting → given_by events ≡ []
-      → Answers greeting (Ok (Some hello)) greeted → Switches greeted switched → Runs switched later between → Answers between reply new → Tells reply end
+      → Answers greeting (Ok (Some hello)) greeted → Switches greeted switched
+      → Runs switched later between → Answers between reply new → Tells reply end
       → IsSession Chunks (fed_by events ++ fed_by later) (hello ∷ given_by later) end
 
 -- What is left after the last message is no whole message and shows no fault; the messages are framed.

@@ -13,7 +13,7 @@ use nc_names::{Bytes, Memory};
 use std::alloc::Global;
 use std::mem::replace;
 
-// The next message, out of what is read of it and what waits.
+/// The next message, out of what is read of it and what waits.
 pub(crate) fn chunked_message(
     alloc: Global,
     reader: &mut Reader,
@@ -33,22 +33,22 @@ pub(crate) fn chunked_message(
     }
 }
 
-// How far the reading of a message has come.
+/// How far the reading of a message has come.
 #[derive(Debug, Drop)]
 pub(crate) struct Reader {
-    // What has come of the message. With the end-of-message mark its bytes may stand here too.
+    /// What has come of the message. With the end-of-message mark its bytes may stand here too.
     pub(crate) message: Bytes,
-    // The place of the next byte, or with the end-of-message mark that of the message's first byte,
-    // counted from the session's first byte. It stays at 2^64 - 1 where it would be larger.
+    /// The place of the next byte, or with the end-of-message mark that of the message's first byte,
+    /// counted from the session's first byte. It stays at 2^64 - 1 where it would be larger.
     pub(crate) place: u64,
-    // What has come of a header.
+    /// What has come of a header.
     pub(crate) header: Header,
-    // How many octets of the chunk are still to come.
+    /// How many octets of the chunk are still to come.
     pub(crate) left: u32,
 }
 
 impl Reader {
-    // Nothing of the stream's first message.
+    /// Nothing of the stream's first message.
     pub(crate) fn new(message: Bytes) -> Reader
         ensures { result ≡ record { message = message; place = 0; header = Start; left = 0 } }
     {

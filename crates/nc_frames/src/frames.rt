@@ -10,14 +10,14 @@ use std::alloc::Global;
 use std::marker::Model;
 use std::mem::replace;
 
-// How the messages of a stream are framed, or the fault that it has shown.
+/// How the messages of a stream are framed, or the fault that it has shown.
 #[derive(Clone, Copy, Debug, PartialEq, Eq)]
 pub(crate) enum State {
-    // With the end-of-message mark (RFC 6242 4.3).
+    /// With the end-of-message mark (RFC 6242 4.3).
     Marked,
-    // In chunks (RFC 6242 4.2).
+    /// In chunks (RFC 6242 4.2).
     Chunked,
-    // No further message is given.
+    /// No further message is given.
     Faulty(FrameFault),
 }
 
@@ -98,6 +98,7 @@ impl Frames {
         }
     }
 
+    // The next message of a stream with marks.
     #[tactic(auto, unfolding(crate::specs::Replies::Unread, crate::specs::Replies::HasFailed))]
     fn next_marked(&mut self) -> Result<Option<Bytes>, FrameFault>
         requires { IsMarking self.old }
@@ -115,6 +116,7 @@ impl Frames {
         }
     }
 
+    // The next message of a stream in chunks.
     #[tactic(auto, unfolding(crate::specs::Replies::Unread, crate::specs::Replies::HasFailed))]
     fn next_chunked(&mut self) -> Result<Option<Bytes>, FrameFault>
         requires { IsChunking self.old }

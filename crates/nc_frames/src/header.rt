@@ -7,45 +7,45 @@ use nc_names::MESSAGE_LIMIT;
 // The largest size of a chunk.
 const LARGEST_SIZE: u64 = 4_294_967_295;
 
-// How much of a chunk's header, or of the end of the chunks, has come.
+/// How much of a chunk's header, or of the end of the chunks, has come.
 #[derive(Clone, Copy, Debug, PartialEq, Eq)]
 pub(crate) enum Header {
-    // Nothing.
+    /// Nothing.
     Start,
-    // LF.
+    /// LF.
     Line,
-    // LF and `#`.
+    /// LF and `#`.
     Hash,
-    // LF, `#`, and digits that spell this number.
+    /// LF, `#`, and digits that spell this number.
     Size(u32),
-    // LF, `#` and `#`.
+    /// LF, `#` and `#`.
     Close,
 }
 
-// Where a byte leads to.
+/// Where a byte leads to.
 #[derive(Clone, Copy, Debug, PartialEq, Eq)]
 pub(crate) enum Step {
-    // Further into the header.
+    /// Further into the header.
     On(Header),
-    // To the octets of a chunk, this many.
+    /// To the octets of a chunk, this many.
     Octets(u32),
-    // Nowhere in this message.
+    /// Nowhere in this message.
     Stop(Stop),
 }
 
-// Why a byte leads nowhere in its message.
+/// Why a byte leads nowhere in its message.
 #[derive(Clone, Copy, Debug, PartialEq, Eq)]
 pub(crate) enum Stop {
-    // It ends the message.
+    /// It ends the message.
     End,
-    // No chunked stream has it there.
+    /// No chunked stream has it there.
     Bad,
-    // It ends a size with which the message is longer than `MESSAGE_LIMIT`.
+    /// It ends a size with which the message is longer than `MESSAGE_LIMIT`.
     TooBig,
 }
 
 impl Header {
-    // Where the next byte leads to, where `length` octets of the message have come.
+    /// Where the next byte leads to, where `length` octets of the message have come.
     pub(crate) fn step(self, length: usize, byte: u8) -> Step
         ensures { result ≡ header_step self length byte }
     {

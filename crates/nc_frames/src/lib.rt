@@ -2,11 +2,11 @@
 //! in pieces, with the end-of-message mark or in chunks, and the writing of messages in both. It stands on
 //! nc_names, and on itoa and memchr.
 //!
-//! `Frames` gives the messages in their order, however the stream is cut; `None` exactly where what is left is
-//! no whole message and shows no fault; a fault in the place of the message that has it, and from then on.
-//! Until then it has met none: a `switch` reads all that is not given as chunks. What the writers append is
-//! framed as exactly that message. The laws say the same of whole streams and sessions. The bytes are moved
-//! twice, in and out; what is kept is at most one message and what was fed since the last answer.
+//! `Frames` gives the messages in their order, however the stream is cut; `None` exactly where what is
+//! left is no whole message and shows no fault; a fault in the place of the message that has it, and from
+//! then on. Until then it has met none: a `switch` reads all that is not given as chunks. What the writers
+//! append is framed as exactly that message. The laws say the same of whole streams and sessions. The bytes
+//! are moved twice, in and out; what is kept is at most one message and what was fed since the last answer.
 //!
 //! The crate trials_text tests it.
 #![tactic(auto)]

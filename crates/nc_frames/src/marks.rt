@@ -14,13 +14,13 @@ use nc_names::{Bytes, MESSAGE_LIMIT, Memory};
 use std::alloc::Global;
 use std::mem::replace;
 
-// The end-of-message mark.
+/// The end-of-message mark.
 pub(crate) const MARK: &[u8] = b"]]>]]>";
 
-// The most bytes that a message and its mark may have together.
+/// The most bytes that a message and its mark may have together.
 pub(crate) const MARKED_LIMIT: usize = MESSAGE_LIMIT + 6;
 
-// The next message, out of what has come of it and what waits.
+/// The next message, out of what has come of it and what waits.
 #[tactic(auto, unfolding(crate::specs::Replies::Unread))]
 pub(crate) fn marked_message(
     alloc: Global,
@@ -59,8 +59,8 @@ fn give_marked(alloc: Global, reader: &mut Reader) -> Bytes
     message
 }
 
-// Moves bytes from `waiting` to the end of `message` until it ends in its first mark, and says
-// whether it does. Else nothing waits any more, or `message` has `MARKED_LIMIT` bytes.
+/// Moves bytes from `waiting` to the end of `message` until it ends in its first mark, and says
+/// whether it does. Else nothing waits any more, or `message` has `MARKED_LIMIT` bytes.
 pub(crate) fn read_to_mark(message: &mut Bytes, waiting: &mut Source) -> Result<bool, Memory>
     requires { IsOpen message.old }
     ensures joined { message.new ++ waiting.new ≡ message.old ++ waiting.old }

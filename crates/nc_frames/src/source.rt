@@ -5,7 +5,7 @@ use nc_names::{Bytes, Memory, tail};
 use std::alloc::Global;
 use std::marker::Model;
 
-// Bytes that are read from the front. Contracts see those that are left.
+/// Bytes that are read from the front. Contracts see those that are left.
 #[derive(Debug, Drop)]
 pub(crate) struct Source {
     bytes: Bytes,
@@ -23,21 +23,21 @@ impl Model for Source {
 }
 
 impl Source {
-    // No bytes. It takes no memory.
+    /// No bytes. It takes no memory.
     pub(crate) fn new(alloc: Global) -> Source
         ensures { result ≡ [] }
     {
         Source::from_bytes(Bytes::new(alloc))
     }
 
-    // All of these bytes. It takes no memory.
+    /// All of these bytes. It takes no memory.
     pub(crate) fn from_bytes(bytes: Bytes) -> Source
         ensures { result ≡ bytes }
     {
         Source { bytes, start: 0 }
     }
 
-    // Puts bytes at the end.
+    /// Puts bytes at the end.
     pub(crate) fn push_slice(&mut self, piece: &[u8]) -> Result<(), Memory>
         ensures ok { OnOk result (self.new ≡ self.old ++ piece.now) }
         ensures err { OnErr result (self.new ≡ self.old) }
@@ -45,14 +45,14 @@ impl Source {
         self.bytes.push_slice(piece)
     }
 
-    // The bytes that are left.
+    /// The bytes that are left.
     pub(crate) fn rest(&self) -> &[u8]
         ensures { result.now ≡ self.now }
     {
         tail(self.bytes.as_slice(), self.start)
     }
 
-    // Leaves out the first bytes, this many.
+    /// Leaves out the first bytes, this many.
     pub(crate) fn skip(&mut self, count: usize)
         requires { count ≤ length self.old }
         ensures { self.new ≡ drop count self.old }

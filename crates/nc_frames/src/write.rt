@@ -25,6 +25,7 @@ pub fn write_eom(body: &[u8], out: &mut Bytes) -> Result<(), Memory>
     written
 }
 
+// Appends a message and the mark.
 fn push_marked(body: &[u8], out: &mut Bytes) -> Result<(), Memory>
     ensures { Appends result out.old out.new (with_mark body.now) }
 {

@@ -218,20 +218,28 @@ fn written(alloc: Global, len: usize) -> Result<usize, Fail> {
 
 #[test]
 fn chunks_are_written_full(rt: HostRuntime) -> Result<(), Fail> {
-    // "\n#65536\n" and "\n##\n"
+    // LF # and five digits LF, the octets, and LF # # LF
     assert_eq!(rt; written(rt.alloc(), CHUNK)?, 8 + CHUNK + 4);
-    // and "\n#1\n"
+    // and LF # 1 LF with one more
     assert_eq!(rt; written(rt.alloc(), CHUNK + 1)?, 8 + CHUNK + 4 + 1 + 4);
     Ok(())
 }
 
+/// A hello of nine bytes with its mark, and this body twice in chunks.
+fn hello_and_two(alloc: Global, body: &Bytes) -> Result<Bytes, Memory> {
+    let mut stream = Bytes::new(alloc);
+    stream.push_slice(b"<hi]]>]]>")?;
+    if !body.is_empty() {
+        write_chunks(body.as_slice(), &mut stream)?;
+        write_chunks(body.as_slice(), &mut stream)?;
+    }
+    Ok(stream)
+}
+
 #[test]
 fn what_follows_the_hello_is_not_read_with_the_mark(rt: HostRuntime) -> Result<(), Fail> {
-    let mut stream = Bytes::new(rt.alloc());
-    stream.push_slice(b"<hi]]>]]>")?;
     let body = filled(rt.alloc(), MESSAGE_LIMIT / 2 + CHUNK)?;
-    write_chunks(body.as_slice(), &mut stream)?;
-    write_chunks(body.as_slice(), &mut stream)?;
+    let stream = hello_and_two(rt.alloc(), &body)?;
     let mut frames = Frames::new(rt.alloc());
     frames.feed(stream.as_slice())?;
     assert!(rt; matches!(frames.next(), Ok(Some(_))));

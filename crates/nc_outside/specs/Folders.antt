@@ -3,21 +3,22 @@ use Rattle.std.specs.Prelude.{ℕ, ◌+◌, ◌==◌, List, [], ◌∷◌, ◌++
 use Rattle.std.specs.List.{starts_with, list_any, filter_map}
 use Rattle.std.specs.Str.{bytes_eq}
 use Rattle.std.specs.Option.{option_map}
+use Rattle.nc_names.specs.Signs.{slash}
 use Rattle.nc_outside.specs.declared.files.NamedFile.{NamedFile}
 
 -- the bytes of the first file of this name
 abbrev pub file_of : List NamedFile → List ℕ → Option (List ℕ)
 file_of files name = option_map (λ f. f.bytes) (find (λ f. bytes_eq f.name name) files)
 
--- what stands behind the folder and a slash in a name that begins with them
+-- what stands after the folder and a slash in a name that begins with them
 abbrev pub name_below : List ℕ → List ℕ → Option (List ℕ)
 name_below folder name =
-    if starts_with nat_eq name (folder ++ 47 ∷ []) then Some (drop (length folder + 1) name) else None
+    if starts_with nat_eq name (folder ++ slash ∷ []) then Some (drop (length folder + 1) name) else None
 
 -- the same, where no further slash stands in it: the name within the folder
 abbrev pub name_in : List ℕ → List ℕ → Option (List ℕ)
 name_in folder name =
-    option_and_then (λ rest. if list_any (λ c. c == 47) rest then None else Some rest) (name_below folder name)
+    option_and_then (λ rest. if list_any (λ c. c == slash) rest then None else Some rest) (name_below folder name)
 
 -- A folder is there where a file's name begins with it and a slash. Its names are in the order of
 -- the files; one comes twice where two files have the same name.

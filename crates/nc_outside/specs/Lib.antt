@@ -1,3 +1,5 @@
 pub mod Causes
-pub mod Objects
+pub mod Clocks
 pub mod Folders
+pub mod Streams
+pub mod inner

@@ -1,9 +1,9 @@
 //! The files of a setup folder.
-ghost use Rattle.std.specs.Prelude.{◌≡◌, ◌+◌, ◌≤◌, ◌↔◌, ◌==◌, ℕ, List, Option, Contains, IfOk, OnOk, IfSome, IsErrOf, IsTrue, IsSome, find, is_some, if◌then◌else◌};
+ghost use Rattle.std.specs.Prelude.{◌≡◌, ◌+◌, ◌≤◌, ◌==◌, ℕ, List, Option, IfOk, IfSome, IsTrue, IsSome, find, is_some, if◌then◌else◌};
 ghost use Rattle.std.specs.List.{list_any, filter_map};
 ghost use Rattle.std.specs.Str.{bytes_eq};
 ghost use Rattle.std.specs.Option.{option_copied};
-ghost use Rattle.nc_outside.specs.Causes.{Rose, one_more};
+ghost use Rattle.nc_outside.specs.Causes.{HasFileCause};
 ghost use Rattle.nc_outside.specs.Folders as folders;
 ghost use Rattle.nc_outside.specs.declared.files.NamedFile.{NamedFile};
 
@@ -31,23 +31,23 @@ pub trait Files {
     /// The names of the files that stand directly in a folder, without the folder's own name, or
     /// `None` where there is no such folder.
     ///
-    /// `Failed` comes only where the count of faults rose in the call; `Memory` is want of memory.
+    /// `Failed` means that the files could not be read, and `Memory` that no memory was found. The
+    /// count of faults rises at `Failed`, and nowhere else.
     fn names(&mut self, alloc: Global, folder: &str) -> Result<Option<Many<Text>>, FileFault>
         ensures names { IfOk result (λ it.
             IfSome (files self.old) (λ fs. it ≡ folders.names_of fs folder.now)) }
         ensures files { files self.new ≡ files self.old }
-        ensures later { faults self.old ≤ faults self.new }
-        ensures failed { IsErrOf result FileFault.Failed → Rose (faults self.old) (faults self.new) };
+        ensures cause { HasFileCause (faults self.old) (faults self.new) result };
 
     /// The bytes of the file of this name, or `None` where there is no such file.
     ///
-    /// `Failed` comes only where the count of faults rose in the call; `Memory` is want of memory.
+    /// `Failed` means that the files could not be read, and `Memory` that no memory was found. The
+    /// count of faults rises at `Failed`, and nowhere else.
     fn get(&mut self, alloc: Global, name: &str) -> Result<Option<Bytes>, FileFault>
         ensures bytes { IfOk result (λ it.
             IfSome (files self.old) (λ fs. it ≡ folders.file_of fs name.now)) }
         ensures files { files self.new ≡ files self.old }
-        ensures later { faults self.old ≤ faults self.new }
-        ensures failed { IsErrOf result FileFault.Failed → Rose (faults self.old) (faults self.new) };
+        ensures cause { HasFileCause (faults self.old) (faults self.new) result };
 }
 
 /// Files in memory. Contracts see the files, the calls that are to fail, and how many calls and
@@ -59,7 +59,7 @@ pub struct MemFiles {
 }
 
 impl Model for MemFiles {
-    ghost use Rattle.nc_outside.specs.Objects.{FilesState};
+    ghost use Rattle.nc_outside.specs.inner.Objects.{FilesState};
 
     ghost Value = { FilesState };
 
@@ -88,7 +88,7 @@ impl MemFiles {
     }
 }
 
-// What stands behind a folder and a slash in a name that begins with them.
+// What stands after a folder and a slash in a name that begins with them.
 fn name_below<'a>(folder: &str, name: &'a str) -> Option<&'a str>
     ensures { option_copied result ≡ folders.name_below folder.now name.now }
 {
@@ -137,6 +137,7 @@ fn find_file<'a>(files: &'a [NamedFile], name: &str) -> Option<&'a NamedFile>
 
 impl Files for MemFiles {
     ghost use Rattle.std.specs.Prelude.{Some};
+    ghost use Rattle.nc_outside.specs.inner.Objects.{IsFileCallOf};
 
     ghost files = { λ s. Some s.files };
 
@@ -146,14 +147,8 @@ impl Files for MemFiles {
         ensures names { IfOk result (λ it.
             IfSome (Some self.old.files) (λ fs. it ≡ folders.names_of fs folder.now)) }
         ensures files { Some self.new.files ≡ Some self.old.files }
-        ensures later { self.old.faults ≤ self.new.faults }
-        ensures failed { IsErrOf result FileFault.Failed → Rose self.old.faults self.new.faults }
-        ensures fails { IsErrOf result FileFault.Failed ↔ Contains self.old.failing (one_more self.old.calls) }
-        ensures calls { self.new.calls ≡ one_more self.old.calls }
-        ensures ok_faults { OnOk result (self.new.faults ≡ self.old.faults) }
-        ensures memory_faults { IsErrOf result FileFault.Memory → self.new.faults ≡ self.old.faults }
-        ensures failed_faults { IsErrOf result FileFault.Failed → self.new.faults ≡ one_more self.old.faults }
-        ensures failing { self.new.failing ≡ self.old.failing }
+        ensures cause { HasFileCause self.old.faults self.new.faults result }
+        ensures memory { IsFileCallOf self.old self.new result }
     {
         if self.plan.fails() {
             return Err(FileFault::Failed);
@@ -169,14 +164,8 @@ impl Files for MemFiles {
         ensures bytes { IfOk result (λ it.
             IfSome (Some self.old.files) (λ fs. it ≡ folders.file_of fs name.now)) }
         ensures files { Some self.new.files ≡ Some self.old.files }
-        ensures later { self.old.faults ≤ self.new.faults }
-        ensures failed { IsErrOf result FileFault.Failed → Rose self.old.faults self.new.faults }
-        ensures fails { IsErrOf result FileFault.Failed ↔ Contains self.old.failing (one_more self.old.calls) }
-        ensures calls { self.new.calls ≡ one_more self.old.calls }
-        ensures ok_faults { OnOk result (self.new.faults ≡ self.old.faults) }
-        ensures memory_faults { IsErrOf result FileFault.Memory → self.new.faults ≡ self.old.faults }
-        ensures failed_faults { IsErrOf result FileFault.Failed → self.new.faults ≡ one_more self.old.faults }
-        ensures failing { self.new.failing ≡ self.old.failing }
+        ensures cause { HasFileCause self.old.faults self.new.faults result }
+        ensures memory { IsFileCallOf self.old self.new result }
     {
         if self.plan.fails() {
             return Err(FileFault::Failed);

@@ -1,6 +1,6 @@
 //! Which calls of an object in memory are to fail.
 ghost use Rattle.std.specs.Prelude.{◌≡◌, ◌≤◌, ◌↔◌, IsTrue, Contains, if◌then◌else◌};
-ghost use Rattle.nc_outside.specs.Causes.{one_more};
+ghost use Rattle.nc_names.specs.Counts.{one_more};
 
 use nc_names::Many;
 

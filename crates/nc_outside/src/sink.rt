@@ -1,13 +1,12 @@
 //! Where bytes go.
-ghost use Rattle.std.specs.Prelude.{◌≡◌, ◌+◌, ◌<◌, ◌≤◌, ◌↔◌, ◌⊎◌, ℕ, List, Option, [], ◌++◌, length, take, drop, Contains, IsErr, MatchResult, IfOk, OnOk, if◌then◌else◌, is_err};
+ghost use Rattle.std.specs.Prelude.{◌≡◌, ◌+◌, ◌<◌, ◌≤◌, ℕ, List, Option, [], length, take, MatchResult, IfOk, OnOk};
 ghost use Rattle.std.specs.Io.{WritesAtMost};
 ghost use Rattle.std.specs.Io.KnownBytes.{append_known};
-ghost use Rattle.nc_outside.specs.Causes.{HasCause, TookPart, one_more};
+ghost use Rattle.nc_outside.specs.Causes.{HasCause, TookPart};
 
 use crate::Failed;
 use crate::plan::Plan;
-use crate::slices::tail;
-use nc_names::{Bytes, Many};
+use nc_names::{Bytes, Many, tail};
 use std::alloc::Global;
 use std::marker::Model;
 
@@ -22,8 +21,8 @@ pub trait Sink {
     /// Takes bytes from the front of a piece, and gives how many it took: at least one of a piece
     /// that is not empty.
     ///
-    /// `Failed` means that nothing was taken, and comes only where the count of faults rose in the
-    /// call.
+    /// `Failed` means that nothing was taken. The count of faults rises where it is answered, and
+    /// nowhere else.
     fn write(&mut self, bytes: &[u8]) -> Result<usize, Failed>
         ensures bound { WritesAtMost result bytes.now }
         ensures some { IfOk result (λ n. 0 < length bytes.now → 0 < n) }
@@ -44,7 +43,7 @@ pub struct MemSink {
 }
 
 impl Model for MemSink {
-    ghost use Rattle.nc_outside.specs.Objects.{SinkState};
+    ghost use Rattle.nc_outside.specs.inner.Objects.{SinkState};
 
     ghost Value = { SinkState };
 
@@ -91,6 +90,7 @@ impl MemSink {
 
 impl Sink for MemSink {
     ghost use Rattle.std.specs.Prelude.{Some};
+    ghost use Rattle.nc_outside.specs.inner.Objects.{IsWriteOf};
 
     ghost taken = { λ s. Some s.taken };
 
@@ -105,16 +105,7 @@ impl Sink for MemSink {
             (λ n. Some self.new.taken ≡ append_known (Some self.old.taken) (take n bytes.now))
             (λ _. Some self.new.taken ≡ Some self.old.taken) }
         ensures cause { HasCause self.old.faults self.new.faults result }
-        ensures whole { IfOk result (λ n. n ≡ length bytes.now) }
-        ensures named { Contains self.old.failing (one_more self.old.calls) → IsErr result }
-        ensures fails { self.new.starved < one_more self.old.starved →
-            (IsErr result ↔ Contains self.old.failing (one_more self.old.calls)) }
-        ensures ok_starved { OnOk result (self.new.starved ≡ self.old.starved) }
-        ensures starved { (self.new.starved ≡ self.old.starved) ⊎ (self.new.starved ≡ one_more self.old.starved) }
-        ensures calls { self.new.calls ≡ one_more self.old.calls }
-        ensures faults { self.new.faults ≡
-            (if is_err result then one_more self.old.faults else self.old.faults) }
-        ensures failing { self.new.failing ≡ self.old.failing }
+        ensures memory { IsWriteOf self.old self.new bytes.now result }
     {
         if self.plan.fails() {
             return Err(Failed);
@@ -130,8 +121,8 @@ impl Sink for MemSink {
 
 /// Writes all the bytes, in as many calls as the sink wants.
 ///
-/// `Failed` means that a call failed; the sink then took a beginning of the bytes. It comes only
-/// where the sink's count of faults rose in this call.
+/// `Failed` means that a call failed; the sink then took a beginning of the bytes. The sink's count
+/// of faults rises where it is answered, and nowhere else.
 pub fn write_all<K: Sink>(sink: &mut K, bytes: &[u8]) -> Result<(), Failed>
     ensures ok { OnOk result (K.taken sink.new ≡ append_known (K.taken sink.old) bytes.now) }
     ensures part { TookPart (K.taken sink.old) (K.taken sink.new) bytes.now }

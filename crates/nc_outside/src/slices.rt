@@ -1,13 +1,5 @@
-//! Parts of slices, named by lists.
-ghost use Rattle.std.specs.Prelude.{◌≡◌, ◌≤◌, length, take, drop};
-
-/// The bytes from a place on.
-pub fn tail(bytes: &[u8], at: usize) -> &[u8]
-    requires { at ≤ length bytes.now }
-    ensures { result.now ≡ drop at bytes.now }
-{
-    &bytes[at..]
-}
+//! Copies between slices, named by lists.
+ghost use Rattle.std.specs.Prelude.{◌≡◌, ◌≤◌, length, take};
 
 /// Copies the first `count` bytes of `from` over the first of `into`.
 pub fn copy_front(from: &[u8], into: &mut [u8], count: usize)

@@ -1,7 +1,8 @@
 -- What a sink took of a text that was sent.
 use Rattle.std.specs.Prelude.{◌≡◌, ℕ, List, Option, Result, MatchResult}
 use Rattle.std.specs.Io.KnownBytes.{append_known}
-use Rattle.nc_outside.specs.Causes.{Rose, TookPart}
+use Rattle.nc_names.specs.Counts.{Rose}
+use Rattle.nc_outside.specs.Causes.{TookPart}
 use Rattle.nc_session.specs.declared.end.SessionEnd.{SessionEnd}
 use Rattle.nc_session.specs.declared.end.SessionEnd.TheVariants.{WriteFault, Memory}
 

@@ -1,6 +1,6 @@
 //! Messages, read piece by piece.
 ghost use Rattle.std.specs.Prelude.{◌≡◌, ◌<◌, ◌≤◌, ◌+◌, ◌^◌, ◌-◌, length, take, min, Err};
-ghost use Rattle.nc_outside.specs.Causes.{Rose};
+ghost use Rattle.nc_names.specs.Counts.{Rose};
 ghost use Rattle.nc_session.specs.Reading.{ReadsPiece, ReadsMessage, capped};
 ghost use Rattle.nc_session.specs.declared.end.SessionEnd.TheVariants.{ReadFault};
 

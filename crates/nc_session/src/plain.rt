@@ -1,7 +1,7 @@
 //! A whole session on a source and a sink.
 ghost use Rattle.std.specs.Prelude.{◌≡◌, ◌≤◌, ◌<◌, [], Err, IfOk, IfErr, OnOk, length};
 ghost use Rattle.std.specs.Io.KnownBytes.{append_known};
-ghost use Rattle.nc_outside.specs.Causes.{Rose};
+ghost use Rattle.nc_names.specs.Counts.{Rose};
 ghost use Rattle.nc_message.specs.Written.{written};
 ghost use Rattle.nc_names.specs.Mark.{with_mark};
 ghost use Rattle.nc_session.specs.Hello.{hello_tree};

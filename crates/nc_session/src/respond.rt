@@ -1,6 +1,6 @@
 //! The answer to one message.
 ghost use Rattle.std.specs.Prelude.{◌≡◌, ◌≢◌, ◌≤◌, Err, true, false};
-ghost use Rattle.nc_outside.specs.Causes.{Rose};
+ghost use Rattle.nc_names.specs.Counts.{Rose};
 ghost use Rattle.nc_session.specs.Asked.{hello_fault};
 ghost use Rattle.nc_session.specs.Reply.{answer};
 ghost use Rattle.nc_session.specs.Session.{greeting_answer};

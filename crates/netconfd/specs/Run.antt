@@ -1,7 +1,7 @@
 -- What the program does, from its words to its exit status.
 use Rattle.std.specs.Prelude.{◌≡◌, ℕ, List, Option, IfSome}
 use Rattle.nc_names.specs.declared.name.Module.{Module}
-use Rattle.nc_outside.specs.Causes.{Rose}
+use Rattle.nc_names.specs.Counts.{Rose}
 use Rattle.nc_outside.specs.declared.files.NamedFile.{NamedFile}
 use Rattle.nc_session.specs.Served.{Served}
 use Rattle.nc_session.specs.declared.end.SessionEnd.{SessionEnd}

@@ -2,7 +2,7 @@
 //! the setup folder. These adapters tell no bytes and no files; each counts its faults.
 ghost use Rattle.std.specs.Prelude.{◌≡◌, ◌≤◌};
 ghost use Rattle.std.specs.Io.{WritesAtMost};
-ghost use Rattle.nc_outside.specs.Causes.{Rose};
+ghost use Rattle.nc_names.specs.Counts.{Rose};
 
 use nc_names::{Bytes, Many, Memory, Text};
 use nc_outside::{Failed, FileFault, Files, Sink, Source};

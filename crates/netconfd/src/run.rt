@@ -1,6 +1,6 @@
 //! All that the program does, over a world that is handed in.
 ghost use Rattle.std.specs.Prelude.{◌≡◌, ◌↔◌, ◌≤◌, map, string_bytes};
-ghost use Rattle.nc_outside.specs.Causes.{Rose};
+ghost use Rattle.nc_names.specs.Counts.{Rose};
 ghost use Rattle.netconfd.specs.Run.{HasNoReading, Runs, status_of};
 
 use crate::setup::{SetupFault, read_setup};

@@ -2,7 +2,7 @@
 ghost use Rattle.std.specs.Prelude.{◌≡◌, ◌≢◌, ◌≤◌, ◌∷◌, [], ℕ, List, IfOk, IfSome, IsErrOf, IsTrue, MatchOption};
 ghost use Rattle.std.specs.List.{filter};
 ghost use Rattle.nc_names.specs.declared.name.Module.{Module};
-ghost use Rattle.nc_outside.specs.Causes.{Rose};
+ghost use Rattle.nc_names.specs.Counts.{Rose};
 ghost use Rattle.netconfd.specs.Setup as setups;
 ghost use Rattle.netconfd.specs.declared.setup.SetupFault.TheVariants.{Failed as SetupFailed, Memory as SetupMemory};
 ghost use Rattle.nc_outside.specs.declared.fault.FileFault.TheVariants.{Failed as FileFailed, Memory as FileMemory};

@@ -7,4 +7,6 @@ mod frames_tests;
 #[cfg(test)]
 mod names_tests;
 #[cfg(test)]
+mod outside_tests;
+#[cfg(test)]
 mod yang_words_tests;

@@ -10,6 +10,15 @@ pub record Streams : Type 0 where
   pub taken : Option (List ℕ)
   pub writes_failed : ℕ
 
+abbrev pub streams : (left : Option (List ℕ)) (ends reads_failed : ℕ) (taken : Option (List ℕ)) (writes_failed : ℕ) → Streams
+streams left ends reads_failed taken writes_failed = record {
+  left = left;
+  ends = ends;
+  reads_failed = reads_failed;
+  taken = taken;
+  writes_failed = writes_failed;
+}
+
 -- the end of input was not given, and nothing failed
 pub record SameCounts (before now : Streams) : Type 0 where
   pub ends : now.ends ≡ before.ends

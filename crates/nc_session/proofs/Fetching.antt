@@ -4,9 +4,10 @@ use Rattle.std.proofs.lemmas.List.{length-take-le, take-append-le, length-take}
 use Rattle.std.specs.Io.KnownBytes.{prepend_known}
 use Rattle.nc_names.specs.Mark.{mark, HasNoMark, IsMarked, with_mark}
 use Rattle.nc_outside.proofs.Known.{prepend_twice}
-use Rattle.nc_session.specs.Waiting.{Waiting}
-use Rattle.nc_session.specs.Reading.{IsTooLong, IsUnfinished, Reads, ReadsPiece, ReadsNone}
-use Rattle.nc_session.specs.declared.limits.TheConstants.{MESSAGE_LIMIT}
+use Rattle.nc_session.specs.inner.Waiting.{Waiting}
+use Rattle.nc_session.specs.Reading.{IsTooLong, IsUnfinished}
+use Rattle.nc_session.specs.inner.Pieces.{Reads, ReadsPiece, ReadsNone}
+use Rattle.nc_names.specs.Limits.{message_limit}
 use Rattle.nc_session.specs.declared.end.SessionEnd.{SessionEnd}
 use Rattle.nc_session.specs.declared.end.SessionEnd.TheVariants.{InputEnded, ReadFault, TooBig, Memory, Closed, BadHello, BadFrame, Malformed, Killed, WriteFault, Full, Spent}
 
@@ -21,7 +22,7 @@ unfinished_front front more message marked e some before after at =
     let behind : after ++ more ≡ [] = marked before (after ++ more) (e ∙ ap (λ x. x ++ more) at ∙ append_assoc before (mark ++ after) more) in
     omega (arith, ap length behind, length-append after more)
 
-too_long : (k : ℕ) (bytes : List ℕ) → k ≡ MESSAGE_LIMIT + 6 → k ≤ length bytes → HasNoMark (take k bytes) → IsTooLong bytes
+too_long : (k : ℕ) (bytes : List ℕ) → k ≡ message_limit + 6 → k ≤ length bytes → HasNoMark (take k bytes) → IsTooLong bytes
 too_long k bytes e fits none = record {
   front = take k bytes;
   rest = drop k bytes;
@@ -30,9 +31,9 @@ too_long k bytes e fits none = record {
   unmarked = none;
 }
 
-pub too_long_unmarked : (bytes : List ℕ) → HasNoMark bytes → MESSAGE_LIMIT + 6 ≤ length bytes → IsTooLong bytes
+pub too_long_unmarked : (bytes : List ℕ) → HasNoMark bytes → message_limit + 6 ≤ length bytes → IsTooLong bytes
 too_long_unmarked bytes none fits =
-    let k : ℕ = MESSAGE_LIMIT + 6 in
+    let k : ℕ = message_limit + 6 in
     let P : List ℕ → Type 0 = λ b. HasNoMark b in
     too_long k bytes refl fits (unmarked_front (take k bytes) (drop k bytes) (subst P (sym (take-append-drop k bytes)) none))
 
@@ -46,9 +47,9 @@ marked_front k bytes message rest marked e short =
     subst P (sym same) (unfinished_front (take k all) (drop k all) message marked (sym (take-append-drop k all)) (omega (arith, length-drop k all)))
 
 pub too_long_marked : (bytes : List ℕ) (len : ℕ) → IsMarked (take len bytes) → bytes ≡ with_mark (take len bytes) ++ drop (len + 6) bytes
-    → MESSAGE_LIMIT < len → IsTooLong bytes
+    → message_limit < len → IsTooLong bytes
 too_long_marked bytes len marked e big =
-    let k : ℕ = MESSAGE_LIMIT + 6 in
+    let k : ℕ = message_limit + 6 in
     let front = take len bytes in
     let size : length bytes ≡ length front + 6 + length (drop (len + 6) bytes) =
     ap length e ∙ length-append (with_mark front) (drop (len + 6) bytes) ∙ ap (λ n. n + length (drop (len + 6) bytes)) (length-append front mark) in
@@ -63,13 +64,13 @@ reads_both {a = a} {now = now} first second = record {
   place = second.place ∙ first.place;
 }
 
-unfinished : (b c : Waiting) → HasNoMark b.bytes → length b.bytes < MESSAGE_LIMIT + 6 → c ≡ b → IsUnfinished c.bytes
+unfinished : (b c : Waiting) → HasNoMark b.bytes → length b.bytes < message_limit + 6 → c ≡ b → IsUnfinished c.bytes
 unfinished b c none small e =
     let P : Waiting → Type 0 = λ w. IsUnfinished w.bytes in subst P (sym e) (record { unmarked = none; small = small })
 
 -- what was read before, and then why nothing more was
 pub reads_none : (a b c : Waiting) (before middle now : Option (List ℕ)) (end : SessionEnd) → Reads a b before middle
-    → HasNoMark b.bytes → length b.bytes < MESSAGE_LIMIT + 6 → ReadsPiece b c middle now (Err end) → ReadsNone a c before now end
+    → HasNoMark b.bytes → length b.bytes < message_limit + 6 → ReadsPiece b c middle now (Err end) → ReadsNone a c before now end
 reads_none a b c before middle now InputEnded first none small piece = (reads_both first piece.0, unfinished b c none small piece.1, piece.2)
 reads_none a b c before middle now ReadFault first none small piece = (reads_both first piece.0, unfinished b c none small piece.1)
 reads_none a b c before middle now Memory first none small piece = record {

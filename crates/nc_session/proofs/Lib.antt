@@ -1,3 +1,4 @@
+pub mod Counting
 pub mod Fetching
 pub mod NarrowAttrs
 pub mod NarrowCode

@@ -5,7 +5,7 @@ use Rattle.std.specs.Str.{bytes_eq}
 use Rattle.std.proofs.lemmas.Slice.Eq.{bytes_eq-Decides}
 use Rattle.nc_message.specs.declared.tree.Attr.{Attr}
 use Rattle.nc_session.specs.Narrow.{is_declaration, attrs_in, all_differ}
-use Rattle.nc_session.specs.NarrowReadings.{attrs_left}
+use Rattle.nc_session.specs.inner.NarrowReadings.{attrs_left}
 
 not_true : (b : Bool) → (b ≡ true → ⊥) → b ≡ false
 not_true true h = absurd (h refl)

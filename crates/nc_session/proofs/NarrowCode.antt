@@ -11,7 +11,7 @@ use Rattle.nc_message.specs.declared.tree.Elem.{Elem}
 use Rattle.nc_message.specs.declared.tree.Part.{Part}
 use Rattle.nc_message.specs.declared.tree.Part.TheVariants.{Child}
 use Rattle.nc_session.specs.Narrow.{is_blank, is_value_byte, is_text_byte, is_declaration, space_in}
-use Rattle.nc_session.specs.NarrowReadings.{attrs_left, has_section_end, after_blanks, first_passes, prepend, attribute, attributes, run, chars_of, element, content}
+use Rattle.nc_session.specs.inner.NarrowReadings.{attrs_left, has_section_end, after_blanks, first_passes, prepend, attribute, attributes, run, chars_of, element, content}
 use Rattle.nc_session.proofs.NarrowFronts.{prefix_passes}
 
 -- what passes these tests is ASCII

@@ -10,7 +10,7 @@ use Rattle.nc_message.specs.declared.tree.Elem.{Elem}
 use Rattle.nc_message.specs.declared.tree.Part.{Part}
 use Rattle.nc_message.specs.declared.tree.Part.TheVariants.{Child, Chars}
 use Rattle.nc_session.specs.Narrow.{is_blank, is_text_byte, IsName, IsText, Tag, Ending, Alone, Closed, Content, Nothing, Run, Element, IsTag, IsEnding, IsContent, attr_of, spelled_tag, spelled_end, spelled, space_in, bounds_of, elem_of, parts_of}
-use Rattle.nc_session.specs.NarrowReadings.{elem_read, has_section_end, after, piece, split, first_passes, prepend, start, Started, inside, element, chars_of, run, content}
+use Rattle.nc_session.specs.inner.NarrowReadings.{elem_read, has_section_end, after, piece, split, first_passes, prepend, start, Started, inside, element, chars_of, run, content}
 use Rattle.nc_session.proofs.NarrowFronts.{bind_some, bind_is, passes_all, prefix_passes, split_seam, after-is, after-gives, blanks_of, blanks_pass, piece-is, piece-gives}
 use Rattle.nc_session.proofs.NarrowCode.{behind_run, run_read, no_tag}
 use Rattle.nc_session.proofs.NarrowAttrs.{left_same}

@@ -6,7 +6,7 @@ use Rattle.std.proofs.lemmas.List.Elements.{All-cons, All-head, All-tail, All-ni
 use Rattle.std.proofs.lemmas.Bool.Decides.{Decides-eqb}
 use Rattle.std.proofs.lemmas.Slice.Eq.{starts_is}
 use Rattle.nc_session.specs.Narrow.{is_blank}
-use Rattle.nc_session.specs.NarrowReadings.{after_blanks, after, piece, split, first_passes}
+use Rattle.nc_session.specs.inner.NarrowReadings.{after_blanks, after, piece, split, first_passes}
 
 -- a choice, and a step that may fail, gave something
 pub cond_some : {A : Type 0} (b : Bool) (o : Option A) (v : A) → cond b o None ≡ Some v → (b ≡ true) × (o ≡ Some v)

@@ -8,7 +8,7 @@ use Rattle.std.proofs.lemmas.Bool.Decides.{nat_tests, Decides-eqb}
 use Rattle.nc_names.specs.Signs.{begins_identifier, is_in_identifier}
 use Rattle.nc_message.specs.declared.tree.Attr.{Attr}
 use Rattle.nc_session.specs.Narrow.{is_blank, is_value_byte, IsName, Attribute, Tag, IsAttribute, AreAttributes, IsTag, attr_of, all_differ, spelled_attribute, spelled_attributes, spelled_tag}
-use Rattle.nc_session.specs.NarrowReadings.{after_blanks, after, piece, split, first_passes, name, value, quoted, attribute, prepend, attributes, close, start, Started}
+use Rattle.nc_session.specs.inner.NarrowReadings.{after_blanks, after, piece, split, first_passes, name, value, quoted, attribute, prepend, attributes, close, start, Started}
 use Rattle.nc_session.proofs.NarrowFronts.{cond_some, bind_some, bind_is, passes_all, prefix_passes, split_seam, after-is, after-gives, blanks_of, blanks_pass, blanks_first, blanks_over, piece-is, piece-gives}
 use Rattle.nc_session.proofs.NarrowCode.{attributes_more}
 

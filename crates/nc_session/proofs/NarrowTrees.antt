@@ -6,7 +6,7 @@ use Rattle.std.proofs.lemmas.Bool.Decides.{Decides-eqb}
 use Rattle.nc_message.specs.declared.tree.Elem.{Elem}
 use Rattle.nc_message.specs.declared.tree.Tree.{Tree}
 use Rattle.nc_session.specs.Narrow.{is_blank, Nothing, Element, spelled, SpellsNarrow}
-use Rattle.nc_session.specs.NarrowReadings.{after_blanks, element, content, is_end, tree}
+use Rattle.nc_session.specs.inner.NarrowReadings.{after_blanks, element, content, is_end, tree}
 use Rattle.nc_session.proofs.NarrowFronts.{cond_some, bind_some, passes_all, blanks_of, blanks_pass, blanks_first, blanks_over}
 use Rattle.nc_session.proofs.NarrowContent.{element_no_blank, element-gives, content-gives, element_reads, written}
 

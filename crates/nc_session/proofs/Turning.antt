@@ -10,9 +10,11 @@ use Rattle.nc_names.specs.Mark.{mark, with_mark}
 use Rattle.nc_names.specs.declared.name.Module.{Module}
 use Rattle.nc_message.specs.declared.tree.Tree.{Tree}
 use Rattle.nc_outside.specs.Causes.{TookPart}
+use Rattle.nc_outside.specs.Streams.{Streams, SameCounts}
 use Rattle.nc_outside.proofs.Known.{prepend_twice, prepend_nothing, append_twice, took_more, took_whole, took_nothing}
-use Rattle.nc_session.specs.Waiting.{Waiting}
-use Rattle.nc_session.specs.Reading.{Message, IsReading, IsRead, Reads, ReadsNone, BeginsWith, capped}
+use Rattle.nc_session.specs.inner.Waiting.{Waiting}
+use Rattle.nc_session.specs.Reading.{Message, IsReading, IsRead, capped}
+use Rattle.nc_session.specs.inner.Pieces.{Reads, ReadsNone, BeginsWith}
 use Rattle.nc_session.specs.Asked.{hello_fault, asked}
 use Rattle.nc_session.specs.Reply.{Answer, answer_to, end_after}
 use Rattle.nc_session.specs.declared.ask.Asked.{Asked}
@@ -20,10 +22,10 @@ use Rattle.nc_session.specs.declared.ask.Operation.{Operation}
 use Rattle.nc_session.specs.declared.ask.Operation.TheVariants.{GetConfig, CloseSession, Unknown}
 use Rattle.nc_session.specs.declared.end.HelloFault.{HelloFault}
 use Rattle.nc_session.specs.Session.{Phase, Greeting, Serving, Over, Progress, session, step, opening, answer_in, greeting_answer, phase_after, serving}
-use Rattle.nc_session.specs.Sending.{IsSendFault}
-use Rattle.nc_session.specs.Served.{framed, GoesOn, Served}
-use Rattle.nc_session.specs.Turn.{Takes, Turns, Answers, Stops, Underway, Responds, answer_for}
-use Rattle.nc_session.specs.declared.limits.TheConstants.{MESSAGE_LIMIT, REQUESTS}
+use Rattle.nc_session.specs.inner.Sending.{IsSendFault}
+use Rattle.nc_session.specs.Served.{framed, GoesOn, Exchanged, Counts}
+use Rattle.nc_session.specs.inner.Turn.{Takes, Turns, Answers, Stops, Underway, Responds, answer_for}
+use Rattle.nc_names.specs.Limits.{message_limit, most_requests}
 use Rattle.nc_session.specs.declared.end.SessionEnd.{SessionEnd}
 use Rattle.nc_session.specs.declared.end.SessionEnd.TheVariants.{InputEnded, ReadFault, TooBig, Memory, Closed, BadHello, BadFrame, Malformed, Killed, WriteFault, Full, Spent}
 
@@ -45,12 +47,12 @@ takes_front a b c before now len reads begins behind placed =
     }
 
 -- nothing is read, and the server's hello is written
-pub underway_start : (m : Module) (w : Waiting) (left before now : Option (List ℕ)) → w.bytes ≡ [] → w.place ≡ 0
-    → now ≡ append_known before (opening m).text → Underway m Greeting w left left before now
-underway_start m w left before now none zeroth written = record {
+pub underway_start : (m : Module) (w : Waiting) (s0 s : Streams) → w.bytes ≡ [] → w.place ≡ 0 → s.left ≡ s0.left
+    → s.taken ≡ append_known s0.taken (opening m).text → Underway m Greeting w s0 s
+underway_start m w s0 s none zeroth same written = record {
   messages = [];
   each = λ k d l. absurd (omega arith);
-  read = sym (prepend_nothing left) ∙ ap (λ b. prepend_known b left) (sym none);
+  read = sym (prepend_nothing s0.left) ∙ ap (λ b. prepend_known b s0.left) (sym none) ∙ ap (prepend_known w.bytes) (sym same);
   place = zeroth;
   phase_is = refl;
   written = written;
@@ -60,8 +62,8 @@ capped_more : (a b c n : ℕ) → a ≡ capped c → b ≡ capped (a + n) → b 
 capped_more a b c n first more = omega arith
 
 -- one message more is read
-module _ (m : Module) (phase : Phase) (w w' : Waiting) (l0 l l' t0 t : Option (List ℕ)) (message : Message)
-    (u : Underway m phase w l0 l t0 t) (takes : Takes w w' l l' message.bytes) (reading : IsReading message.bytes message.tree) where
+module _ (m : Module) (phase : Phase) (w w' : Waiting) (s0 s s' : Streams) (message : Message)
+    (u : Underway m phase w s0 s) (takes : Takes w w' s.left s'.left message.bytes) (reading : IsReading message.bytes message.tree) where
   abbrev ms : List Message
   ms = u.messages ++ message ∷ []
 
@@ -74,20 +76,20 @@ module _ (m : Module) (phase : Phase) (w w' : Waiting) (l0 l l' t0 t : Option (L
   each_more : All IsRead ms
   each_more = All-push IsRead u.messages message u.each (record { is_message = takes.is_message; reading = reading })
 
-  read_more : l0 ≡ prepend_known (framed ms ++ w'.bytes) l'
+  read_more : s0.left ≡ prepend_known (framed ms ++ w'.bytes) s'.left
   read_more =
       let all : (framed u.messages ++ w.bytes) ++ takes.bytes ≡ framed ms ++ w'.bytes =
       append_assoc (framed u.messages) w.bytes takes.bytes ∙ ap (λ x. framed u.messages ++ x) takes.whole
       ∙ sym (append_assoc (framed u.messages) (with_mark message.bytes) w'.bytes) ∙ ap (λ x. x ++ w'.bytes) (sym framed_more) in
-      u.read ∙ ap (prepend_known (framed u.messages ++ w.bytes)) takes.left ∙ prepend_twice l' (framed u.messages ++ w.bytes) takes.bytes
-      ∙ ap (λ b. prepend_known b l') all
+      u.read ∙ ap (prepend_known (framed u.messages ++ w.bytes)) takes.left ∙ prepend_twice s'.left (framed u.messages ++ w.bytes) takes.bytes
+      ∙ ap (λ b. prepend_known b s'.left) all
 
   text_more : (session m ms).text ≡ (session m u.messages).text ++ (answer_in phase message.tree).text
   text_more = ap (λ (p : Progress). p.text) stepped ∙ ap (λ p. (session m u.messages).text ++ (answer_in p message.tree).text) u.phase_is
 
-  pub underway_more : (t' : Option (List ℕ)) → t' ≡ append_known t (answer_in phase message.tree).text
-      → Underway m (phase_after phase (answer_in phase message.tree).end) w' l0 l' t0 t'
-  underway_more t' written =
+  pub underway_more : s'.taken ≡ append_known s.taken (answer_in phase message.tree).text
+      → Underway m (phase_after phase (answer_in phase message.tree).end) w' s0 s'
+  underway_more written =
       let size : length (framed ms) ≡ length (framed u.messages) + (length message.bytes + 6) =
       ap length framed_more ∙ length-append (framed u.messages) (with_mark message.bytes) ∙ ap (λ n. length (framed u.messages) + n) (length-append message.bytes mark) in
       record {
@@ -97,18 +99,18 @@ module _ (m : Module) (phase : Phase) (w w' : Waiting) (l0 l l' t0 t : Option (L
         place = capped_more w.place w'.place (length (framed u.messages)) (length message.bytes + 6) u.place takes.place ∙ ap capped (sym size);
         phase_is = ap (λ (p : Progress). p.phase) stepped ∙ ap (λ p. phase_after p (answer_in p message.tree).end) u.phase_is;
         written = written ∙ ap (λ k. append_known k (answer_in phase message.tree).text) u.written
-            ∙ append_twice t0 (session m u.messages).text (answer_in phase message.tree).text ∙ ap (append_known t0) (sym text_more);
+            ∙ append_twice s0.taken (session m u.messages).text (answer_in phase message.tree).text ∙ ap (append_known s0.taken) (sym text_more);
       }
 
-  part_more : (t' : Option (List ℕ)) → TookPart t t' (answer_in phase message.tree).text → TookPart t0 t' (session m ms).text
-  part_more t' part = let P : List ℕ → Type 0 = λ x. TookPart t0 t' x in subst P (sym text_more) (took_more (session m u.messages).text u.written part)
+  part_more : TookPart s.taken s'.taken (answer_in phase message.tree).text → TookPart s0.taken s'.taken (session m ms).text
+  part_more part = let P : List ℕ → Type 0 = λ x. TookPart s0.taken s'.taken x in subst P (sym text_more) (took_more (session m u.messages).text u.written part)
 
   -- the answer was written in part
-  pub cut_at_write : (t' : Option (List ℕ)) → TookPart t t' (answer_in phase message.tree).text → Served m l0 l' t0 t' WriteFault
-  cut_at_write t' part = record { messages = ms; rest = w'.bytes; each = each_more; read = read_more; ends = part_more t' part }
+  pub cut_at_write : TookPart s.taken s'.taken (answer_in phase message.tree).text → Exchanged m s0 s' WriteFault
+  cut_at_write part = record { messages = ms; rest = w'.bytes; each = each_more; read = read_more; ends = part_more part }
 
-  pub cut_for_memory : (t' : Option (List ℕ)) → TookPart t t' (answer_in phase message.tree).text → Served m l0 l' t0 t' Memory
-  cut_for_memory t' part = record { messages = ms; rest = w'.bytes; each = each_more; read = read_more; ends = part_more t' part }
+  pub cut_for_memory : TookPart s.taken s'.taken (answer_in phase message.tree).text → Exchanged m s0 s' Memory
+  cut_for_memory part = record { messages = ms; rest = w'.bytes; each = each_more; read = read_more; ends = part_more part }
 
 -- the ends that a message shows
 abbrev pub IsShown : SessionEnd → Type 0
@@ -119,20 +121,20 @@ IsShown (Spent ticket) = Unit {0}
 IsShown _ = ⊥
 
 -- a session that is over, with all that is written until then
-pub over_served : (m : Module) (end : SessionEnd) (w : Waiting) (l0 l t0 t : Option (List ℕ)) → IsShown end
-    → Underway m (Over end) w l0 l t0 t → Served m l0 l t0 t end
-over_served m Closed w l0 l t0 t shown u = record { messages = u.messages; rest = w.bytes; each = u.each; read = u.read; ends = (u.phase_is, u.written) }
-over_served m (BadHello why) w l0 l t0 t shown u = record { messages = u.messages; rest = w.bytes; each = u.each; read = u.read; ends = (u.phase_is, u.written) }
-over_served m (Malformed at why) w l0 l t0 t shown u = record { messages = u.messages; rest = w.bytes; each = u.each; read = u.read; ends = (u.phase_is, u.written) }
-over_served m (Spent ticket) w l0 l t0 t shown u = record { messages = u.messages; rest = w.bytes; each = u.each; read = u.read; ends = (u.phase_is, u.written) }
-over_served m InputEnded w l0 l t0 t shown u = absurd shown
-over_served m ReadFault w l0 l t0 t shown u = absurd shown
-over_served m WriteFault w l0 l t0 t shown u = absurd shown
-over_served m Memory w l0 l t0 t shown u = absurd shown
-over_served m Killed w l0 l t0 t shown u = absurd shown
-over_served m (TooBig at) w l0 l t0 t shown u = absurd shown
-over_served m (BadFrame at) w l0 l t0 t shown u = absurd shown
-over_served m (Full live last) w l0 l t0 t shown u = absurd shown
+pub over_served : (m : Module) (end : SessionEnd) (w : Waiting) (s0 s : Streams) → IsShown end
+    → Underway m (Over end) w s0 s → Exchanged m s0 s end
+over_served m Closed w s0 s shown u = record { messages = u.messages; rest = w.bytes; each = u.each; read = u.read; ends = (u.phase_is, u.written) }
+over_served m (BadHello why) w s0 s shown u = record { messages = u.messages; rest = w.bytes; each = u.each; read = u.read; ends = (u.phase_is, u.written) }
+over_served m (Malformed at why) w s0 s shown u = record { messages = u.messages; rest = w.bytes; each = u.each; read = u.read; ends = (u.phase_is, u.written) }
+over_served m (Spent ticket) w s0 s shown u = record { messages = u.messages; rest = w.bytes; each = u.each; read = u.read; ends = (u.phase_is, u.written) }
+over_served m InputEnded w s0 s shown u = absurd shown
+over_served m ReadFault w s0 s shown u = absurd shown
+over_served m WriteFault w s0 s shown u = absurd shown
+over_served m Memory w s0 s shown u = absurd shown
+over_served m Killed w s0 s shown u = absurd shown
+over_served m (TooBig at) w s0 s shown u = absurd shown
+over_served m (BadFrame at) w s0 s shown u = absurd shown
+over_served m (Full live last) w s0 s shown u = absurd shown
 
 -- an answer ends a session in one of these ways
 abbrev ShownOf : Option SessionEnd → Type 0
@@ -181,31 +183,31 @@ goes_on false Greeting at = absurd at
 goes_on false (Serving n) at = tt
 goes_on false (Over e) at = absurd at
 
-module _ (m : Module) (first : Bool) (phase : Phase) (w w' : Waiting) (l0 l l' t0 t t' : Option (List ℕ)) (at : IsAt first phase)
-    (u : Underway m phase w l0 l t0 t) where
+module _ (m : Module) (first : Bool) (phase : Phase) (w w' : Waiting) (s0 s s' : Streams) (at : IsAt first phase)
+    (u : Underway m phase w s0 s) where
   -- a message is answered and the session goes on
-  pub turned : Turns first w w' l l' t t' (Ok tt) → Underway m (phase_after phase None) w' l0 l' t0 t'
+  pub turned : Turns first w w' s s' (Ok tt) → Underway m (phase_after phase None) w' s0 s'
   turned (Answers message (Ok x) takes reading responds) =
       let same = answers_same first phase message.tree at in
-      let P : Option SessionEnd → Type 0 = λ e. Underway m (phase_after phase e) w' l0 l' t0 t' in
+      let P : Option SessionEnd → Type 0 = λ e. Underway m (phase_after phase e) w' s0 s' in
       subst P (ap (λ (a : Answer). a.end) (sym same) ∙ responds.0)
-      (underway_more m phase w w' l0 l l' t0 t message u takes reading t' (responds.1 ∙ ap (λ (a : Answer). append_known t a.text) same))
+      (underway_more m phase w w' s0 s s' message u takes reading (responds.1 ∙ ap (λ (a : Answer). append_known s.taken a.text) same))
 
-  over : (end : SessionEnd) (message : Message) → Takes w w' l l' message.bytes → IsReading message.bytes message.tree → (answer_for first message.tree).end ≡ Some end
-      → t' ≡ append_known t (answer_for first message.tree).text → Served m l0 l' t0 t' end
+  over : (end : SessionEnd) (message : Message) → Takes w w' s.left s'.left message.bytes → IsReading message.bytes message.tree → (answer_for first message.tree).end ≡ Some end
+      → s'.taken ≡ append_known s.taken (answer_for first message.tree).text → Exchanged m s0 s' end
   over end message takes reading ended written =
       let same = answers_same first phase message.tree at in
-      let P : Option SessionEnd → Type 0 = λ e. Underway m (phase_after phase e) w' l0 l' t0 t' in
-      over_served m end w' l0 l' t0 t' (shown first message.tree end ended)
+      let P : Option SessionEnd → Type 0 = λ e. Underway m (phase_after phase e) w' s0 s' in
+      over_served m end w' s0 s' (shown first message.tree end ended)
       (subst P (ap (λ (a : Answer). a.end) (sym same) ∙ ended)
-      (underway_more m phase w w' l0 l l' t0 t message u takes reading t' (written ∙ ap (λ (a : Answer). append_known t a.text) same)))
+      (underway_more m phase w w' s0 s s' message u takes reading (written ∙ ap (λ (a : Answer). append_known s.taken a.text) same)))
 
-  part_of : (found : Option Tree) → TookPart t t' (answer_for first found).text → TookPart t t' (answer_in phase found).text
-  part_of found part = let P : Answer → Type 0 = λ a. TookPart t t' a.text in subst P (answers_same first phase found at) part
+  part_of : (found : Option Tree) → TookPart s.taken s'.taken (answer_for first found).text → TookPart s.taken s'.taken (answer_in phase found).text
+  part_of found part = let P : Answer → Type 0 = λ a. TookPart s.taken s'.taken a.text in subst P (answers_same first phase found at) part
 
-  answered_end : (end : SessionEnd) (message : Message) → Takes w w' l l' message.bytes → IsReading message.bytes message.tree → Responds (answer_for first message.tree) t t' (Err end) → Served m l0 l' t0 t' end
-  answered_end WriteFault message takes reading responds = cut_at_write m phase w w' l0 l l' t0 t message u takes reading t' (part_of message.tree responds)
-  answered_end Memory message takes reading responds = cut_for_memory m phase w w' l0 l l' t0 t message u takes reading t' (part_of message.tree responds)
+  answered_end : (end : SessionEnd) (message : Message) → Takes w w' s.left s'.left message.bytes → IsReading message.bytes message.tree → Responds (answer_for first message.tree) s.taken s'.taken (Err end) → Exchanged m s0 s' end
+  answered_end WriteFault message takes reading responds = cut_at_write m phase w w' s0 s s' message u takes reading (part_of message.tree responds)
+  answered_end Memory message takes reading responds = cut_for_memory m phase w w' s0 s s' message u takes reading (part_of message.tree responds)
   answered_end Closed message takes reading responds = over Closed message takes reading responds.0 responds.1
   answered_end InputEnded message takes reading responds = over InputEnded message takes reading responds.0 responds.1
   answered_end (BadHello why) message takes reading responds = over (BadHello why) message takes reading responds.0 responds.1
@@ -220,15 +222,15 @@ module _ (m : Module) (first : Bool) (phase : Phase) (w w' : Waiting) (l0 l l' t
   still : GoesOn (session m u.messages).phase
   still = let P : Phase → Type 0 = λ p. GoesOn p in subst P (sym u.phase_is) (goes_on first phase at)
 
-  read_on : (bytes : List ℕ) → l ≡ prepend_known bytes l' → l0 ≡ prepend_known (framed u.messages ++ (w.bytes ++ bytes)) l'
+  read_on : (bytes : List ℕ) → s.left ≡ prepend_known bytes s'.left → s0.left ≡ prepend_known (framed u.messages ++ (w.bytes ++ bytes)) s'.left
   read_on bytes more =
-      u.read ∙ ap (prepend_known (framed u.messages ++ w.bytes)) more ∙ prepend_twice l' (framed u.messages ++ w.bytes) bytes
-      ∙ ap (λ b. prepend_known b l') (append_assoc (framed u.messages) w.bytes bytes)
+      u.read ∙ ap (prepend_known (framed u.messages ++ w.bytes)) more ∙ prepend_twice s'.left (framed u.messages ++ w.bytes) bytes
+      ∙ ap (λ b. prepend_known b s'.left) (append_assoc (framed u.messages) w.bytes bytes)
 
-  read_to : Reads w w' l l' → l0 ≡ prepend_known (framed u.messages ++ w'.bytes) l'
-  read_to reads = read_on reads.bytes reads.left ∙ ap (λ b. prepend_known (framed u.messages ++ b) l') (sym reads.fed)
+  read_to : Reads w w' s.left s'.left → s0.left ≡ prepend_known (framed u.messages ++ w'.bytes) s'.left
+  read_to reads = read_on reads.bytes reads.left ∙ ap (λ b. prepend_known (framed u.messages ++ b) s'.left) (sym reads.fed)
 
-  stopped : (end : SessionEnd) → ReadsNone w w' l l' end → t' ≡ t → Served m l0 l' t0 t' end
+  stopped : (end : SessionEnd) → ReadsNone w w' s.left s'.left end → s'.taken ≡ s.taken → Exchanged m s0 s' end
   stopped InputEnded none same = record {
     messages = u.messages;
     rest = w'.bytes;
@@ -250,7 +252,7 @@ module _ (m : Module) (first : Bool) (phase : Phase) (w w' : Waiting) (l0 l l' t
         rest = w'.bytes;
         each = u.each;
         read = read_to here;
-        ends = (still, none.1, none.2 ∙ capped_more w.place _ (length (framed u.messages)) MESSAGE_LIMIT u.place (ap (λ p. capped (p + MESSAGE_LIMIT)) here.place), same ∙ u.written);
+        ends = (still, none.1, none.2 ∙ capped_more w.place _ (length (framed u.messages)) message_limit u.place (ap (λ p. capped (p + message_limit)) here.place), same ∙ u.written);
       }
   stopped Memory none same = record {
     messages = u.messages;
@@ -269,52 +271,52 @@ module _ (m : Module) (first : Bool) (phase : Phase) (w w' : Waiting) (l0 l l' t
   stopped (Spent ticket) none same = absurd none
 
   -- a turn at which the session ends
-  pub ended : (end : SessionEnd) → Turns first w w' l l' t t' (Err end) → Served m l0 l' t0 t' end
+  pub ended : (end : SessionEnd) → Turns first w w' s s' (Err end) → Exchanged m s0 s' end
   ended end (Answers message (Err e) takes reading responds) = answered_end end message takes reading responds
   ended end (Stops e none same) = stopped end none same
 
 -- no memory before anything was written
-pub unbegun : (m : Module) (left taken : Option (List ℕ)) → Served m left left taken taken Memory
-unbegun m left taken = record {
+pub unbegun : (m : Module) (s : Streams) → Exchanged m s s Memory
+unbegun m s = record {
   messages = [];
   rest = [];
   each = λ k d l. absurd (omega arith);
-  read = sym (prepend_nothing left);
-  ends = took_nothing taken (opening m).text;
+  read = sym (prepend_nothing s.left);
+  ends = took_nothing s.taken (opening m).text;
 }
 
 -- the server's hello was written in part
-pub ungreeted : (m : Module) (left before now : Option (List ℕ)) (end : SessionEnd) (f g : ℕ) → IsSendFault f g end
-    → TookPart before now (opening m).text → Served m left left before now end
-ungreeted m left before now WriteFault f g fault part = record {
+pub ungreeted : (m : Module) (s0 s : Streams) (end : SessionEnd) → IsSendFault end → s.left ≡ s0.left
+    → TookPart s0.taken s.taken (opening m).text → Exchanged m s0 s end
+ungreeted m s0 s WriteFault fault same part = record {
   messages = [];
   rest = [];
   each = λ k d l. absurd (omega arith);
-  read = sym (prepend_nothing left);
+  read = sym (prepend_nothing s0.left) ∙ ap (prepend_known []) (sym same);
   ends = part;
 }
-ungreeted m left before now Memory f g fault part = record {
+ungreeted m s0 s Memory fault same part = record {
   messages = [];
   rest = [];
   each = λ k d l. absurd (omega arith);
-  read = sym (prepend_nothing left);
+  read = sym (prepend_nothing s0.left) ∙ ap (prepend_known []) (sym same);
   ends = part;
 }
-ungreeted m left before now Closed f g fault part = absurd fault
-ungreeted m left before now InputEnded f g fault part = absurd fault
-ungreeted m left before now (BadHello why) f g fault part = absurd fault
-ungreeted m left before now (BadFrame at) f g fault part = absurd fault
-ungreeted m left before now (Malformed at why) f g fault part = absurd fault
-ungreeted m left before now (TooBig at) f g fault part = absurd fault
-ungreeted m left before now Killed f g fault part = absurd fault
-ungreeted m left before now ReadFault f g fault part = absurd fault
-ungreeted m left before now (Full live last) f g fault part = absurd fault
-ungreeted m left before now (Spent ticket) f g fault part = absurd fault
+ungreeted m s0 s Closed fault same part = absurd fault
+ungreeted m s0 s InputEnded fault same part = absurd fault
+ungreeted m s0 s (BadHello why) fault same part = absurd fault
+ungreeted m s0 s (BadFrame at) fault same part = absurd fault
+ungreeted m s0 s (Malformed at why) fault same part = absurd fault
+ungreeted m s0 s (TooBig at) fault same part = absurd fault
+ungreeted m s0 s Killed fault same part = absurd fault
+ungreeted m s0 s ReadFault fault same part = absurd fault
+ungreeted m s0 s (Full live last) fault same part = absurd fault
+ungreeted m s0 s (Spent ticket) fault same part = absurd fault
 
 -- below the limit a session serves on
-pub serving_below : (n : ℕ) → n < REQUESTS → serving n ≡ Serving n
-serving_below n below = let apart : n == REQUESTS ≡ false = ne_eqb n REQUESTS (λ e. absurd (omega arith)) in ap (λ b. if b then Over (Spent REQUESTS) else Serving n) apart
+pub serving_below : (n : ℕ) → n < most_requests → serving n ≡ Serving n
+serving_below n below = let apart : n == most_requests ≡ false = ne_eqb n most_requests (λ e. absurd (omega arith)) in ap (λ b. if b then Over (Spent most_requests) else Serving n) apart
 
 -- so many requests were answered that no more are
-pub spent : (m : Module) (w : Waiting) (l0 l t0 t : Option (List ℕ)) → Underway m (serving REQUESTS) w l0 l t0 t → Served m l0 l t0 t (Spent REQUESTS)
-spent m w l0 l t0 t u = over_served m (Spent REQUESTS) w l0 l t0 t tt u
+pub spent : (m : Module) (w : Waiting) (s0 s : Streams) → Underway m (serving most_requests) w s0 s → Exchanged m s0 s (Spent most_requests)
+spent m w s0 s u = over_served m (Spent most_requests) w s0 s tt u

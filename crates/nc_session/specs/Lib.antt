@@ -1,14 +1,10 @@
 pub mod Asked
 pub mod Hello
 pub mod Narrow
-pub mod NarrowReadings
 pub mod Reading
 pub mod Reply
-pub mod Searched
-pub mod Sending
 pub mod Served
 pub mod Session
 pub mod Shape
-pub mod Turn
-pub mod Waiting
 pub mod Words
+pub mod inner

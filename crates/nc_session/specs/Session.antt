@@ -7,7 +7,7 @@ use Rattle.nc_message.specs.Written.{written}
 use Rattle.nc_session.specs.declared.end.HelloFault.{HelloFault}
 use Rattle.nc_session.specs.declared.end.SessionEnd.{SessionEnd}
 use Rattle.nc_session.specs.declared.end.SessionEnd.TheVariants.{BadHello, Spent}
-use Rattle.nc_session.specs.declared.limits.TheConstants.{REQUESTS}
+use Rattle.nc_names.specs.Limits.{most_requests}
 use Rattle.nc_session.specs.Asked.{hello_fault}
 use Rattle.nc_session.specs.Hello.{hello_tree}
 use Rattle.nc_session.specs.Reading.{Message}
@@ -24,7 +24,7 @@ pub record Progress : Type 0 where
   pub text : List ℕ
 
 abbrev pub serving : ℕ → Phase
-serving answered = if answered == REQUESTS then Over (Spent REQUESTS) else Serving answered
+serving answered = if answered == most_requests then Over (Spent most_requests) else Serving answered
 
 -- the hello is not answered; the session goes on where it is taken
 abbrev pub greeting_answer : Option HelloFault → Answer

@@ -1,12 +1,13 @@
 //! Messages, read piece by piece.
 ghost use Rattle.std.specs.Prelude.{◌≡◌, ◌<◌, ◌≤◌, ◌+◌, ◌^◌, ◌-◌, length, take, min, Err};
-ghost use Rattle.nc_names.specs.Counts.{Rose};
-ghost use Rattle.nc_session.specs.Reading.{ReadsPiece, ReadsMessage, capped};
-ghost use Rattle.nc_session.specs.declared.end.SessionEnd.TheVariants.{ReadFault};
+ghost use Rattle.nc_session.specs.Reading.{capped};
+ghost use Rattle.nc_session.specs.inner.Pieces.{ReadsPiece, ReadsMessage};
+ghost use Rattle.nc_names.specs.Limits.{message_limit};
+ghost use Rattle.nc_session.specs.inner.Sending.{CountsReads, end_of};
 
 use crate::SessionEnd;
 use crate::inbox::Inbox;
-use crate::limits::MESSAGE_LIMIT;
+use nc_names::MESSAGE_LIMIT;
 use nc_outside::Source;
 
 /// The first bytes of a buffer.
@@ -25,8 +26,9 @@ fn read_piece<S: Source>(
 ) -> Result<(), SessionEnd>
     requires { 0 < length buffer.old }
     ensures piece { ReadsPiece inbox.old inbox.new (S.left source.old) (S.left source.new) result }
-    ensures later { S.faults source.old ≤ S.faults source.new }
-    ensures fault { result ≡ Err ReadFault → Rose (S.faults source.old) (S.faults source.new) }
+    ensures counts { CountsReads (S.ends source.old) (S.ends source.new)
+        (S.faults source.old) (S.faults source.new)
+        (end_of result) }
 {
     let Ok(len) = source.read(buffer) else {
         return Err(SessionEnd::ReadFault);
@@ -40,7 +42,7 @@ fn read_piece<S: Source>(
 
 /// The place at which it shows that the message that waits is too big.
 fn too_big_at(inbox: &Inbox) -> u64
-    ensures { result ≡ capped (inbox.now.place + MESSAGE_LIMIT) }
+    ensures { result ≡ capped (inbox.now.place + message_limit) }
 {
     inbox.place().saturating_add(MESSAGE_LIMIT as u64)
 }
@@ -53,8 +55,9 @@ pub(crate) fn next_message<S: Source>(
 ) -> Result<usize, SessionEnd>
     requires { 0 < length buffer.old }
     ensures message { ReadsMessage inbox.old inbox.new (S.left source.old) (S.left source.new) result }
-    ensures later { S.faults source.old ≤ S.faults source.new }
-    ensures fault { result ≡ Err ReadFault → Rose (S.faults source.old) (S.faults source.new) }
+    ensures counts { CountsReads (S.ends source.old) (S.ends source.new)
+        (S.faults source.old) (S.faults source.new)
+        (end_of result) }
 {
     loop {
         if let Some(len) = inbox.find() {

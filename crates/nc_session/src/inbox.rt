@@ -22,11 +22,11 @@ pub(crate) struct Inbox {
 
 impl Model for Inbox {
     ghost use Rattle.std.specs.Prelude.{drop};
-    ghost use Rattle.nc_session.specs.Waiting.{Waiting};
+    ghost use Rattle.nc_session.specs.inner.Waiting.{Waiting};
 
     ghost Value = { Waiting };
 
-    ghost use Rattle.nc_session.specs.Searched.{IsSearched};
+    ghost use Rattle.nc_session.specs.inner.Searched.{IsSearched};
 
     ghost view = { λ i. record { place = i.place; bytes = drop i.start i.bytes } };
 

@@ -1,7 +1,12 @@
 //! A session from bytes to bytes: the server's hello, the client's, and the reply to each request, in
-//! end-of-message framing (RFC 6241 4, 8.1; RFC 6242 4.3).
+//! end-of-message framing (RFC 6241 4, 8.1; RFC 6242 4.3). It stands on nc_names, nc_message and
+//! nc_outside.
 //!
-//! The tests of the program above serve whole sessions.
+//! `serve_plain` promises what a whole session reads and writes, by the messages that it reads; how it
+//! ends; and that the end of input and a failed read or write are answered where they came in the
+//! call, and are counted nowhere else. `read_tree` promises the one tree of a narrow message.
+//!
+//! The crate trials_server tests it, and the tests of the program serve whole sessions.
 #![tactic(auto)]
 
 mod ask;
@@ -10,7 +15,6 @@ mod end;
 mod fetch;
 mod hello;
 mod inbox;
-mod limits;
 mod narrow;
 mod plain;
 mod reply;
@@ -19,4 +23,5 @@ mod shape;
 mod words;
 
 pub use end::{HelloFault, SessionEnd};
+pub use narrow::{one_tree, read_tree};
 pub use plain::serve_plain;

@@ -3,14 +3,12 @@
 ghost use Rattle.std.specs.Prelude.{◌≡◌, IfOk, MatchOption, None, Some};
 ghost use Rattle.nc_message.specs.declared.tree.Tree.{Tree};
 ghost use Rattle.nc_session.specs.Narrow.{SpellsNarrow, OneTree};
-ghost use Rattle.nc_session.specs.NarrowReadings as readings;
+ghost use Rattle.nc_session.specs.inner.NarrowReadings as readings;
 
 mod element;
 mod reader;
 mod scan;
 mod tag;
-#[cfg(test)]
-mod tests;
 
 use element::MOST_OPEN;
 use nc_message::Tree;
@@ -19,7 +17,7 @@ use reader::Reader;
 use std::alloc::Global;
 
 /// Reads a whole message by the readings.
-#[tactic(auto, unfolding(crate::specs::NarrowReadings::tree))]
+#[tactic(auto, unfolding(crate::specs::inner::NarrowReadings::tree))]
 fn read_whole(alloc: Global, message: &[u8]) -> Result<Option<Tree>, Memory>
     ensures { IfOk result (λ found. MatchOption found
         (readings.tree message.now ≡ None)
@@ -37,7 +35,7 @@ fn read_whole(alloc: Global, message: &[u8]) -> Result<Option<Tree>, Memory>
 }
 
 /// Reads a narrow message to its tree. `None` means that the bytes are no narrow message.
-pub(crate) fn read_tree(alloc: Global, message: &[u8]) -> Result<Option<Tree>, Memory>
+pub fn read_tree(alloc: Global, message: &[u8]) -> Result<Option<Tree>, Memory>
     ensures { IfOk result (λ found. MatchOption found
         ((tree : Tree) → ¬ SpellsNarrow message.now tree)
         (λ tree. SpellsNarrow message.now tree)) }
@@ -46,6 +44,6 @@ pub(crate) fn read_tree(alloc: Global, message: &[u8]) -> Result<Option<Tree>, M
 }
 
 /// A law: a narrow message has one tree.
-pub(crate) fn one_tree()
+pub fn one_tree()
     ensures { OneTree }
 {}

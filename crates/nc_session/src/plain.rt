@@ -1,24 +1,23 @@
 //! A whole session on a source and a sink.
-ghost use Rattle.std.specs.Prelude.{◌≡◌, ◌≤◌, ◌<◌, [], Err, IfOk, IfErr, OnOk, length};
+ghost use Rattle.std.specs.Prelude.{◌≡◌, [], IfOk, IfErr, OnOk, length};
 ghost use Rattle.std.specs.Io.KnownBytes.{append_known};
-ghost use Rattle.nc_names.specs.Counts.{Rose};
+ghost use Rattle.nc_names.specs.Limits.{piece_limit};
 ghost use Rattle.nc_message.specs.Written.{written};
 ghost use Rattle.nc_names.specs.Mark.{with_mark};
 ghost use Rattle.nc_session.specs.Hello.{hello_tree};
-ghost use Rattle.nc_session.specs.Sending.{Sends, IsSendFault};
-ghost use Rattle.nc_session.specs.Served.{Served};
-ghost use Rattle.nc_session.specs.Turn.{Turns};
-ghost use Rattle.nc_session.specs.declared.end.SessionEnd.TheVariants.{ReadFault, WriteFault};
+ghost use Rattle.nc_outside.specs.Streams.{streams};
+ghost use Rattle.nc_session.specs.inner.Sending.{Sends, IsSendFault, CountsWrites, end_of};
+ghost use Rattle.nc_session.specs.Served.{Served, Counts};
+ghost use Rattle.nc_session.specs.inner.Turn.{Turns};
 
 use crate::SessionEnd;
 use crate::fetch::next_message;
 use crate::hello::hello_message;
 use crate::inbox::Inbox;
-use crate::limits::{PIECE, REQUESTS};
 use crate::narrow::read_tree;
 use crate::reply::send;
 use crate::respond::respond;
-use nc_names::{Bytes, Memory, Module};
+use nc_names::{Bytes, MOST_REQUESTS, Memory, Module, PIECE_LIMIT};
 use nc_outside::{Sink, Source};
 use std::alloc::Global;
 
@@ -29,7 +28,7 @@ struct Talk {
     inbox: Inbox,
     buffer: Vec<u8>,
     out: Bytes,
-    ghost some: { 0 < length buffer.items },
+    ghost room: { length buffer.items ≡ piece_limit },
 }
 
 fn buffer(alloc: Global, len: usize) -> Result<Vec<u8>, Memory>
@@ -46,16 +45,18 @@ impl Talk {
         Ok(Talk {
             alloc,
             inbox: Inbox::new(alloc),
-            buffer: buffer(alloc, PIECE)?,
+            buffer: buffer(alloc, PIECE_LIMIT)?,
             out: Bytes::new(alloc),
         })
     }
 
     /// Sends the server's hello.
     fn greet<K: Sink>(&mut self, served_module: &Module, sink: &mut K) -> Result<(), SessionEnd>
-        ensures sent { Sends (K.taken sink.old) (K.taken sink.new) (with_mark (written (hello_tree served_module.now 1))) result }
-        ensures fault { IfErr result (IsSendFault (K.faults sink.old) (K.faults sink.new)) }
-        ensures later { K.faults sink.old ≤ K.faults sink.new }
+        ensures sent { Sends (K.taken sink.old) (K.taken sink.new)
+            (with_mark (written (hello_tree served_module.now 1)))
+            result }
+        ensures fault { IfErr result IsSendFault }
+        ensures counts { CountsWrites (K.faults sink.old) (K.faults sink.new) (end_of result) }
         ensures inbox { self.new.inbox ≡ self.old.inbox }
     {
         let hello = hello_message(self.alloc, served_module, 1)?;
@@ -69,11 +70,18 @@ impl Talk {
         source: &mut S,
         sink: &mut K,
     ) -> Result<(), SessionEnd>
-        ensures turn { Turns first self.old.inbox self.new.inbox (S.left source.old) (S.left source.new) (K.taken sink.old) (K.taken sink.new) result }
-        ensures read_later { S.faults source.old ≤ S.faults source.new }
-        ensures write_later { K.faults sink.old ≤ K.faults sink.new }
-        ensures read_fault { result ≡ Err ReadFault → Rose (S.faults source.old) (S.faults source.new) }
-        ensures write_fault { result ≡ Err WriteFault → Rose (K.faults sink.old) (K.faults sink.new) }
+        ensures turn { Turns first self.old.inbox self.new.inbox
+            (streams (S.left source.old) (S.ends source.old) (S.faults source.old)
+                (K.taken sink.old) (K.faults sink.old))
+            (streams (S.left source.new) (S.ends source.new) (S.faults source.new)
+                (K.taken sink.new) (K.faults sink.new))
+            result }
+        ensures counts { Counts
+            (streams (S.left source.old) (S.ends source.old) (S.faults source.old)
+                (K.taken sink.old) (K.faults sink.old))
+            (streams (S.left source.new) (S.ends source.new) (S.faults source.new)
+                (K.taken sink.new) (K.faults sink.new))
+            (end_of result) }
     {
         let len = match next_message(source, &mut self.inbox, self.buffer.as_mut_slice()) {
             Ok(len) => len,
@@ -92,19 +100,21 @@ impl Talk {
 /// session ends.
 ///
 /// What was read and written is what the messages of the session show, whole; at `WriteFault` and at
-/// `Memory` a part of the last answer may be missing. `ReadFault` and `WriteFault` come only where
-/// that object's count of faults rose in this call.
+/// `Memory` a part of the last answer may be missing. At `InputEnded` the source gave its end in this
+/// call, once. The source's count of faults rose at `ReadFault`, and the sink's at `WriteFault`; else
+/// they are as before.
 pub fn serve_plain<S: Source, K: Sink>(
     alloc: Global,
     served_module: &Module,
     source: &mut S,
     sink: &mut K,
 ) -> SessionEnd
-    ensures served { Served served_module.now (S.left source.old) (S.left source.new) (K.taken sink.old) (K.taken sink.new) result }
-    ensures read_fault { result ≡ ReadFault → Rose (S.faults source.old) (S.faults source.new) }
-    ensures write_fault { result ≡ WriteFault → Rose (K.faults sink.old) (K.faults sink.new) }
-    ensures read_later { S.faults source.old ≤ S.faults source.new }
-    ensures write_later { K.faults sink.old ≤ K.faults sink.new }
+    ensures { Served served_module.now
+        (streams (S.left source.old) (S.ends source.old) (S.faults source.old)
+                (K.taken sink.old) (K.faults sink.old))
+        (streams (S.left source.new) (S.ends source.new) (S.faults source.new)
+                (K.taken sink.new) (K.faults sink.new))
+        result }
 {
     let Ok(mut talk) = Talk::new(alloc) else {
         return SessionEnd::Memory;
@@ -115,10 +125,10 @@ pub fn serve_plain<S: Source, K: Sink>(
     if let Err(end) = talk.turn(true, source, sink) {
         return end;
     }
-    for _answered in 0..REQUESTS {
+    for _answered in 0..MOST_REQUESTS {
         if let Err(end) = talk.turn(false, source, sink) {
             return end;
         }
     }
-    SessionEnd::Spent { ticket: REQUESTS }
+    SessionEnd::Spent { ticket: MOST_REQUESTS }
 }

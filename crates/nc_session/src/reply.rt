@@ -7,7 +7,7 @@ ghost use Rattle.nc_message.specs.declared.tree.Part.TheVariants.{Child};
 ghost use Rattle.nc_outside.specs.Causes.{TookPart};
 ghost use Rattle.nc_session.specs.Reply.{answer_elem, not_supported_elem, reply_tree};
 ghost use Rattle.nc_session.specs.Hello.{text_elem};
-ghost use Rattle.nc_session.specs.Sending.{Sends, IsSendFault};
+ghost use Rattle.nc_session.specs.inner.Sending.{Sends, IsSendFault, CountsWrites, end_of};
 
 use crate::ask::{Asked, Operation};
 use crate::elems::{base_name, base_part, one_part, text_part, two_parts};
@@ -62,7 +62,7 @@ pub(crate) fn reply_message(alloc: Global, asked: Asked) -> Result<Tree, Memory>
     })
 }
 
-/// Puts the text of a message and the mark behind it into `out`, in place of what it held.
+/// Puts the text of a message and the mark after it into `out`, in place of what it held.
 fn frame(tree: &Tree, out: &mut Bytes) -> Result<(), Memory>
     ensures { OnOk result (out.new ≡ with_mark (written tree.now)) }
 {
@@ -74,8 +74,8 @@ fn frame(tree: &Tree, out: &mut Bytes) -> Result<(), Memory>
 /// Writes a message and its mark. `out` is a place to work in.
 pub(crate) fn send<K: Sink>(tree: &Tree, out: &mut Bytes, sink: &mut K) -> Result<(), SessionEnd>
     ensures sent { Sends (K.taken sink.old) (K.taken sink.new) (with_mark (written tree.now)) result }
-    ensures fault { IfErr result (IsSendFault (K.faults sink.old) (K.faults sink.new)) }
-    ensures later { K.faults sink.old ≤ K.faults sink.new }
+    ensures fault { IfErr result IsSendFault }
+    ensures counts { CountsWrites (K.faults sink.old) (K.faults sink.new) (end_of result) }
 {
     frame(tree, out)?;
     if write_all(sink, out.as_slice()).is_err() {

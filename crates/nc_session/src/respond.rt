@@ -1,11 +1,10 @@
 //! The answer to one message.
-ghost use Rattle.std.specs.Prelude.{◌≡◌, ◌≢◌, ◌≤◌, Err, true, false};
-ghost use Rattle.nc_names.specs.Counts.{Rose};
+ghost use Rattle.std.specs.Prelude.{◌≡◌, true, false};
 ghost use Rattle.nc_session.specs.Asked.{hello_fault};
 ghost use Rattle.nc_session.specs.Reply.{answer};
 ghost use Rattle.nc_session.specs.Session.{greeting_answer};
-ghost use Rattle.nc_session.specs.Turn.{Responds, answer_for, met};
-ghost use Rattle.nc_session.specs.declared.end.SessionEnd.TheVariants.{ReadFault, WriteFault};
+ghost use Rattle.nc_session.specs.inner.Turn.{Responds, answer_for, met};
+ghost use Rattle.nc_session.specs.inner.Sending.{CountsWrites, end_of};
 
 use crate::SessionEnd;
 use crate::ask::{Operation, read_hello, read_request};
@@ -31,9 +30,7 @@ fn answer_request<K: Sink>(
     sink: &mut K,
 ) -> Result<(), SessionEnd>
     ensures answered { Responds (answer found) (K.taken sink.old) (K.taken sink.new) result }
-    ensures later { K.faults sink.old ≤ K.faults sink.new }
-    ensures fault { result ≡ Err WriteFault → Rose (K.faults sink.old) (K.faults sink.new) }
-    ensures no_read { result ≢ Err ReadFault }
+    ensures counts { CountsWrites (K.faults sink.old) (K.faults sink.new) (end_of result) }
 {
     let Some(asked) = read_request(found) else {
         let at = 0;
@@ -58,9 +55,7 @@ pub(crate) fn respond<K: Sink>(
     sink: &mut K,
 ) -> Result<(), SessionEnd>
     ensures answered { Responds (answer_for first found) (K.taken sink.old) (K.taken sink.new) result }
-    ensures later { K.faults sink.old ≤ K.faults sink.new }
-    ensures fault { result ≡ Err WriteFault → Rose (K.faults sink.old) (K.faults sink.new) }
-    ensures no_read { result ≢ Err ReadFault }
+    ensures counts { CountsWrites (K.faults sink.old) (K.faults sink.new) (end_of result) }
 {
     if first {
         return meet(&found);

@@ -6,7 +6,7 @@ use Rattle.std.proofs.lemmas.List.Elements.{All-cons, All-head}
 use Rattle.std.proofs.lemmas.Bool.Decides.{nat_tests}
 use Rattle.nc_names.specs.Signs.{begins_identifier, is_in_identifier}
 use Rattle.netconfd.specs.NarrowModule.{is_plain, is_date_byte, IsName, IsSpace, IsDate}
-use Rattle.netconfd.specs.Readings.{after, split, first_passes, name, plain, quoted, is_date_from, date}
+use Rattle.netconfd.specs.inner.Readings.{after, split, first_passes, name, plain, quoted, is_date_from, date}
 use Rattle.netconfd.proofs.Fronts.{cond_some, bind_some, bind_is, passes_all, prefix_passes, split_seam, after-is, after-gives}
 
 begins_continues : (c : ℕ) → begins_identifier c ≡ true → is_in_identifier c ≡ true

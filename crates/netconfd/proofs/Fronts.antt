@@ -7,7 +7,7 @@ use Rattle.std.proofs.lemmas.List.Folds.{length-prefix_len}
 use Rattle.std.proofs.lemmas.Bool.Decides.{Decides-eqb}
 use Rattle.std.proofs.lemmas.Slice.Eq.{starts_is}
 use Rattle.nc_names.specs.Signs.{is_white}
-use Rattle.netconfd.specs.Readings.{after_blanks, gap, after, piece, split, first_passes}
+use Rattle.netconfd.specs.inner.Readings.{after_blanks, gap, after, piece, split, first_passes}
 
 -- a choice, and a step that may fail, gave something
 pub cond_some : {A : Type 0} (b : Bool) (o : Option A) (v : A) → cond b o None ≡ Some v → (b ≡ true) × (o ≡ Some v)

@@ -8,7 +8,7 @@ use Rattle.std.proofs.lemmas.Str.Ascii.{IsAscii-from_all, IsAscii-cons, IsAscii-
 use Rattle.nc_names.specs.declared.name.Module.{Module}
 use Rattle.nc_names.specs.Signs.{begins_identifier, is_in_identifier, is_white}
 use Rattle.netconfd.specs.NarrowModule.{is_plain, is_date_byte, IsName, IsSpace, IsDate, Piece, Word, Sign, IsSpaced, IsNarrowModule}
-use Rattle.netconfd.specs.Readings.{after_blanks, gap, piece, first_passes, argument, statement, parts, is_end, Parts}
+use Rattle.netconfd.specs.inner.Readings.{after_blanks, gap, piece, first_passes, argument, statement, parts, is_end, Parts}
 use Rattle.netconfd.specs.declared.reader.Argument.{Argument}
 use Rattle.netconfd.specs.declared.reader.Argument.TheVariants.{Name, Quoted, Date}
 use Rattle.netconfd.proofs.Fronts.{cond_some, bind_some, bind_is, passes_all, blanks_of, blanks_pass, blanks_first, piece-is, piece-gives, gap-is, gap-gives}

@@ -1,5 +1,5 @@
-pub mod Words
 pub mod NarrowModule
-pub mod Readings
-pub mod Setup
 pub mod Run
+pub mod Setup
+pub mod Words
+pub mod inner

@@ -2,6 +2,7 @@
 use Rattle.std.specs.Prelude.{◌≡◌, ℕ, List, Option, IfSome}
 use Rattle.nc_names.specs.declared.name.Module.{Module}
 use Rattle.nc_names.specs.Counts.{Rose}
+use Rattle.nc_outside.specs.Streams.{Streams}
 use Rattle.nc_outside.specs.declared.files.NamedFile.{NamedFile}
 use Rattle.nc_session.specs.Served.{Served}
 use Rattle.nc_session.specs.declared.end.SessionEnd.{SessionEnd}
@@ -24,30 +25,28 @@ status_of (Malformed at why) = 10
 status_of (TooBig at) = 10
 status_of (Spent ticket) = 14
 
--- what is left of the input, and what the output took, before and after
-pub record Streams : Type 0 where
-  pub left_before : Option (List ℕ)
-  pub left_now : Option (List ℕ)
-  pub taken_before : Option (List ℕ)
-  pub taken_now : Option (List ℕ)
+-- what the files, the source and the sink tell, at one moment, and how often the files have failed
+pub record Outside : Type 0 where
+  pub files : Option (List NamedFile)
+  pub files_failed : ℕ
+  pub streams : Streams
 
--- nothing was read and nothing written
-pub record IsUntouched (s : Streams) : Type 0 where
-  pub left : s.left_now ≡ s.left_before
-  pub taken : s.taken_now ≡ s.taken_before
+abbrev pub outside : Option (List NamedFile) → ℕ → Streams → Outside
+outside files files_failed streams = record { files = files; files_failed = files_failed; streams = streams }
 
 abbrev pub HasNoReading : List (List ℕ) → Type 0
 HasNoReading words = (folder user : List ℕ) → ¬ IsStdio words folder user
 
--- The one of these that the exit status tells: the words have no reading; the files failed, where
--- their count of faults rose; the folder is no setup; no memory was found before the session began;
--- or a session was served, with the folder's module.
-pub data Runs (words : List (List ℕ)) (files : Option (List NamedFile)) (faults_before faults_now : ℕ) (s : Streams) : ℕ → Type 0 where
-  FaultyWords : HasNoReading words → IsUntouched s → Runs words files faults_before faults_now s 2
-  NoModule : (folder user : List ℕ) → IsStdio words folder user → IfSome files (λ fs. (m : Module) → ¬ IsSetup fs folder m)
-      → IsUntouched s → Runs words files faults_before faults_now s 3
-  NoMemory : (folder user : List ℕ) → IsStdio words folder user → IsUntouched s → Runs words files faults_before faults_now s 9
-  FilesFailed : (folder user : List ℕ) → IsStdio words folder user → Rose faults_before faults_now
-      → IsUntouched s → Runs words files faults_before faults_now s 13
-  Serves : (folder user : List ℕ) (m : Module) (end : SessionEnd) → IsStdio words folder user → IfSome files (λ fs. IsSetup fs folder m)
-      → Served m s.left_before s.left_now s.taken_before s.taken_now end → Runs words files faults_before faults_now s (status_of end)
+-- The one of these that the exit status tells: the words have no valid reading; the folder is no setup; no
+-- memory was found before the session began; the files failed, and their count of faults rose; or a session
+-- was served, with the folder's module. Nothing is read or written but by a session.
+pub data Runs (words : List (List ℕ)) (before now : Outside) : ℕ → Type 0 where
+  FaultyWords : HasNoReading words → now ≡ before → Runs words before now 2
+  NoModule : (folder user : List ℕ) → IsStdio words folder user
+      → IfSome before.files (λ fs. (m : Module) → ¬ IsSetup fs folder m) → now ≡ before → Runs words before now 3
+  NoMemory : (folder user : List ℕ) → IsStdio words folder user → now ≡ before → Runs words before now 9
+  FilesFailed : (folder user : List ℕ) → IsStdio words folder user → Rose before.files_failed now.files_failed
+      → now.files ≡ before.files → now.streams ≡ before.streams → Runs words before now 13
+  Serves : (folder user : List ℕ) (m : Module) (end : SessionEnd) → IsStdio words folder user
+      → IfSome before.files (λ fs. IsSetup fs folder m) → Served m before.streams now.streams end
+      → now.files ≡ before.files → now.files_failed ≡ before.files_failed → Runs words before now (status_of end)

@@ -1,94 +1,17 @@
-//! The outside as the operating system gives it: standard input, standard output and the files of
-//! the setup folder. These adapters tell no bytes and no files; each counts its faults.
-ghost use Rattle.std.specs.Prelude.{◌≡◌, ◌≤◌};
-ghost use Rattle.std.specs.Io.{WritesAtMost};
+//! The files of the setup folder, as the operating system gives them. The adapter tells no files; it
+//! counts its faults.
+ghost use Rattle.std.specs.Prelude.{◌≡◌, ◌≢◌, ◌≤◌};
 ghost use Rattle.nc_names.specs.Counts.{Rose};
 
+use crate::setup::is_module_name;
 use nc_names::{Bytes, Many, Memory, Text};
-use nc_outside::{Failed, FileFault, Files, Sink, Source};
+use nc_outside::{FileFault, Files};
 use std::alloc::Global;
 use std::fs::{self, DirEntry};
-use std::io::{self, ErrorKind, Read, Write};
+use std::io::{self, ErrorKind};
 
-/// Standard input.
-#[derive(Drop)]
-pub struct StandardInput {
-    rt: HostRuntime,
-    faults: u64,
-}
-
-impl StandardInput {
-    /// Standard input, before the first read.
-    pub fn new(rt: HostRuntime) -> StandardInput
-        ensures { result.faults ≡ 0 }
-    {
-        StandardInput { rt, faults: 0 }
-    }
-}
-
-impl Source for StandardInput {
-    ghost use Rattle.std.specs.Prelude.{None};
-
-    ghost left = { λ _. None };
-
-    ghost faults = { λ s. s.faults };
-
-    fn read(&mut self, into: &mut [u8]) -> Result<usize, Failed> {
-        match self.rt.stdin().read(into) {
-            Ok(count) => Ok(count),
-            Err(_) => {
-                self.faults = self.faults.saturating_add(1);
-                Err(Failed)
-            }
-        }
-    }
-}
-
-/// Standard output.
-#[derive(Drop)]
-pub struct StandardOutput {
-    rt: HostRuntime,
-    faults: u64,
-}
-
-impl StandardOutput {
-    /// Standard output, before the first write.
-    pub fn new(rt: HostRuntime) -> StandardOutput
-        ensures { result.faults ≡ 0 }
-    {
-        StandardOutput { rt, faults: 0 }
-    }
-}
-
-/// Writes a piece, and flushes what was taken of it.
-fn write_through<W: Write>(writer: &mut W, bytes: &[u8]) -> io::Result<usize>
-    ensures { WritesAtMost result bytes.now }
-{
-    let count = writer.write(bytes)?;
-    writer.flush()?;
-    Ok(count)
-}
-
-impl Sink for StandardOutput {
-    ghost use Rattle.std.specs.Prelude.{None};
-
-    ghost taken = { λ _. None };
-
-    ghost faults = { λ s. s.faults };
-
-    /// A write that takes nothing of a piece has failed.
-    fn write(&mut self, bytes: &[u8]) -> Result<usize, Failed> {
-        match write_through(&mut self.rt.stdout(), bytes) {
-            Ok(count) if count > 0 || bytes.is_empty() => Ok(count),
-            _ => {
-                self.faults = self.faults.saturating_add(1);
-                Err(Failed)
-            }
-        }
-    }
-}
-
-/// The files of the file system.
+/// The files of the file system. Of a folder it lists the names alone that end in `.yang`, since a
+/// setup lists no other; what else lies in the folder is not looked at.
 #[derive(Drop)]
 pub struct SetupFiles {
     rt: HostRuntime,
@@ -105,8 +28,9 @@ impl SetupFiles {
 
     /// What the error of a call is to its caller: want of memory, or a fault, which is counted.
     fn fault(&mut self, error: &io::Error) -> FileFault
-        ensures later { self.old.faults ≤ self.new.faults }
         ensures failed { result ≡ FileFault.Failed → Rose self.old.faults self.new.faults }
+        ensures same { result ≢ FileFault.Failed → self.new.faults ≡ self.old.faults }
+        ensures later { self.old.faults ≤ self.new.faults }
     {
         if error.kind() == ErrorKind::OutOfMemory {
             return FileFault::Memory;
@@ -125,8 +49,8 @@ fn out_of_memory(_: Memory) -> io::Error {
     io::Error::from(ErrorKind::OutOfMemory)
 }
 
-/// The name of an entry of a folder. `None` stands for what is no file, or is gone meanwhile, and for
-/// a name that is not UTF-8.
+/// The name of an entry of a folder. `None` stands for a name that does not end in `.yang` or is not
+/// UTF-8, and for what is no file, or is gone meanwhile.
 fn file_name(
     alloc: Global,
     rt: &HostRuntime,
@@ -137,6 +61,9 @@ fn file_name(
         Err(error) if error.kind() == ErrorKind::InvalidFilename => return Ok(None),
         Err(error) => return Err(error),
     };
+    if !is_module_name(entry.file_name()) {
+        return Ok(None);
+    }
     match fs::metadata(rt, entry.path()) {
         Ok(metadata) if metadata.is_file() => {
             let name = Text::from_text(alloc, entry.file_name()).map_err(out_of_memory)?;

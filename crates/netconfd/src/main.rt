@@ -15,17 +15,21 @@ mod setup;
 mod tests;
 mod words;
 
-use adapters::{SetupFiles, StandardInput, StandardOutput};
+use adapters::SetupFiles;
+use nc_outside::{ReaderSource, WriterSink};
 use run::{World, run};
 use std::env;
+use std::io::ErrorKind;
 use std::process::ExitCode;
 
-/// The words behind the program's name. An error is the exit status.
+/// The words after the program's name. An error is the exit status: 9 where no memory was found for
+/// them, and 2 where one is not UTF-8.
 fn command_words(rt: HostRuntime) -> Result<Vec<String>, u8> {
-    let Ok(all) = env::args(&rt) else {
-        return Err(2);
-    };
-    all.skip(1).collect(rt.alloc()).map_err(|_| 9)
+    match env::args(&rt) {
+        Ok(all) => all.skip(1).collect(rt.alloc()).map_err(|_| 9),
+        Err(error) if error.kind() == ErrorKind::OutOfMemory => Err(9),
+        Err(_) => Err(2),
+    }
 }
 
 fn main(rt: HostRuntime) -> ExitCode {
@@ -35,8 +39,8 @@ fn main(rt: HostRuntime) -> ExitCode {
     };
     let world = World {
         files: SetupFiles::new(rt),
-        source: StandardInput::new(rt),
-        sink: StandardOutput::new(rt),
+        source: ReaderSource::new(rt.stdin()),
+        sink: WriterSink::new(rt.stdout()),
     };
     ExitCode::from(run(rt.alloc(), words.as_slice(), world).status)
 }

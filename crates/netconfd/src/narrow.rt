@@ -3,7 +3,7 @@
 ghost use Rattle.std.specs.Prelude.{◌≡◌, ◌<◌, ◌≤◌, IfOk, MatchOption, None, Some, length, take};
 ghost use Rattle.std.specs.Str.{IsAscii};
 ghost use Rattle.netconfd.specs.NarrowModule.{IsNarrowModule};
-ghost use Rattle.netconfd.specs.Readings as readings;
+ghost use Rattle.netconfd.specs.inner.Readings as readings;
 
 use crate::reader::{Argument, Reader};
 use nc_names::{Many, Memory, Module, Text};
@@ -21,7 +21,7 @@ struct Parts<'a> {
 }
 
 /// Reads the text of a narrow module.
-#[tactic(auto, unfolding(crate::specs::Readings::parts))]
+#[tactic(auto, unfolding(crate::specs::inner::Readings::parts))]
 fn read_parts(text: &[u8]) -> Option<Parts<'_>>
     ensures { MatchOption result
         (readings.parts text.now ≡ None)

@@ -3,7 +3,7 @@ ghost use Rattle.std.specs.Prelude.{◌≡◌, ◌+◌, ◌≤◌, ◌↔◌, �
 ghost use Rattle.std.specs.List.{prefix_len};
 ghost use Rattle.nc_names.specs.Signs as signs;
 ghost use Rattle.netconfd.specs.NarrowModule as shapes;
-ghost use Rattle.netconfd.specs.Readings as readings;
+ghost use Rattle.netconfd.specs.inner.Readings as readings;
 
 use nc_names::{begins_identifier, is_in_identifier, is_white};
 
@@ -215,7 +215,7 @@ impl<'a> Reader<'a> {
 
     /// Reads a keyword, its argument and a sign, with the blanks before them, and gives the
     /// argument's value.
-    #[tactic(auto, unfolding(crate::specs::Readings::statement))]
+    #[tactic(auto, unfolding(crate::specs::inner::Readings::statement))]
     pub fn statement(&mut self, keyword: &str, kind: Argument, sign: u8) -> Option<&'a [u8]>
         ensures { MatchOption result
             (readings.statement keyword.now kind sign self.old.left.now ≡ None)

@@ -1,7 +1,8 @@
 //! All that the program does, over a world that is handed in.
-ghost use Rattle.std.specs.Prelude.{◌≡◌, ◌↔◌, ◌≤◌, map, string_bytes};
+ghost use Rattle.std.specs.Prelude.{◌≡◌, ◌↔◌, map, string_bytes};
 ghost use Rattle.nc_names.specs.Counts.{Rose};
-ghost use Rattle.netconfd.specs.Run.{HasNoReading, Runs, status_of};
+ghost use Rattle.nc_outside.specs.Streams.{streams};
+ghost use Rattle.netconfd.specs.Run.{HasNoReading, Runs, outside, status_of};
 
 use crate::setup::{SetupFault, read_setup};
 use crate::words::read_words;
@@ -46,7 +47,7 @@ fn session_status(end: SessionEnd) -> u8
 /// | Status | Comes |
 /// |---|---|
 /// | 0 | where the session was closed, or its input ended |
-/// | 2 | exactly where the words have no reading |
+/// | 2 | exactly where the words have no valid reading |
 /// | 3 | where the setup folder does not hold exactly one narrow module |
 /// | 6, 7, 13 | only where the count of faults of the source, the sink or the files rose |
 /// | 9 | where no memory was found |
@@ -57,13 +58,13 @@ pub fn run<F: Files, S: Source, K: Sink>(
     words: &[String],
     world: World<F, S, K>,
 ) -> Ran<F, S, K>
-    ensures runs { Runs (map string_bytes words.now) (F.files world.files) (F.faults world.files) (F.faults result.world.files)
-        (record {
-          left_before = S.left world.source;
-          left_now = S.left result.world.source;
-          taken_before = K.taken world.sink;
-          taken_now = K.taken result.world.sink;
-        })
+    ensures runs { Runs (map string_bytes words.now)
+        (outside (F.files world.files) (F.faults world.files)
+            (streams (S.left world.source) (S.ends world.source) (S.faults world.source)
+                (K.taken world.sink) (K.faults world.sink)))
+        (outside (F.files result.world.files) (F.faults result.world.files)
+            (streams (S.left result.world.source) (S.ends result.world.source) (S.faults result.world.source)
+                (K.taken result.world.sink) (K.faults result.world.sink)))
         result.status }
     ensures words { result.status ≡ 2 ↔ HasNoReading (map string_bytes words.now) }
     ensures read_fault { result.status ≡ 6 → Rose (S.faults world.source) (S.faults result.world.source) }
@@ -80,13 +81,13 @@ fn run_in<F: Files, S: Source, K: Sink>(
     words: &[String],
     world: &mut World<F, S, K>,
 ) -> u8
-    ensures runs { Runs (map string_bytes words.now) (F.files world.old.files) (F.faults world.old.files) (F.faults world.new.files)
-        (record {
-          left_before = S.left world.old.source;
-          left_now = S.left world.new.source;
-          taken_before = K.taken world.old.sink;
-          taken_now = K.taken world.new.sink;
-        })
+    ensures runs { Runs (map string_bytes words.now)
+        (outside (F.files world.old.files) (F.faults world.old.files)
+            (streams (S.left world.old.source) (S.ends world.old.source) (S.faults world.old.source)
+                (K.taken world.old.sink) (K.faults world.old.sink)))
+        (outside (F.files world.new.files) (F.faults world.new.files)
+            (streams (S.left world.new.source) (S.ends world.new.source) (S.faults world.new.source)
+                (K.taken world.new.sink) (K.faults world.new.sink)))
         result }
     ensures words { result ≡ 2 ↔ HasNoReading (map string_bytes words.now) }
     ensures read_fault { result ≡ 6 → Rose (S.faults world.old.source) (S.faults world.new.source) }

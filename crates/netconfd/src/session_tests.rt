@@ -1,27 +1,35 @@
 //! The top call over a world in memory: the sample session, and each exit status.
 use crate::run::{World, run};
-use nc_names::{Bytes, Many, Memory, Text};
+use nc_names::{Bytes, MESSAGE_LIMIT, Many, Memory, PIECE_LIMIT, Text};
 use nc_outside::{MemFiles, MemSink, MemSource, NamedFile};
 use std::alloc::Global;
 use std::test::Fail;
 
 const HELLO: &str =
-    "<hello xmlns=\"urn:ietf:params:xml:ns:netconf:base:1.0\"><capabilities><capability>urn:ietf:params:netconf:base:1.0</capability></capabilities></hello>]]>]]>";
+    "<hello xmlns=\"urn:ietf:params:xml:ns:netconf:base:1.0\"><capabilities><capability>\
+     urn:ietf:params:netconf:base:1.0</capability></capabilities></hello>]]>]]>";
 
 const GET: &str =
-    "<rpc xmlns=\"urn:ietf:params:xml:ns:netconf:base:1.0\" message-id=\"1\"><get-config><source><running/></source></get-config></rpc>]]>]]>";
+    "<rpc xmlns=\"urn:ietf:params:xml:ns:netconf:base:1.0\" message-id=\"1\"><get-config><source>\
+     <running/></source></get-config></rpc>]]>]]>";
 
 const CLOSE: &str =
-    "<rpc xmlns=\"urn:ietf:params:xml:ns:netconf:base:1.0\" message-id=\"2\"><close-session/></rpc>]]>]]>";
+    "<rpc xmlns=\"urn:ietf:params:xml:ns:netconf:base:1.0\" message-id=\"2\"><close-session/></rpc>\
+     ]]>]]>";
 
 const SERVER_HELLO: &str =
-    "<hello xmlns=\"urn:ietf:params:xml:ns:netconf:base:1.0\"><capabilities><capability>urn:ietf:params:netconf:base:1.0</capability><capability>urn:ex?module=ex&amp;revision=2024-01-01</capability></capabilities><session-id>1</session-id></hello>]]>]]>";
+    "<hello xmlns=\"urn:ietf:params:xml:ns:netconf:base:1.0\"><capabilities><capability>\
+     urn:ietf:params:netconf:base:1.0</capability><capability>\
+     urn:ex?module=ex&amp;revision=2024-01-01</capability></capabilities><session-id>1</session-id>\
+     </hello>]]>]]>";
 
 const DATA: &str =
-    "<rpc-reply xmlns=\"urn:ietf:params:xml:ns:netconf:base:1.0\" message-id=\"1\"><data/></rpc-reply>]]>]]>";
+    "<rpc-reply xmlns=\"urn:ietf:params:xml:ns:netconf:base:1.0\" message-id=\"1\"><data/>\
+     </rpc-reply>]]>]]>";
 
 const OK: &str =
-    "<rpc-reply xmlns=\"urn:ietf:params:xml:ns:netconf:base:1.0\" message-id=\"2\"><ok/></rpc-reply>]]>]]>";
+    "<rpc-reply xmlns=\"urn:ietf:params:xml:ns:netconf:base:1.0\" message-id=\"2\"><ok/></rpc-reply>\
+     ]]>]]>";
 
 const MODULE: &str =
     "module ex {\n  namespace \"urn:ex\";\n  prefix ex;\n  revision 2024-01-01;\n}\n";
@@ -41,7 +49,7 @@ struct Case<'a> {
 const SAMPLE: Case<'static> = Case {
     words: "stdio setup alice",
     input: "",
-    piece: 16_384,
+    piece: PIECE_LIMIT,
     bad_read: 0,
     bad_write: 0,
     bad_file: 0,
@@ -118,7 +126,7 @@ fn ends_with(alloc: Global, case: &Case, status: u8, texts: &[&str]) -> Result<b
 fn the_sample_session_is_served(rt: HostRuntime) -> Result<(), Fail> {
     let alloc = rt.alloc();
     let input = joined(alloc, &[HELLO, GET, CLOSE])?;
-    for piece in [16_384, 7, 1] {
+    for piece in [PIECE_LIMIT, 7, 1] {
         let case = Case {
             input: input.as_str(),
             piece,
@@ -161,23 +169,29 @@ fn first_messages() -> [(&'static str, u8); 12] {
             10,
         ),
         (
-            "<hello xmlns=\"urn:ietf:params:xml:ns:netconf:base:1.0\"><capabilities><capability>urn:ietf:params:netconf:base:1.1</capability></capabilities></hello>]]>]]>",
+            "<hello xmlns=\"urn:ietf:params:xml:ns:netconf:base:1.0\"><capabilities><capability>\
+             urn:ietf:params:netconf:base:1.1</capability></capabilities></hello>]]>]]>",
             10,
         ),
         (
-            "<hello xmlns=\"urn:ietf:params:xml:ns:netconf:base:1.0\"><capabilities><capability>urn:ietf:params:netconf:base:1.0</capability></capabilities><session-id>1</session-id></hello>]]>]]>",
+            "<hello xmlns=\"urn:ietf:params:xml:ns:netconf:base:1.0\"><capabilities><capability>\
+             urn:ietf:params:netconf:base:1.0</capability></capabilities><session-id>1</session-id>\
+             </hello>]]>]]>",
             10,
         ),
         (
-            "<hello xmlns=\"urn:ietf:params:xml:ns:netconf:base:1.0\"><capabilities><other>urn:ietf:params:netconf:base:1.0</other></capabilities></hello>]]>]]>",
+            "<hello xmlns=\"urn:ietf:params:xml:ns:netconf:base:1.0\"><capabilities><other>\
+             urn:ietf:params:netconf:base:1.0</other></capabilities></hello>]]>]]>",
             10,
         ),
         (
-            "<!-- a --><hello xmlns=\"urn:ietf:params:xml:ns:netconf:base:1.0\"><capabilities><capability>urn:ietf:params:netconf:base:1.0</capability></capabilities></hello>]]>]]>",
+            "<!-- a --><hello xmlns=\"urn:ietf:params:xml:ns:netconf:base:1.0\"><capabilities>\
+             <capability>urn:ietf:params:netconf:base:1.0</capability></capabilities></hello>]]>]]>",
             10,
         ),
         (
-            "\n<hello xmlns='urn:ietf:params:xml:ns:netconf:base:1.0' >\n <capabilities>\n<capability> urn:ietf:params:netconf:base:1.0\n</capability ></capabilities><more/></hello>\n]]>]]>",
+            "\n<hello xmlns='urn:ietf:params:xml:ns:netconf:base:1.0' >\n <capabilities>\n<capability> urn:\
+             ietf:params:netconf:base:1.0\n</capability ></capabilities><more/></hello>\n]]>]]>",
             0,
         ),
     ]
@@ -201,31 +215,54 @@ fn requests() -> [(&'static str, &'static str); 7] {
     [
         (
             "<rpc xmlns=\"urn:ietf:params:xml:ns:netconf:base:1.0\" message-id=\"1\"><get/></rpc>]]>]]>",
-            "<rpc-reply xmlns=\"urn:ietf:params:xml:ns:netconf:base:1.0\" message-id=\"1\"><rpc-error><error-type>protocol</error-type><error-tag>operation-not-supported</error-tag><error-severity>error</error-severity></rpc-error></rpc-reply>]]>]]>",
+            "<rpc-reply xmlns=\"urn:ietf:params:xml:ns:netconf:base:1.0\" message-id=\"1\">\
+             <rpc-error><error-type>protocol</error-type><error-tag>\
+             operation-not-supported</error-tag><error-severity>error</error-severity></rpc-error>\
+             </rpc-reply>]]>]]>",
         ),
         (
-            "<rpc xmlns=\"urn:ietf:params:xml:ns:netconf:base:1.0\" b=\"2\" message-id='a\"b' a=\"1\">\n <get-config >\n <source><running></running></source> </get-config></rpc >]]>]]>",
-            "<rpc-reply xmlns=\"urn:ietf:params:xml:ns:netconf:base:1.0\" b=\"2\" message-id=\"a&quot;b\" a=\"1\"><data/></rpc-reply>]]>]]>",
+            "<rpc xmlns=\"urn:ietf:params:xml:ns:netconf:base:1.0\" b=\"2\" message-id='a\"b' a=\"1\">\
+             \n <get-config >\n <source><running></running></source> </get-config></rpc >]]>]]>",
+            "<rpc-reply xmlns=\"urn:ietf:params:xml:ns:netconf:base:1.0\" b=\"2\" message-id=\"a&quot;\
+             b\" a=\"1\"><data/></rpc-reply>]]>]]>",
         ),
         (
             "<rpc xmlns=\"urn:ietf:params:xml:ns:netconf:base:1.0\"><close-session/></rpc>]]>]]>",
-            "<rpc-reply xmlns=\"urn:ietf:params:xml:ns:netconf:base:1.0\"><rpc-error><error-type>protocol</error-type><error-tag>operation-not-supported</error-tag><error-severity>error</error-severity></rpc-error></rpc-reply>]]>]]>",
+            "<rpc-reply xmlns=\"urn:ietf:params:xml:ns:netconf:base:1.0\"><rpc-error><error-type>\
+             protocol</error-type><error-tag>operation-not-supported</error-tag><error-severity>\
+             error</error-severity></rpc-error></rpc-reply>]]>]]>",
         ),
         (
-            "<rpc xmlns=\"urn:ietf:params:xml:ns:netconf:base:1.0\" message-id=\"1\"><close-session/><close-session/></rpc>]]>]]>",
-            "<rpc-reply xmlns=\"urn:ietf:params:xml:ns:netconf:base:1.0\" message-id=\"1\"><rpc-error><error-type>protocol</error-type><error-tag>operation-not-supported</error-tag><error-severity>error</error-severity></rpc-error></rpc-reply>]]>]]>",
+            "<rpc xmlns=\"urn:ietf:params:xml:ns:netconf:base:1.0\" message-id=\"1\">\
+             <close-session/><close-session/></rpc>]]>]]>",
+            "<rpc-reply xmlns=\"urn:ietf:params:xml:ns:netconf:base:1.0\" message-id=\"1\">\
+             <rpc-error><error-type>protocol</error-type><error-tag>\
+             operation-not-supported</error-tag><error-severity>error</error-severity></rpc-error>\
+             </rpc-reply>]]>]]>",
         ),
         (
-            "<rpc xmlns=\"urn:ietf:params:xml:ns:netconf:base:1.0\" message-id=\"1\"><get-config><source><candidate/></source></get-config></rpc>]]>]]>",
-            "<rpc-reply xmlns=\"urn:ietf:params:xml:ns:netconf:base:1.0\" message-id=\"1\"><rpc-error><error-type>protocol</error-type><error-tag>operation-not-supported</error-tag><error-severity>error</error-severity></rpc-error></rpc-reply>]]>]]>",
+            "<rpc xmlns=\"urn:ietf:params:xml:ns:netconf:base:1.0\" message-id=\"1\"><get-config>\
+             <source><candidate/></source></get-config></rpc>]]>]]>",
+            "<rpc-reply xmlns=\"urn:ietf:params:xml:ns:netconf:base:1.0\" message-id=\"1\">\
+             <rpc-error><error-type>protocol</error-type><error-tag>\
+             operation-not-supported</error-tag><error-severity>error</error-severity></rpc-error>\
+             </rpc-reply>]]>]]>",
         ),
         (
-            "<rpc xmlns=\"urn:ietf:params:xml:ns:netconf:base:1.0\" message-id=\"1\"><close-session xmlns=\"\"/></rpc>]]>]]>",
-            "<rpc-reply xmlns=\"urn:ietf:params:xml:ns:netconf:base:1.0\" message-id=\"1\"><rpc-error><error-type>protocol</error-type><error-tag>operation-not-supported</error-tag><error-severity>error</error-severity></rpc-error></rpc-reply>]]>]]>",
+            "<rpc xmlns=\"urn:ietf:params:xml:ns:netconf:base:1.0\" message-id=\"1\">\
+             <close-session xmlns=\"\"/></rpc>]]>]]>",
+            "<rpc-reply xmlns=\"urn:ietf:params:xml:ns:netconf:base:1.0\" message-id=\"1\">\
+             <rpc-error><error-type>protocol</error-type><error-tag>\
+             operation-not-supported</error-tag><error-severity>error</error-severity></rpc-error>\
+             </rpc-reply>]]>]]>",
         ),
         (
-            "<rpc xmlns=\"urn:ietf:params:xml:ns:netconf:base:1.0\" message-id=\"1\">text<close-session/></rpc>]]>]]>",
-            "<rpc-reply xmlns=\"urn:ietf:params:xml:ns:netconf:base:1.0\" message-id=\"1\"><rpc-error><error-type>protocol</error-type><error-tag>operation-not-supported</error-tag><error-severity>error</error-severity></rpc-error></rpc-reply>]]>]]>",
+            "<rpc xmlns=\"urn:ietf:params:xml:ns:netconf:base:1.0\" message-id=\"1\">\
+             text<close-session/></rpc>]]>]]>",
+            "<rpc-reply xmlns=\"urn:ietf:params:xml:ns:netconf:base:1.0\" message-id=\"1\">\
+             <rpc-error><error-type>protocol</error-type><error-tag>\
+             operation-not-supported</error-tag><error-severity>error</error-severity></rpc-error>\
+             </rpc-reply>]]>]]>",
         ),
     ]
 }
@@ -247,7 +284,7 @@ fn each_request_has_its_reply(rt: HostRuntime) -> Result<(), Fail> {
     Ok(())
 }
 
-/// Later messages that have no reading: XML 1.0 forbids them, or this server does not read them yet.
+/// Later messages that have no valid reading: XML 1.0 forbids them, or this server does not read them yet.
 fn refused_messages() -> [&'static str; 14] {
     [
         "<a]]>]]>",
@@ -268,7 +305,7 @@ fn refused_messages() -> [&'static str; 14] {
 }
 
 #[test]
-fn a_message_without_a_reading_ends_the_session(rt: HostRuntime) -> Result<(), Fail> {
+fn a_message_without_a_valid_reading_ends_the_session(rt: HostRuntime) -> Result<(), Fail> {
     let alloc = rt.alloc();
     for message in refused_messages() {
         let input = joined(alloc, &[HELLO, message, CLOSE])?;
@@ -282,7 +319,7 @@ fn a_message_without_a_reading_ends_the_session(rt: HostRuntime) -> Result<(), F
 }
 
 #[test]
-fn a_later_message_without_a_reading_ends_the_session(rt: HostRuntime) -> Result<(), Fail> {
+fn a_later_message_without_a_valid_reading_ends_the_session(rt: HostRuntime) -> Result<(), Fail> {
     let alloc = rt.alloc();
     let input = joined(alloc, &[HELLO, GET, "<a]]>]]>", CLOSE])?;
     let case = Case {
@@ -388,7 +425,8 @@ fn unfinished(alloc: Global, count: usize) -> Result<Text, Memory> {
 #[test]
 fn a_message_is_too_big_at_its_limit(rt: HostRuntime) -> Result<(), Fail> {
     let alloc = rt.alloc();
-    for (count, status) in [(4_194_309, 0), (4_194_310, 10)] {
+    let least = MESSAGE_LIMIT + 6;
+    for (count, status) in [(least - 1, 0), (least, 10)] {
         let input = unfinished(alloc, count)?;
         let case = Case {
             input: input.as_str(),

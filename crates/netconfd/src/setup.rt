@@ -1,5 +1,5 @@
 //! The setup folder: the module of the server.
-ghost use Rattle.std.specs.Prelude.{◌≡◌, ◌≢◌, ◌≤◌, ◌∷◌, [], ℕ, List, IfOk, IfSome, IsErrOf, IsTrue, MatchOption};
+ghost use Rattle.std.specs.Prelude.{◌≡◌, ◌≢◌, ◌∷◌, [], ℕ, List, IfOk, IfSome, IsErrOf, IsTrue, MatchOption};
 ghost use Rattle.std.specs.List.{filter};
 ghost use Rattle.nc_names.specs.declared.name.Module.{Module};
 ghost use Rattle.nc_names.specs.Counts.{Rose};
@@ -20,7 +20,7 @@ pub enum SetupFault {
     /// narrow module.
     #[error("the folder modules does not hold exactly one module")]
     Modules,
-    /// The files could not be read. It comes only where their count of faults rose in the call.
+    /// The files could not be read. Their count of faults rises where it is answered, and nowhere else.
     #[error("the setup folder could not be read")]
     Failed,
     /// No memory was found.
@@ -50,7 +50,7 @@ impl From<FileFault> for SetupFault {
 }
 
 /// Whether a file's name is that of a module text.
-fn is_module_name(name: &str) -> bool
+pub fn is_module_name(name: &str) -> bool
     ensures { result ≡ setups.is_module_name name.now }
 {
     name.as_bytes().ends_with(b".yang")
@@ -86,8 +86,8 @@ pub fn read_setup<F: Files>(
     ensures modules { IsErrOf result SetupFault.Modules →
         IfSome (F.files files.old) (λ fs. (m : Module) → ¬ setups.IsSetup fs folder.now m) }
     ensures failed { IsErrOf result SetupFault.Failed → Rose (F.faults files.old) (F.faults files.new) }
+    ensures same { (¬ IsErrOf result SetupFault.Failed) → F.faults files.new ≡ F.faults files.old }
     ensures files { F.files files.new ≡ F.files files.old }
-    ensures later { F.faults files.old ≤ F.faults files.new }
 {
     let mut path = Text::from_text(alloc, folder)?;
     path.push_str("/modules")?;

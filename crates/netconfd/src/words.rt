@@ -18,7 +18,7 @@ fn is_flag(word: &str) -> bool
     word.as_bytes().first() == Some(&b'-')
 }
 
-/// Reads the words behind the program's name. `None` means that they are not three words `stdio DIR
+/// Reads the words after the program's name. `None` means that they are not three words `stdio DIR
 /// USER`, or that one of the last two begins with a hyphen.
 pub fn read_words(words: &[String]) -> Option<Stdio<'_>>
     ensures { MatchOption result

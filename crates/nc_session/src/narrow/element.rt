@@ -4,7 +4,7 @@ ghost use Rattle.std.specs.Prelude.{◌≡◌, ◌<◌, ◌≤◌, ◌+◌, ◌+
 ghost use Rattle.nc_message.specs.declared.tree.Attr.{Attr};
 ghost use Rattle.nc_message.specs.declared.tree.Part.TheVariants.{Child};
 ghost use Rattle.nc_session.specs.Narrow as shapes;
-ghost use Rattle.nc_session.specs.NarrowReadings as readings;
+ghost use Rattle.nc_session.specs.inner.NarrowReadings as readings;
 
 use crate::narrow::reader::Reader;
 use crate::narrow::tag::Started;
@@ -90,7 +90,7 @@ impl<'a> Reader<'a> {
     /// Reads an element below one of the namespace `above`, in which with it at most `depth` elements
     /// are open at once.
     #[cycle(element)]
-    #[tactic(auto, unfolding(crate::specs::NarrowReadings::element))]
+    #[tactic(auto, unfolding(crate::specs::inner::NarrowReadings::element))]
     pub(crate) fn element(&mut self, depth: usize, above: &Text) -> Result<Option<Elem>, Memory>
         ensures read { IfOk result (λ found. (n : ℕ) → length self.old.rest.now ≤ n → MatchOption found
             (readings.element (readings.content n) depth above.now self.old.rest.now ≡ None)
@@ -128,7 +128,7 @@ impl<'a> Reader<'a> {
 
     /// Reads the content of an element of this namespace and name, and its end tag.
     #[cycle(element)]
-    #[tactic(auto, unfolding(crate::specs::NarrowReadings::inside))]
+    #[tactic(auto, unfolding(crate::specs::inner::NarrowReadings::inside))]
     fn inside(
         &mut self,
         depth: usize,

@@ -4,7 +4,7 @@ ghost use Rattle.std.specs.Prelude.{◌≡◌, ◌≤◌, ◌+◌, ℕ, List, []
 ghost use Rattle.std.specs.List.{starts_with};
 ghost use Rattle.nc_names.specs.Signs as signs;
 ghost use Rattle.nc_session.specs.Narrow as shapes;
-ghost use Rattle.nc_session.specs.NarrowReadings as readings;
+ghost use Rattle.nc_session.specs.inner.NarrowReadings as readings;
 
 use crate::narrow::scan;
 use nc_names::{Memory, Text, begins_identifier};
@@ -109,7 +109,7 @@ impl<'a> Reader<'a> {
     }
 
     /// Reads a name (XML 1.0, 2.3; Namespaces in XML 1.0, 3).
-    #[tactic(auto, unfolding(crate::specs::NarrowReadings::name))]
+    #[tactic(auto, unfolding(crate::specs::inner::NarrowReadings::name))]
     pub(crate) fn name(&mut self) -> Result<Option<Text>, Memory>
         ensures read { IfOk result (λ found. MatchOption found
             (readings.name self.old.rest.now ≡ None)
@@ -124,7 +124,7 @@ impl<'a> Reader<'a> {
     }
 
     /// Reads what stands before a quotation mark, and the mark.
-    #[tactic(auto, unfolding(crate::specs::NarrowReadings::value))]
+    #[tactic(auto, unfolding(crate::specs::inner::NarrowReadings::value))]
     fn value(&mut self, mark: u8) -> Result<Option<Text>, Memory>
         ensures read { IfOk result (λ found. MatchOption found
             (readings.value mark self.old.rest.now ≡ None)
@@ -139,7 +139,7 @@ impl<'a> Reader<'a> {
     }
 
     /// Reads a quoted value (XML 1.0, 2.3).
-    #[tactic(auto, unfolding(crate::specs::NarrowReadings::quoted))]
+    #[tactic(auto, unfolding(crate::specs::inner::NarrowReadings::quoted))]
     pub(crate) fn quoted(&mut self) -> Result<Option<Text>, Memory>
         ensures read { IfOk result (λ found. MatchOption found
             (readings.quoted self.old.rest.now ≡ None)
@@ -158,7 +158,7 @@ impl<'a> Reader<'a> {
     }
 
     /// Reads text up to a byte that is none of text (XML 1.0, 2.4).
-    #[tactic(auto, unfolding(crate::specs::NarrowReadings::run))]
+    #[tactic(auto, unfolding(crate::specs::inner::NarrowReadings::run))]
     pub(crate) fn run(&mut self) -> Result<Option<Text>, Memory>
         ensures read { IfOk result (λ found. MatchOption found
             (readings.run self.old.rest.now ≡ None)

@@ -3,7 +3,7 @@ ghost use Rattle.std.specs.Prelude.{◌≡◌, ◌≤◌, length, drop, IfOk};
 ghost use Rattle.std.specs.List.{prefix_len};
 ghost use Rattle.nc_names.specs.Signs as signs;
 ghost use Rattle.nc_session.specs.Narrow as shapes;
-ghost use Rattle.nc_session.specs.NarrowReadings as readings;
+ghost use Rattle.nc_session.specs.inner.NarrowReadings as readings;
 ghost use Rattle.std.specs.Str.{IsAscii};
 
 use nc_names::{Memory, Text, is_in_identifier};

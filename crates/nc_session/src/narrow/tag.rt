@@ -3,7 +3,7 @@ ghost use Rattle.std.specs.Prelude.{◌≡◌, ◌<◌, ◌≤◌, ◌+◌, ℕ,
 ghost use Rattle.std.specs.List.{list_any};
 ghost use Rattle.std.specs.Str.{bytes_eq};
 ghost use Rattle.nc_session.specs.Narrow as shapes;
-ghost use Rattle.nc_session.specs.NarrowReadings as readings;
+ghost use Rattle.nc_session.specs.inner.NarrowReadings as readings;
 
 use crate::narrow::reader::Reader;
 use nc_message::Attr;
@@ -66,7 +66,7 @@ fn add_attr(attrs: &mut Many<Attr>, attr: Attr) -> Result<(), Memory>
 
 impl<'a> Reader<'a> {
     /// Reads an attribute (XML 1.0, 3.1).
-    #[tactic(auto, unfolding(crate::specs::NarrowReadings::attribute))]
+    #[tactic(auto, unfolding(crate::specs::inner::NarrowReadings::attribute))]
     fn attribute(&mut self) -> Result<Option<Attr>, Memory>
         ensures read { IfOk result (λ found. MatchOption found
             (readings.attribute self.old.rest.now ≡ None)
@@ -119,7 +119,7 @@ impl<'a> Reader<'a> {
     }
 
     /// Reads the end of a tag, and whether it is that of an empty-element tag.
-    #[tactic(auto, unfolding(crate::specs::NarrowReadings::close))]
+    #[tactic(auto, unfolding(crate::specs::inner::NarrowReadings::close))]
     fn close(&mut self) -> Option<bool>
         ensures read { MatchOption result
             (readings.close self.old.rest.now ≡ None)
@@ -135,7 +135,7 @@ impl<'a> Reader<'a> {
     }
 
     /// Reads a start tag or an empty-element tag, in which no two attributes have one name.
-    #[tactic(auto, unfolding(crate::specs::NarrowReadings::start))]
+    #[tactic(auto, unfolding(crate::specs::inner::NarrowReadings::start))]
     pub(crate) fn start(&mut self) -> Result<Option<Started>, Memory>
         ensures read { IfOk result (λ found. MatchOption found
             (readings.start self.old.rest.now ≡ None)

@@ -1,8 +1,9 @@
 use Rattle.std.proofs.Common.{◌≡◌, List, Option, ℕ, sym, subst, arith}
 use Rattle.std.proofs.lemmas.Result.{err_from_is_err_and}
 use Rattle.nc_names.specs.Mark.{HasNoMark}
-use Rattle.nc_session.specs.Waiting.{Waiting}
-use Rattle.nc_session.specs.Reading.{Reads, IsTooLong}
+use Rattle.nc_session.specs.inner.Waiting.{Waiting}
+use Rattle.nc_session.specs.Reading.{IsTooLong}
+use Rattle.nc_session.specs.inner.Pieces.{Reads}
 use Rattle.nc_session.proofs.Fetching.{too_long_unmarked, too_long_marked, reads_none}
 use Rattle.nc_session.proofs.fetch.next_message.Goals as goal
 

@@ -1,11 +1,11 @@
-use Rattle.std.proofs.Common.{◌≤◌}
+use Rattle.nc_outside.specs.Streams.{Streams, streams, SameCounts}
 use Rattle.nc_session.specs.Session.{serving}
-use Rattle.nc_session.specs.Turn.{Underway}
+use Rattle.nc_session.specs.inner.Turn.{Underway}
 use Rattle.nc_session.proofs.plain.serve_plain.Given as goal
 
--- so many requests are answered, and the counts of faults have not fallen
+-- so many requests are answered, the end of input was not given, and nothing failed
 abbrev pub invariant-loop-answered : goal.invariant-loop-answered
 invariant-loop-answered g l =
-    Underway l.fn.served_module (serving l._answered) l.talk.inbox (g.S.Source.left l.fn.source) (g.S.Source.left l.source) (g.K.Sink.taken l.fn.sink) (g.K.Sink.taken l.sink)
-    × (g.S.Source.faults l.fn.source ≤ g.S.Source.faults l.source)
-    × (g.K.Sink.faults l.fn.sink ≤ g.K.Sink.faults l.sink)
+    let before : Streams = streams (g.S.Source.left l.fn.source) (g.S.Source.ends l.fn.source) (g.S.Source.faults l.fn.source) (g.K.Sink.taken l.fn.sink) (g.K.Sink.faults l.fn.sink) in
+    let now : Streams = streams (g.S.Source.left l.source) (g.S.Source.ends l.source) (g.S.Source.faults l.source) (g.K.Sink.taken l.sink) (g.K.Sink.faults l.sink) in
+    Underway l.fn.served_module (serving l._answered) l.talk.inbox before now × SameCounts before now

@@ -1,5 +1,5 @@
 use Rattle.std.proofs.Common.{◌≡◌, drop}
-use Rattle.netconfd.specs.Readings as readings
+use Rattle.netconfd.specs.inner.Readings as readings
 use Rattle.netconfd.proofs.reader.is_date.Given as goal
 
 -- the rest of the bytes decides

@@ -1,7 +1,7 @@
 use Rattle.std.proofs.Common.{arith, ◌≡◌, ℕ, ◌+◌, ◌-◌, List, ap, subst, ◌∙◌, drop, take, length, ◌++◌, refl}
 use Rattle.memchr.specs.Find.{OccursAt, Nowhere, NoneBefore}
 use Rattle.nc_names.specs.Mark.{mark, HasNoMark, IsMarked, with_mark}
-use Rattle.nc_session.specs.Waiting.{Waiting}
+use Rattle.nc_session.specs.inner.Waiting.{Waiting}
 use Rattle.nc_session.proofs.Occurring.{found, missed, unfound}
 use Rattle.nc_session.proofs.inbox.Inbox.find.Goals as goal
 

@@ -1,7 +1,7 @@
 use Rattle.std.proofs.Common.{◌≡◌, ◌∙◌, Some, sym, ap}
 use Rattle.std.specs.List.{remove, slice_get}
 use Rattle.nc_session.specs.Narrow.{space_in}
-use Rattle.nc_session.specs.NarrowReadings.{attrs_left}
+use Rattle.nc_session.specs.inner.NarrowReadings.{attrs_left}
 use Rattle.nc_session.proofs.narrow.element.take_space.Goals as goal
 
 pub returns : goal.returns

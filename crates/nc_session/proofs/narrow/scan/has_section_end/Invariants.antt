@@ -1,5 +1,5 @@
 use Rattle.std.proofs.Common.{◌≡◌, drop}
-use Rattle.nc_session.specs.NarrowReadings as readings
+use Rattle.nc_session.specs.inner.NarrowReadings as readings
 use Rattle.nc_session.proofs.narrow.scan.has_section_end.Given as goal
 
 -- the rest of the bytes decides

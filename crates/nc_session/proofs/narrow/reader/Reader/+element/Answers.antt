@@ -1,6 +1,6 @@
 use Rattle.std.proofs.Common.{◌≡◌, ◌<◌, ◌≤◌, ◌∷◌, [], ℕ, length, true, false, None, Some, eqb, arith}
 use Rattle.std.specs.List.{starts_with}
-use Rattle.nc_session.specs.NarrowReadings.{run, element, content}
+use Rattle.nc_session.specs.inner.NarrowReadings.{run, element, content}
 use Rattle.nc_session.proofs.NarrowCode.{content_begin, content_more, content_last, content_no_run, content_no_child}
 use Rattle.nc_session.proofs.narrow.reader.Reader.+element.Goals as goal
 

@@ -1,7 +1,7 @@
 use Rattle.std.proofs.Common.{◌≡◌, ◌<◌, ◌∷◌, [], suc, length, true, Some, subst, sym, arith}
 use Rattle.nc_names.specs.Signs.{begins_identifier}
 use Rattle.nc_session.specs.Narrow.{is_blank}
-use Rattle.nc_session.specs.NarrowReadings.{first_passes, attribute, attributes}
+use Rattle.nc_session.specs.inner.NarrowReadings.{first_passes, attribute, attributes}
 use Rattle.nc_session.proofs.NarrowCode.{Goes, goes_more, attributes_more}
 use Rattle.nc_session.proofs.narrow.reader.Reader.attributes.Goals as goal
 

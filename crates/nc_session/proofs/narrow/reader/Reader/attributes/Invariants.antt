@@ -1,5 +1,5 @@
 use Rattle.std.proofs.Common.{◌≤◌, suc, length}
-use Rattle.nc_session.specs.NarrowReadings as readings
+use Rattle.nc_session.specs.inner.NarrowReadings as readings
 use Rattle.nc_session.proofs.NarrowCode.{Goes}
 use Rattle.nc_session.proofs.narrow.reader.Reader.attributes.Given as goal
 

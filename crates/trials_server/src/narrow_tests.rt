@@ -3,9 +3,9 @@
 //! Trees are compared as they are shown: an element as `(name«namespace» ..)`, with its bindings as
 //! `xmlns:prefix«namespace»`, its attributes as `prefix:name«namespace»=«value»` and its parts; text as
 //! `«text»`. No narrow message has `«` or `»`, so two that are shown alike have the same tree.
-use crate::narrow::{one_tree, read_tree};
 use nc_message::{Elem, Part};
 use nc_names::{Bound, Memory, QName, Text};
+use nc_session::{one_tree, read_tree};
 use std::alloc::Global;
 use std::fmt::Write;
 use std::test::Fail;

@@ -10,7 +10,8 @@ pub record Streams : Type 0 where
   pub taken : Option (List ℕ)
   pub writes_failed : ℕ
 
-abbrev pub streams : (left : Option (List ℕ)) (ends reads_failed : ℕ) (taken : Option (List ℕ)) (writes_failed : ℕ) → Streams
+abbrev pub streams :
+    (left : Option (List ℕ)) (ends reads_failed : ℕ) (taken : Option (List ℕ)) (writes_failed : ℕ) → Streams
 streams left ends reads_failed taken writes_failed = record {
   left = left;
   ends = ends;

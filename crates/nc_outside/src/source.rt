@@ -37,7 +37,7 @@ pub trait Source {
         ensures cause { HasCause (faults self.old) (faults self.new) result };
 }
 
-// How often the end of input was given, after a read of so many bytes into a buffer with this room.
+/// How often the end of input was given, after a read of so many bytes into a buffer with this room.
 pub(crate) fn ends_after(ends: u64, count: usize, room: usize) -> u64
     ensures { result ≡ (if count == 0 && nat_lt 0 room then one_more ends else ends) }
 {

@@ -35,11 +35,13 @@ operation_in (Some e) =
 abbrev pub operation_of : Elem → Operation
 operation_of rpc = if list_any (is_attr message_id_name) rpc.attrs then operation_in (only_elem rpc) else Unknown
 
--- what a message behind the hello asks for; nothing where it has no reading or is no `rpc`
+-- what a message after the hello asks for; nothing where it has no valid reading or is no `rpc`
 abbrev pub asked : Option Tree → Option Asked
 asked None = None
 asked (Some tree) =
-    if is_base rpc_name tree.root then Some (record { attributes = tree.root.attrs; operation = operation_of tree.root }) else None
+    if is_base rpc_name tree.root
+    then Some (record { attributes = tree.root.attrs; operation = operation_of tree.root })
+    else None
 
 -- a content that is one text, or nothing
 abbrev pub text_in : Part-F Part Elem → Option (List ℕ)

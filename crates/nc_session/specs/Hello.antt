@@ -11,7 +11,12 @@ use Rattle.nc_session.specs.Words.{base_space, base_capability, hello_name, capa
 
 -- an element of NETCONF's own, without attributes
 abbrev pub base_elem : List ℕ → List Part → Elem
-base_elem name parts = record { name = record { space = base_space; name = name }; bounds = []; attrs = []; parts = parts }
+base_elem name parts = record {
+  name = record { space = base_space; name = name };
+  bounds = [];
+  attrs = [];
+  parts = parts;
+}
 
 -- an element around a text
 abbrev pub text_elem : List ℕ → List ℕ → Elem
@@ -34,7 +39,8 @@ module_capability m = m.space ++ module_query ++ m.name ++ revision_part m.revis
 -- base:1.0 and the module
 abbrev pub capabilities_elem : Module → Elem
 capabilities_elem m =
-    base_elem capabilities_name (Child (text_elem capability_name base_capability) ∷ Child (text_elem capability_name (module_capability m)) ∷ [])
+    base_elem capabilities_name
+    (Child (text_elem capability_name base_capability) ∷ Child (text_elem capability_name (module_capability m)) ∷ [])
 
 -- the capabilities, and the session's number
 abbrev pub hello_tree : Module → ℕ → Tree

@@ -44,7 +44,7 @@ end_after GetConfig = None
 end_after CloseSession = Some Closed
 end_after Unknown = None
 
--- what a message behind the hello is answered with, and whether the session ends with it
+-- what a message after the hello is answered with, and whether the session ends with it
 pub record Answer : Type 0 where
   pub text : List ℕ
   pub end : Option SessionEnd

@@ -44,7 +44,8 @@ phase_after (Over end) None = Over end
 
 -- the first message is the client's hello, and each later one is answered, until one ends the session
 abbrev pub step : Progress → Message → Progress
-step p message = let a = answer_in p.phase message.tree in record { phase = phase_after p.phase a.end; text = p.text ++ a.text }
+step p message =
+    let a = answer_in p.phase message.tree in record { phase = phase_after p.phase a.end; text = p.text ++ a.text }
 
 -- the server's hello comes first, before anything is read
 abbrev pub opening : Module → Progress

@@ -34,7 +34,7 @@ data_name = codes "data"
 unfoldable pub message_id_name : List ℕ
 message_id_name = codes "message-id"
 
--- what a module's capability has behind its namespace (RFC 6020 5.6.4)
+-- what a module's capability has after its namespace (RFC 6020 5.6.4)
 unfoldable pub module_query : List ℕ
 module_query = codes "?module="
 

@@ -82,7 +82,7 @@ fn operation_of(rpc: &Elem) -> Operation
     }
 }
 
-/// What a message behind the hello asks for. `None` means that it has no reading, or is no `rpc` of the
+/// What a message after the hello asks for. `None` means that it has no valid reading, or is no `rpc` of the
 /// base namespace.
 pub(crate) fn read_request(found: Option<Tree>) -> Option<Asked>
     ensures { result ≡ asks.asked found }

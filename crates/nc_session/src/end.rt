@@ -9,7 +9,7 @@ use nc_outside::Failed;
 /// Why the client's first message is no hello of this server's (RFC 6241 8.1).
 #[derive(Clone, Copy, Debug, PartialEq, Eq)]
 pub enum HelloFault {
-    /// The message has no reading.
+    /// The message has no valid reading.
     NotRead,
     /// Its root is not `hello` with one `capabilities` of `capability` elements.
     NotHello,
@@ -24,22 +24,22 @@ pub enum HelloFault {
 pub enum SessionEnd {
     /// A close-session was answered.
     Closed,
-    /// The input ended, between messages or within one.
+    /// The input ended, between messages or within one: a read gave its end in this call.
     InputEnded,
     /// The first message is no hello that the server takes.
     BadHello { why: HelloFault },
     /// The framing is broken at this byte of the session, counted from 0.
     BadFrame { at: u64 },
-    /// A later message has no reading, at this byte of the message, counted from 0.
+    /// A later message has no valid reading, at this byte of the message, counted from 0.
     Malformed { at: u64, why: Why },
     /// A message is larger than 4,194,304 bytes. `at` is the place in the session, counted from 0,
     /// at which that shows; it stands still at 2^64 - 1.
     TooBig { at: u64 },
     /// Another session ended this one.
     Killed,
-    /// The source failed. Its count of faults rose.
+    /// A read failed, and the source's count of faults rose in this call.
     ReadFault,
-    /// The sink failed. Its count of faults rose.
+    /// A write failed, and the sink's count of faults rose in this call.
     WriteFault,
     /// No further session could begin: so many are live, and this session-id was the last given.
     Full { live: u32, last: u32 },

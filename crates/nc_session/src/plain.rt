@@ -72,15 +72,15 @@ impl Talk {
     ) -> Result<(), SessionEnd>
         ensures turn { Turns first self.old.inbox self.new.inbox
             (streams (S.left source.old) (S.ends source.old) (S.faults source.old)
-                (K.taken sink.old) (K.faults sink.old))
+            (K.taken sink.old) (K.faults sink.old))
             (streams (S.left source.new) (S.ends source.new) (S.faults source.new)
-                (K.taken sink.new) (K.faults sink.new))
+            (K.taken sink.new) (K.faults sink.new))
             result }
         ensures counts { Counts
             (streams (S.left source.old) (S.ends source.old) (S.faults source.old)
-                (K.taken sink.old) (K.faults sink.old))
+            (K.taken sink.old) (K.faults sink.old))
             (streams (S.left source.new) (S.ends source.new) (S.faults source.new)
-                (K.taken sink.new) (K.faults sink.new))
+            (K.taken sink.new) (K.faults sink.new))
             (end_of result) }
     {
         let len = match next_message(source, &mut self.inbox, self.buffer.as_mut_slice()) {
@@ -111,9 +111,9 @@ pub fn serve_plain<S: Source, K: Sink>(
 ) -> SessionEnd
     ensures { Served served_module.now
         (streams (S.left source.old) (S.ends source.old) (S.faults source.old)
-                (K.taken sink.old) (K.faults sink.old))
+        (K.taken sink.old) (K.faults sink.old))
         (streams (S.left source.new) (S.ends source.new) (S.faults source.new)
-                (K.taken sink.new) (K.faults sink.new))
+        (K.taken sink.new) (K.faults sink.new))
         result }
 {
     let Ok(mut talk) = Talk::new(alloc) else {
@@ -130,5 +130,7 @@ pub fn serve_plain<S: Source, K: Sink>(
             return end;
         }
     }
-    SessionEnd::Spent { ticket: MOST_REQUESTS }
+    SessionEnd::Spent {
+        ticket: MOST_REQUESTS,
+    }
 }

@@ -60,11 +60,11 @@ pub fn run<F: Files, S: Source, K: Sink>(
 ) -> Ran<F, S, K>
     ensures runs { Runs (map string_bytes words.now)
         (outside (F.files world.files) (F.faults world.files)
-            (streams (S.left world.source) (S.ends world.source) (S.faults world.source)
-                (K.taken world.sink) (K.faults world.sink)))
+        (streams (S.left world.source) (S.ends world.source) (S.faults world.source)
+        (K.taken world.sink) (K.faults world.sink)))
         (outside (F.files result.world.files) (F.faults result.world.files)
-            (streams (S.left result.world.source) (S.ends result.world.source) (S.faults result.world.source)
-                (K.taken result.world.sink) (K.faults result.world.sink)))
+        (streams (S.left result.world.source) (S.ends result.world.source) (S.faults result.world.source)
+        (K.taken result.world.sink) (K.faults result.world.sink)))
         result.status }
     ensures words { result.status ≡ 2 ↔ HasNoReading (map string_bytes words.now) }
     ensures read_fault { result.status ≡ 6 → Rose (S.faults world.source) (S.faults result.world.source) }
@@ -83,11 +83,11 @@ fn run_in<F: Files, S: Source, K: Sink>(
 ) -> u8
     ensures runs { Runs (map string_bytes words.now)
         (outside (F.files world.old.files) (F.faults world.old.files)
-            (streams (S.left world.old.source) (S.ends world.old.source) (S.faults world.old.source)
-                (K.taken world.old.sink) (K.faults world.old.sink)))
+        (streams (S.left world.old.source) (S.ends world.old.source) (S.faults world.old.source)
+        (K.taken world.old.sink) (K.faults world.old.sink)))
         (outside (F.files world.new.files) (F.faults world.new.files)
-            (streams (S.left world.new.source) (S.ends world.new.source) (S.faults world.new.source)
-                (K.taken world.new.sink) (K.faults world.new.sink)))
+        (streams (S.left world.new.source) (S.ends world.new.source) (S.faults world.new.source)
+        (K.taken world.new.sink) (K.faults world.new.sink)))
         result }
     ensures words { result ≡ 2 ↔ HasNoReading (map string_bytes words.now) }
     ensures read_fault { result ≡ 6 → Rose (S.faults world.old.source) (S.faults world.new.source) }

@@ -210,15 +210,20 @@ fn each_first_message_has_its_status(rt: HostRuntime) -> Result<(), Fail> {
     Ok(())
 }
 
+/// The reply to the request 1 for an operation that the server lacks (RFC 6241 appendix A).
+fn not_supported() -> &'static str {
+    "<rpc-reply xmlns=\"urn:ietf:params:xml:ns:netconf:base:1.0\" message-id=\"1\">\
+     <rpc-error><error-type>protocol</error-type><error-tag>\
+     operation-not-supported</error-tag><error-severity>error</error-severity></rpc-error>\
+     </rpc-reply>]]>]]>"
+}
+
 /// Requests, and the reply of each.
 fn requests() -> [(&'static str, &'static str); 7] {
     [
         (
             "<rpc xmlns=\"urn:ietf:params:xml:ns:netconf:base:1.0\" message-id=\"1\"><get/></rpc>]]>]]>",
-            "<rpc-reply xmlns=\"urn:ietf:params:xml:ns:netconf:base:1.0\" message-id=\"1\">\
-             <rpc-error><error-type>protocol</error-type><error-tag>\
-             operation-not-supported</error-tag><error-severity>error</error-severity></rpc-error>\
-             </rpc-reply>]]>]]>",
+            not_supported(),
         ),
         (
             "<rpc xmlns=\"urn:ietf:params:xml:ns:netconf:base:1.0\" b=\"2\" message-id='a\"b' a=\"1\">\
@@ -235,34 +240,22 @@ fn requests() -> [(&'static str, &'static str); 7] {
         (
             "<rpc xmlns=\"urn:ietf:params:xml:ns:netconf:base:1.0\" message-id=\"1\">\
              <close-session/><close-session/></rpc>]]>]]>",
-            "<rpc-reply xmlns=\"urn:ietf:params:xml:ns:netconf:base:1.0\" message-id=\"1\">\
-             <rpc-error><error-type>protocol</error-type><error-tag>\
-             operation-not-supported</error-tag><error-severity>error</error-severity></rpc-error>\
-             </rpc-reply>]]>]]>",
+            not_supported(),
         ),
         (
             "<rpc xmlns=\"urn:ietf:params:xml:ns:netconf:base:1.0\" message-id=\"1\"><get-config>\
              <source><candidate/></source></get-config></rpc>]]>]]>",
-            "<rpc-reply xmlns=\"urn:ietf:params:xml:ns:netconf:base:1.0\" message-id=\"1\">\
-             <rpc-error><error-type>protocol</error-type><error-tag>\
-             operation-not-supported</error-tag><error-severity>error</error-severity></rpc-error>\
-             </rpc-reply>]]>]]>",
+            not_supported(),
         ),
         (
             "<rpc xmlns=\"urn:ietf:params:xml:ns:netconf:base:1.0\" message-id=\"1\">\
              <close-session xmlns=\"\"/></rpc>]]>]]>",
-            "<rpc-reply xmlns=\"urn:ietf:params:xml:ns:netconf:base:1.0\" message-id=\"1\">\
-             <rpc-error><error-type>protocol</error-type><error-tag>\
-             operation-not-supported</error-tag><error-severity>error</error-severity></rpc-error>\
-             </rpc-reply>]]>]]>",
+            not_supported(),
         ),
         (
             "<rpc xmlns=\"urn:ietf:params:xml:ns:netconf:base:1.0\" message-id=\"1\">\
              text<close-session/></rpc>]]>]]>",
-            "<rpc-reply xmlns=\"urn:ietf:params:xml:ns:netconf:base:1.0\" message-id=\"1\">\
-             <rpc-error><error-type>protocol</error-type><error-tag>\
-             operation-not-supported</error-tag><error-severity>error</error-severity></rpc-error>\
-             </rpc-reply>]]>]]>",
+            not_supported(),
         ),
     ]
 }

@@ -68,7 +68,11 @@ fn end_over(alloc: Global, input: Bytes, case: &Case) -> Result<SessionEnd, Memo
 
 fn end_of(alloc: Global, case: &Case) -> Result<SessionEnd, Memory> {
     let text = spelled(alloc, case.input)?;
-    end_over(alloc, Bytes::from_slice(alloc, text.as_str().as_bytes())?, case)
+    end_over(
+        alloc,
+        Bytes::from_slice(alloc, text.as_str().as_bytes())?,
+        case,
+    )
 }
 
 fn plain(input: &str) -> Case<'_> {
@@ -93,7 +97,10 @@ fn bad_hellos() -> [(&'static str, HelloFault); 9] {
             HelloFault::HasSessionId,
         ),
         ("^$;", HelloFault::NoBase),
-        ("^<capability>urn:ietf:params:netconf:base:1.1</capability>$;", HelloFault::NoBase),
+        (
+            "^<capability>urn:ietf:params:netconf:base:1.1</capability>$;",
+            HelloFault::NoBase,
+        ),
     ]
 }
 
@@ -114,8 +121,14 @@ fn other_ends_are_told_apart(rt: HostRuntime) -> Result<(), Fail> {
         ("^", SessionEnd::InputEnded),
         ("^+$;", SessionEnd::InputEnded),
         ("^+$;<rpc>;", SessionEnd::Malformed { at, why }),
-        ("^+$;<rpc @ message-id='1'><close-session/></rpc>;", SessionEnd::Closed),
-        ("^+$;<rpc @ message-id='1'><other/></rpc>;", SessionEnd::InputEnded),
+        (
+            "^+$;<rpc @ message-id='1'><close-session/></rpc>;",
+            SessionEnd::Closed,
+        ),
+        (
+            "^+$;<rpc @ message-id='1'><other/></rpc>;",
+            SessionEnd::InputEnded,
+        ),
     ] {
         let end = end_of(rt.alloc(), &plain(input))?;
         assert_eq!(rt; end, want, "at {input}");
@@ -161,6 +174,9 @@ fn a_message_past_the_limit_is_too_big(rt: HostRuntime) -> Result<(), Fail> {
     let more = dashes(alloc, MESSAGE_LIMIT + MARK.len())?;
     let at = MESSAGE_LIMIT as u64;
     assert_eq!(rt; end_over(alloc, most, &plain(""))?, SessionEnd::InputEnded);
-    assert_eq!(rt; end_over(alloc, more, &plain(""))?, SessionEnd::TooBig { at });
+    assert_eq!(rt;
+        end_over(alloc, more, &plain(""))?,
+        SessionEnd::TooBig { at }
+    );
     Ok(())
 }

@@ -27,7 +27,8 @@ pub record BeginsWith (bytes : List ℕ) (len : ℕ) : Type 0 where
 
 -- why no message was read
 abbrev pub ReadsNone : Waiting → Waiting → Option (List ℕ) → Option (List ℕ) → SessionEnd → Type 0
-ReadsNone before now left_before left_now InputEnded = Reads before now left_before left_now × IsUnfinished now.bytes × IsAtEnd left_now
+ReadsNone before now left_before left_now InputEnded =
+    Reads before now left_before left_now × IsUnfinished now.bytes × IsAtEnd left_now
 ReadsNone before now left_before left_now ReadFault = Reads before now left_before left_now × IsUnfinished now.bytes
 ReadsNone before now left_before left_now (TooBig at) =
     Reads before now left_before left_now × IsTooLong now.bytes × (at ≡ capped (now.place + message_limit))
@@ -41,8 +42,10 @@ ReadsMessage before now left_before left_now (Err end) = ReadsNone before now le
 
 -- a piece was read, or why none was
 abbrev pub ReadsPiece : Waiting → Waiting → Option (List ℕ) → Option (List ℕ) → Result (Unit {0}) SessionEnd → Type 0
-ReadsPiece before now left_before left_now (Ok u) = Reads before now left_before left_now × (length before.bytes < length now.bytes)
-ReadsPiece before now left_before left_now (Err InputEnded) = Reads before now left_before left_now × (now ≡ before) × IsAtEnd left_now
+ReadsPiece before now left_before left_now (Ok u) =
+    Reads before now left_before left_now × (length before.bytes < length now.bytes)
+ReadsPiece before now left_before left_now (Err InputEnded) =
+    Reads before now left_before left_now × (now ≡ before) × IsAtEnd left_now
 ReadsPiece before now left_before left_now (Err ReadFault) = Reads before now left_before left_now × (now ≡ before)
 ReadsPiece before now left_before left_now (Err Memory) = ReadsSome left_before left_now
 ReadsPiece before now left_before left_now _ = ⊥

@@ -47,7 +47,8 @@ pub data Turns (first : Bool) (before now : Waiting) (s s' : Streams) : Result (
   Answers : (message : Message) (result : Result (Unit {0}) SessionEnd) → Takes before now s.left s'.left message.bytes
       → IsReading message.bytes message.tree → Responds (answer_for first message.tree) s.taken s'.taken result
       → Turns first before now s s' result
-  Stops : (end : SessionEnd) → ReadsNone before now s.left s'.left end → s'.taken ≡ s.taken → Turns first before now s s' (Err end)
+  Stops : (end : SessionEnd) → ReadsNone before now s.left s'.left end → s'.taken ≡ s.taken
+      → Turns first before now s s' (Err end)
 
 -- a session that goes on: the messages read, what waits after them, and all that they are answered
 pub record Underway (m : Module) (phase : Phase) (waiting : Waiting) (before now : Streams) : Type 0 where

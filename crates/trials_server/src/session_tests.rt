@@ -1,6 +1,6 @@
 //! How sessions of nc_session end, and what they write until then.
 use nc_message::Why;
-use nc_names::{Bytes, MESSAGE_LIMIT, Many, Memory, Module, Text};
+use nc_names::{Bytes, MESSAGE_LIMIT, Many, Memory, Module, PIECE_LIMIT, Text};
 use nc_outside::{MemSink, MemSource};
 use nc_session::{HelloFault, SessionEnd, serve_plain};
 use std::alloc::Global;
@@ -13,11 +13,12 @@ const CAPABILITY: &str = "<capability>urn:ietf:params:netconf:base:1.0</capabili
 
 const MARK: &str = "]]>]]>";
 
-// What a session is given: its input in pieces of seven bytes, and the numbers of the read and of the
-// write that fail, or 0.
+// What a session is given: its input and the size of a piece of it, and the numbers of the read and of
+// the write that fail, or 0.
 #[derive(Clone, Copy)]
 struct Case<'a> {
     input: &'a str,
+    piece: usize,
     bad_read: u64,
     bad_write: u64,
 }
@@ -61,7 +62,7 @@ fn spelled(alloc: Global, short: &str) -> Result<Text, Memory> {
 // How a session over an input ends.
 fn end_over(alloc: Global, input: Bytes, case: &Case) -> Result<SessionEnd, Memory> {
     let module = served_module(alloc)?;
-    let mut source = MemSource::new(input, 7, only(alloc, case.bad_read)?);
+    let mut source = MemSource::new(input, case.piece.max(1), only(alloc, case.bad_read)?);
     let mut sink = MemSink::new(alloc, only(alloc, case.bad_write)?);
     Ok(serve_plain(alloc, &module, &mut source, &mut sink))
 }
@@ -78,6 +79,7 @@ fn end_of(alloc: Global, case: &Case) -> Result<SessionEnd, Memory> {
 fn plain(input: &str) -> Case<'_> {
     Case {
         input,
+        piece: 7,
         bad_read: 0,
         bad_write: 0,
     }
@@ -149,6 +151,7 @@ fn a_failed_call_ends_the_session(rt: HostRuntime) -> Result<(), Fail> {
     ] {
         let case = Case {
             input,
+            piece: 7,
             bad_read,
             bad_write,
         };
@@ -172,11 +175,12 @@ fn a_message_past_the_limit_is_too_big(rt: HostRuntime) -> Result<(), Fail> {
     let alloc = rt.alloc();
     let most = dashes(alloc, MESSAGE_LIMIT + MARK.len() - 1)?;
     let more = dashes(alloc, MESSAGE_LIMIT + MARK.len())?;
+    let case = Case {
+        piece: PIECE_LIMIT,
+        ..plain("")
+    };
     let at = MESSAGE_LIMIT as u64;
-    assert_eq!(rt; end_over(alloc, most, &plain(""))?, SessionEnd::InputEnded);
-    assert_eq!(rt;
-        end_over(alloc, more, &plain(""))?,
-        SessionEnd::TooBig { at }
-    );
+    assert_eq!(rt; end_over(alloc, most, &case)?, SessionEnd::InputEnded);
+    assert_eq!(rt; end_over(alloc, more, &case)?, SessionEnd::TooBig { at });
     Ok(())
 }

@@ -30,7 +30,7 @@ use Rattle.nc_names.proofs.SameLemmas.{step_decide}
 use Rattle.nc_model.proofs.SiblingLemmas.{IsStepAt, path_step, ancestor}
 
 -- an element that passes the test
-some_passes : {X : Type 0} (p : X → Bool) (xs : List X) → list_any p xs ≡ true → (x : X) × Contains xs x × (p x ≡ true)
+pub some_passes : {X : Type 0} (p : X → Bool) (xs : List X) → list_any p xs ≡ true → (x : X) × Contains xs x × (p x ≡ true)
 some_passes p xs e = let found = Any-from_list_any p xs e in (found.1, (found.0, found.2, found.3), found.4)
 
 pub path_decide_to : (a b : List Step) → is_same_path a b ≡ true → a ≡ b

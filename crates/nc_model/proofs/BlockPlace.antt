@@ -7,7 +7,7 @@ use Rattle.nc_names.specs.declared.path.Row.{Row}
 use Rattle.nc_names.specs.declared.path.Step.{Step}
 use Rattle.nc_schema.specs.Configuration.{IsDataTree}
 use Rattle.nc_schema.specs.Order.{keys_above, IsBefore}
-use Rattle.nc_schema.specs.ProperNodes.{HasProperNodes}
+use Rattle.nc_schema.proofs.ProperLemmas.{HasProperNodes}
 use Rattle.nc_schema.specs.Tables.{Tables}
 use Rattle.nc_schema.specs.Standing.{sibling_before, placed, place_at, entries, steps_before}
 use Rattle.nc_model.proofs.EntryLemmas.{kept_above}

@@ -8,7 +8,7 @@ use Rattle.std.specs.Prelude.{slice_get}
 use Rattle.nc_schema.specs.declared.node.Case.{Case}
 use Rattle.nc_schema.specs.declared.node.Node.{Node}
 use Rattle.nc_schema.specs.Configuration.{IsInCase}
-use Rattle.nc_schema.specs.ProperNodes.{HasProperNodes}
+use Rattle.nc_schema.proofs.ProperLemmas.{HasProperNodes}
 use Rattle.nc_schema.specs.Tables.{Tables}
 use Rattle.nc_schema.specs.Standing.{cases_differ, cases_of}
 use Rattle.nc_model.proofs.ListLemmas.{none_passes}

@@ -17,19 +17,21 @@ use Rattle.nc_schema.specs.declared.node.Kind.TheVariants.{Leaf}
 use Rattle.nc_schema.specs.declared.node.Node.{Node}
 use Rattle.nc_schema.specs.Configuration.{IsRowValue, StandsForItself, key_rows, IsDataTree, IsSubtree}
 use Rattle.nc_schema.specs.Paths.{key_count, IsPathOf}
-use Rattle.nc_schema.specs.ProperNodes.{IsKeyIn, HoldsNodes, HasProperNodes}
+use Rattle.nc_schema.specs.Proper.{IsKeyIn}
+use Rattle.nc_schema.proofs.ProperLemmas.{HoldsNodes, HasProperNodes}
 use Rattle.nc_schema.specs.Tables.{Tables}
 use Rattle.nc_model.specs.declared.access.Decision.{Decision}
+use Rattle.nc_model.specs.declared.asked.ErrorOption.{ErrorOption}
 use Rattle.nc_model.specs.declared.asked.ErrorOption.TheVariants.{Stop, Continue, Rollback}
 use Rattle.nc_model.specs.declared.edit.Action.{Action}
 use Rattle.nc_model.specs.declared.edit.Action.TheVariants.{Nothing, Merge, Create, Replace, Delete, Remove}
 use Rattle.nc_model.specs.declared.edit.Edit.{Edit}
 use Rattle.nc_model.specs.declared.request.Cause.{Cause}
-use Rattle.nc_model.specs.Applied.{Applied, is_empty, with_result, continued, stopped}
+use Rattle.nc_model.specs.Applied.{Applied, is_empty, with_result, continued, stopped, applied}
 use Rattle.nc_model.specs.Edited.{new_block, place_by, left_by, cause_where, first_cause, is_there, missed, refusal, unless_refused, edited}
 use Rattle.nc_schema.specs.Blocks.{at_node, rows_of_node, own_rows, with_block}
 use Rattle.nc_schema.specs.Kinds.{has_value, is_plain_container}
-use Rattle.nc_model.specs.Laws.{EditKeepsTree, EditsKeepTree, PayloadFits}
+use Rattle.nc_model.specs.Laws.{EditKeepsTree, EditsKeepTree}
 use Rattle.nc_model.specs.ProperEdit.{IsKeyAt, IsNoKey, IsMergeValue, IsProperAction, IsProperEdit}
 use Rattle.nc_schema.specs.Standing.{node_of, block_at, exists, lacks_above}
 use Rattle.nc_model.proofs.AboveLemmas.{row_below, above_stands, above_block, key_or_not}
@@ -38,13 +40,10 @@ use Rattle.nc_model.proofs.ListLemmas.{contains_behind, contains_split, some_sam
 use Rattle.nc_model.proofs.Parts.{all_at}
 use Rattle.nc_model.proofs.PathViews.{IsLower, node_after, after_last}
 use Rattle.nc_model.proofs.PlaceLemmas.{last_of}
-use Rattle.nc_model.proofs.ProperPayload.{payload_is_proper}
 use Rattle.nc_model.proofs.SiblingLemmas.{path_step, some_and}
 use Rattle.nc_model.proofs.SubtreeLemmas.{block_is_subtree, fresh_is_subtree, nothing_is_subtree, own_rows_are}
 use Rattle.nc_model.proofs.WithBlock.{block_keeps_tree}
-
-pub payload_fits : PayloadFits
-payload_fits = payload_is_proper
+use Rattle.nc_schema.proofs.ProperLemmas.{proper_nodes}
 
 -- no cause is the first: the first is none
 no_first : (one : Option Cause) (more : List (Option Cause)) → first_cause (one ∷ more) ≡ None → (one ≡ None) × (first_cause more ≡ None)
@@ -213,7 +212,7 @@ module _ (tables : Tables) (rows : List Row) (path : Path) (proper : HasProperNo
         by (inr (entry, number, key)) = merge_key entry number key
 
   -- each action
-  action_keeps : (action : Action) (place : Place) → IsProperAction tables path action → missed tables rows path action ≡ None →
+  pub action_keeps : (action : Action) (place : Place) → IsProperAction tables path action → missed tables rows path action ≡ None →
       IsDataTree tables (with_block tables rows path (place_by action place) (new_block tables rows path action))
   action_keeps Nothing place fits met = nothing_keeps (by (key_or_not tables path is_path) (at_node tables path is_plain_container) refl (not-false _ (no_cause (not (is_there tables rows path)) _ met)))
     where
@@ -224,11 +223,11 @@ module _ (tables : Tables) (rows : List Row) (path : Path) (proper : HasProperNo
       by (inr (entry, number, key)) true is there = let clash : true ≡ false = sym is ∙ leaf_kind (key_leaf entry number key) is_plain_container in cc
   action_keeps (Merge value) place fits met = merge_keeps place value fits (no_cause (lacks_above tables rows path.steps) _ met)
   action_keeps (Create new) place fits met =
-      by_subtree place new fits.0 fits.1
+      by_subtree place new fits.no_key fits.rows
       (λ b above step next rest node has. above_stands tables rows path tree
       (no_cause (lacks_above tables rows path.steps) _ (no_first (cause_where (lacks_above tables rows path.steps) _) [] (no_first (cause_where (exists rows path.steps) _) _ met).1).0) above step next rest node)
   action_keeps (Replace new) place fits met =
-      by_subtree place new fits.0 fits.1 (λ b above step next rest node has. above_stands tables rows path tree (no_cause (lacks_above tables rows path.steps) _ met) above step next rest node)
+      by_subtree place new fits.no_key fits.rows (λ b above step next rest node has. above_stands tables rows path tree (no_cause (lacks_above tables rows path.steps) _ met) above step next rest node)
   action_keeps Delete place fits met = by_subtree Kept [] fits (nothing_is_subtree tables path.steps) (λ b above step next rest node has. absurd (omega (arith, has.1)))
   action_keeps Remove place fits met = by_subtree Kept [] fits (nothing_is_subtree tables path.steps) (λ b above step next rest node has. absurd (omega (arith, has.1)))
 
@@ -238,41 +237,44 @@ edit_keeps_tree tables rights rows left edit proper tree fits is = by (refusal t
     by : (refused : Option Cause) → refusal tables rights rows edit ≡ refused → unless_refused refused (left_by tables rows edit) ≡ Ok left → IsDataTree tables left
     by (Some cause) refused is = cc
     by None refused is =
-        subst (IsDataTree tables) (ok_same _ _ is) (action_keeps tables rows edit.path proper tree fits.path edit.action edit.place fits.action (no_first (missed tables rows edit.path edit.action) _ refused).0)
+        subst (IsDataTree tables) (ok_same _ _ is) (action_keeps tables rows edit.path (proper_nodes tables proper) tree fits.path edit.action edit.place fits.action (no_first (missed tables rows edit.path edit.action) _ refused).0)
 
--- several edits
-continued_keeps : (tables : Tables) (rights : Path → Right → Decision) (so_far : Applied) (edit : Edit) → HasProperNodes tables → IsDataTree tables so_far.rows → IsProperEdit tables edit →
-    IsDataTree tables (continued tables rights so_far edit).rows
-continued_keeps tables rights so_far edit proper tree fits = by (edited tables rights so_far.rows edit) refl
-  where
-    by : (result : Result (List Row) Cause) → edited tables rights so_far.rows edit ≡ result → IsDataTree tables (with_result so_far result).rows
-    by (Ok rows) is = edit_keeps_tree tables rights so_far.rows rows edit proper tree fits is
-    by (Err cause) is = tree
+-- ---- several edits: what each edit of a kind keeps, they keep together
+module _ (tables : Tables) (rights : Path → Right → Decision) (Q : List Row → Type 0) (F : Edit → Type 0)
+    (each : (rows left : List Row) (edit : Edit) → Q rows → F edit → edited tables rights rows edit ≡ Ok left → Q left) where
+  continued_keeps : (so_far : Applied) (edit : Edit) → Q so_far.rows → F edit → Q (continued tables rights so_far edit).rows
+  continued_keeps so_far edit holds fits = by (edited tables rights so_far.rows edit) refl
+    where
+      by : (result : Result (List Row) Cause) → edited tables rights so_far.rows edit ≡ result → Q (with_result so_far result).rows
+      by (Ok rows) is = each so_far.rows rows edit holds fits is
+      by (Err cause) is = holds
 
-stopped_keeps : (tables : Tables) (rights : Path → Right → Decision) (so_far : Applied) (edit : Edit) → HasProperNodes tables → IsDataTree tables so_far.rows → IsProperEdit tables edit →
-    IsDataTree tables (stopped tables rights so_far edit).rows
-stopped_keeps tables rights so_far edit proper tree fits = by (is_empty so_far.causes)
-  where
-    by : (b : Bool) → IsDataTree tables (cond b (continued tables rights so_far edit) so_far).rows
-    by true = continued_keeps tables rights so_far edit proper tree fits
-    by false = tree
+  stopped_keeps : (so_far : Applied) (edit : Edit) → Q so_far.rows → F edit → Q (stopped tables rights so_far edit).rows
+  stopped_keeps so_far edit holds fits = by (is_empty so_far.causes)
+    where
+      by : (b : Bool) → Q (cond b (continued tables rights so_far edit) so_far).rows
+      by true = continued_keeps so_far edit holds fits
+      by false = holds
 
-fold_keeps : (tables : Tables) (f : Applied → Edit → Applied) → ((so_far : Applied) (edit : Edit) → IsDataTree tables so_far.rows → IsProperEdit tables edit → IsDataTree tables (f so_far edit).rows) →
-    (so_far : Applied) (edits : List Edit) → IsDataTree tables so_far.rows → All (IsProperEdit tables) edits → IsDataTree tables (fold f so_far edits).rows
-fold_keeps tables f each so_far [] tree fit = tree
-fold_keeps tables f each so_far (edit ∷ edits) tree fit =
-    fold_keeps tables f each (f so_far edit) edits (each so_far edit tree (fit 0 edit (omega arith))) (λ k d within. fit (suc k) d (omega (arith, within)))
+  fold_keeps : (f : Applied → Edit → Applied) → ((so_far : Applied) (edit : Edit) → Q so_far.rows → F edit → Q (f so_far edit).rows) →
+      (so_far : Applied) (edits : List Edit) → Q so_far.rows → All F edits → Q (fold f so_far edits).rows
+  fold_keeps f step so_far [] holds fit = holds
+  fold_keeps f step so_far (edit ∷ edits) holds fit =
+      fold_keeps f step (f so_far edit) edits (step so_far edit holds (fit 0 edit (omega arith))) (λ k d within. fit (suc k) d (omega (arith, within)))
+
+  pub applied_keeps : (on_error : ErrorOption) (rows : List Row) (edits : List Edit) → Q rows → All F edits → Q (applied tables rights on_error rows edits).rows
+  applied_keeps Stop rows edits holds fit = fold_keeps (stopped tables rights) stopped_keeps (record { rows = rows; causes = [] }) edits holds fit
+  applied_keeps Continue rows edits holds fit = fold_keeps (continued tables rights) continued_keeps (record { rows = rows; causes = [] }) edits holds fit
+  applied_keeps Rollback rows edits holds fit = by (is_empty so_far.causes)
+    where
+      so_far : Applied
+      so_far = fold (stopped tables rights) (record { rows = rows; causes = [] }) edits
+
+      by : (b : Bool) → Q (cond b so_far (record so_far { rows = rows })).rows
+      by true = fold_keeps (stopped tables rights) stopped_keeps (record { rows = rows; causes = [] }) edits holds fit
+      by false = holds
 
 pub edits_keep_tree : EditsKeepTree
-edits_keep_tree tables rights Stop rows edits proper tree fit =
-    fold_keeps tables (stopped tables rights) (λ so_far edit is fits. stopped_keeps tables rights so_far edit proper is fits) (record { rows = rows; causes = [] }) edits tree fit
-edits_keep_tree tables rights Continue rows edits proper tree fit =
-    fold_keeps tables (continued tables rights) (λ so_far edit is fits. continued_keeps tables rights so_far edit proper is fits) (record { rows = rows; causes = [] }) edits tree fit
-edits_keep_tree tables rights Rollback rows edits proper tree fit = by (is_empty so_far.causes)
-  where
-    so_far : Applied
-    so_far = fold (stopped tables rights) (record { rows = rows; causes = [] }) edits
-
-    by : (b : Bool) → IsDataTree tables (cond b so_far (record so_far { rows = rows })).rows
-    by true = fold_keeps tables (stopped tables rights) (λ done edit is fits. stopped_keeps tables rights done edit proper is fits) (record { rows = rows; causes = [] }) edits tree fit
-    by false = tree
+edits_keep_tree tables rights on_error rows edits proper tree fit =
+    applied_keeps tables rights (IsDataTree tables) (IsProperEdit tables)
+    (λ before left edit holds fits is. edit_keeps_tree tables rights before left edit proper holds fits is) on_error rows edits tree fit

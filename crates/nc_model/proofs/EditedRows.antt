@@ -117,15 +117,15 @@ own_below tables path value = by (node_of tables path.steps) (option_map_or (λ 
     by (Some node) values = own node.kind node.keys values
 
 -- the block of an action that fits the schema is at and below the node
-below_of : (tables : Tables) (rows : List Row) (path : Path) (action : Action) → IsProperAction tables path action → All (λ row. IsAtOrBelow path.steps row.path) (new_block tables rows path action)
+pub below_of : (tables : Tables) (rows : List Row) (path : Path) (action : Action) → IsProperAction tables path action → All (λ row. IsAtOrBelow path.steps row.path) (new_block tables rows path action)
 below_of tables rows path Nothing fits = all_from (λ (row : Row). IsAtOrBelow path.steps row.path) (block_at rows path.steps) (λ row has. (below_is_below path.steps row.path).0 (kept_true _ row rows has))
 below_of tables rows path (Merge value) fits = by (exists rows path.steps && not (at_node tables path has_value))
   where
     by : (there : Bool) → All (λ row. IsAtOrBelow path.steps row.path) (cond there (block_at rows path.steps) (rows_of_node tables path value))
     by true = all_from (λ (row : Row). IsAtOrBelow path.steps row.path) (block_at rows path.steps) (λ row has. (below_is_below path.steps row.path).0 (kept_true _ row rows has))
     by false = own_below tables path value
-below_of tables rows path (Create new) fits = fits.1.below
-below_of tables rows path (Replace new) fits = fits.1.below
+below_of tables rows path (Create new) fits = fits.rows.below
+below_of tables rows path (Replace new) fits = fits.rows.below
 below_of tables rows path Delete fits = λ k d within. absurd (omega (arith, within))
 below_of tables rows path Remove fits = λ k d within. absurd (omega (arith, within))
 

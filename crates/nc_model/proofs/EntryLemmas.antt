@@ -34,7 +34,7 @@ keys_there (over ∷ above) number keys =
     ap (λ b. cond b (keys_in above number (above ++ record { node = number; keys = keys } ∷ [])) None) (step_itself over) ∙ keys_there above number keys
 
 -- what has an entry's keys is a path to it
-keys_back : (above : List Step) (number : ℕ) (keys : List (List ℕ)) (steps : List Step) → keys_in above number steps ≡ Some keys →
+pub keys_back : (above : List Step) (number : ℕ) (keys : List (List ℕ)) (steps : List Step) → keys_in above number steps ≡ Some keys →
     steps ≡ above ++ record { node = number; keys = keys } ∷ []
 keys_back [] number keys [] e = cc
 keys_back [] number keys (step ∷ []) e = go (step.node == number) refl e

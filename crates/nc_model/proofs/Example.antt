@@ -1,12 +1,8 @@
 -- A list entry is merged into an empty configuration, and then one that comes before it.
 use Rattle.std.proofs.Common.{◌≡◌, ℕ, List, [], ◌∷◌, refl}
-use Rattle.std.specs.Prelude.{codes, Option, Some, None, Ok, Err, false, true}
+use Rattle.std.specs.Prelude.{codes, Option, Some, None, false, true}
 use Rattle.nc_message.specs.declared.tree.Elem.{Elem}
 use Rattle.nc_message.specs.declared.tree.Part.{Part}
-use Rattle.nc_message.specs.declared.tree.Part.TheVariants.{Child, Chars}
-use Rattle.nc_message.specs.declared.tree.Part.TheBlock.{hidden-the_row-Part-0, hidden-the_row-Elem-1}
-use denote.Hole.Carrier.{hidden}
-use Rattle.nc_names.specs.declared.cause.CauseKind.TheVariants.{MissingKey}
 use Rattle.nc_names.specs.declared.path.Path.{Path}
 use Rattle.nc_names.specs.declared.path.Place.TheVariants.{Kept}
 use Rattle.nc_names.specs.declared.path.Right.{Right}
@@ -16,13 +12,13 @@ use Rattle.nc_schema.specs.declared.node.Kind.{Kind}
 use Rattle.nc_schema.specs.declared.node.Kind.TheVariants.{Container, Leaf, List as ListKind}
 use Rattle.nc_schema.specs.declared.node.Node.{Node}
 use Rattle.nc_schema.specs.Tables.{Tables}
+use Rattle.nc_schema.specs.declared.value_type.ValueType.TheVariants.{Enumeration}
 use Rattle.nc_model.specs.declared.access.By.TheVariants.{Recovery}
 use Rattle.nc_model.specs.declared.access.Decision.{Decision}
 use Rattle.nc_model.specs.declared.asked.ErrorOption.TheVariants.{Stop}
 use Rattle.nc_model.specs.declared.edit.Action.TheVariants.{Merge}
 use Rattle.nc_model.specs.declared.edit.Edit.{Edit}
 use Rattle.nc_model.specs.Applied.{applied}
-use Rattle.nc_model.specs.Payload.{edits_of}
 
 unfoldable pub node : (name : List ℕ) (parent : Option ℕ) (kind : Kind) (keys : List ℕ) → Node
 node name parent kind keys = record {
@@ -42,12 +38,12 @@ node name parent kind keys = record {
   deny = NotDenied;
 }
 
--- container top { list port { key name; leaf name } }
+-- container top { list port { key name; leaf name { type enumeration { enum a; enum b } } } }
 unfoldable pub tables : Tables
 tables = record {
   nodes = node (codes "top") None (Container false) [] ∷ node (codes "port") (Some 0) ListKind (2 ∷ []) ∷ node (codes "name") (Some 1) Leaf [] ∷ [];
   choices = [];
-  types = [];
+  types = Enumeration (codes "a" ∷ codes "b" ∷ []) ∷ [];
   modules = record { name = codes "ex"; space = codes "urn:ex"; revision = []; features = [] } ∷ [];
 }
 
@@ -86,22 +82,3 @@ another_port_is_merged = refl
 
 unfoldable pub element : List ℕ → List Part → Elem
 element name parts = record { name = record { space = codes "urn:ex"; name = name }; bounds = []; attrs = []; parts = parts }
-
--- <config> <top><port><name>b</name></port></top></config>, and one whose port has no name
-whole : Elem
-whole = element (codes "config") (Chars (32 ∷ []) ∷ Child (element (codes "top") (Child (element (codes "port") (Child (element (codes "name") (Chars (codes "b") ∷ [])) ∷ [])) ∷ [])) ∷ [])
-
-nameless : Elem
-nameless = element (codes "config") (Child (element (codes "top") (Child (element (codes "port") []) ∷ [])) ∷ [])
-
-whole_gives_edits : edits_of tables whole ≡ Ok (merge top None ∷ merge (port (codes "b")) None ∷ merge (name (codes "b")) (Some (codes "b")) ∷ [])
-unfolding node tables top port name merge element whole hidden-the_row-Part-0 hidden-the_row-Elem-1 hidden
-whole_gives_edits = refl
-
-key_is_missing : edits_of tables nameless ≡ Err (record {
-  kind = MissingKey;
-  path = Some (record { steps = record { node = 0; keys = [] } ∷ record { node = 1; keys = [] } ∷ [] });
-  names = codes "name" ∷ [];
-})
-unfolding node tables element nameless hidden-the_row-Part-0 hidden-the_row-Elem-1 hidden
-key_is_missing = refl

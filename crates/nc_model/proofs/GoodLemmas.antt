@@ -1,12 +1,25 @@
 -- A good state stays good.
-use Rattle.std.proofs.Common.{◌≡◌, ◌≢◌, ◌+◌, ◌==◌, ◌||◌, ℕ, Bool, true, false, List, [], ◌∷◌, ◌++◌, length, refl, sym, subst, arith, length-append}
-use Rattle.nc_message.specs.declared.tree.Elem.{Elem}
-use Rattle.std.specs.Prelude.{Option, Some, None, IfSome, Result, Ok, Err, unwrap_or, if◌then◌else◌, not}
+use Rattle.std.proofs.Common.{◌≡◌, ◌≢◌, ◌+◌, ◌==◌, ◌||◌, ℕ, Bool, true, false, List, [], ◌∷◌, ◌++◌, length, refl, sym, ap, subst, arith, length-append}
+use Rattle.std.specs.Prelude.{Option, Some, None, IfSome, Result, Ok, Err, unwrap_or, if◌then◌else◌, not, is_some, option_map, slice_get}
+use Rattle.std.specs.List.{filter}
+use Rattle.std.specs.Option.{option_or}
+use Rattle.nc_names.specs.Same.{is_same_rows}
 use Rattle.nc_names.specs.declared.path.Row.{Row}
-use Rattle.nc_schema.specs.Configuration.{IsDataTree}
+use Rattle.nc_message.specs.declared.tree.Elem.{Elem}
+use Rattle.nc_schema.specs.Configuration.{IsConfiguration}
+use Rattle.nc_schema.specs.Tables.{Tables}
+use Rattle.nc_schema.specs.Violations.{violations, IsValid}
+use Rattle.nc_schema.specs.declared.violation.Violation.{Violation}
 use Rattle.nc_model.specs.declared.asked.Asked.{Asked}
-use Rattle.nc_model.specs.declared.asked.Asked.TheVariants.{EditConfig, Commit, DiscardChanges, CloseSession}
+use Rattle.nc_model.specs.declared.asked.Asked.TheVariants.{Get, GetConfig, EditConfig, CopyConfig, DeleteConfig, Lock, Unlock, CloseSession, KillSession, Commit, DiscardChanges, CancelCommit, Validate, PartialLock, PartialUnlock}
+use Rattle.nc_model.specs.declared.asked.Default3.{Default3}
 use Rattle.nc_model.specs.declared.asked.ErrorOption.{ErrorOption}
+use Rattle.nc_model.specs.declared.asked.TestOption.{TestOption}
+use Rattle.nc_model.specs.declared.asked.TestOption.TheVariants.{TestThenSet, Set, TestOnly}
+use Rattle.nc_model.specs.declared.datastore.Datastore.{Datastore}
+use Rattle.nc_model.specs.declared.datastore.Datastore.TheVariants.{Running, Candidate, Startup, Url}
+use Rattle.nc_model.specs.declared.datastore.Origin.{Origin}
+use Rattle.nc_model.specs.declared.datastore.Origin.TheVariants.{Store, Inline}
 use Rattle.nc_model.specs.declared.edit.Edit.{Edit}
 use Rattle.nc_model.specs.declared.entry.Entry.{Entry}
 use Rattle.nc_model.specs.declared.event.Event.{Event}
@@ -15,29 +28,29 @@ use Rattle.nc_model.specs.declared.event.Outcome.{Outcome}
 use Rattle.nc_model.specs.declared.event.Outcome.TheVariants.{Started, Full, NotLive, Ended}
 use Rattle.nc_model.specs.declared.peer.Peer.{Peer}
 use Rattle.nc_model.specs.declared.request.Cause.{Cause}
+use Rattle.nc_model.specs.declared.session.Session.{Session}
 use Rattle.nc_model.specs.declared.verdict.Verdict.{Verdict}
-use Rattle.nc_names.specs.Same.{is_same_rows}
-use Rattle.nc_model.specs.State.{Session, State, IsGood, IsSessionId, expired, session_ended, candidate_in_force, is_live}
-use Rattle.nc_model.specs.Step.{Rules, Fits, next, changed, outcome_of, answer_to, answered, done, is_done, is_edit, is_full, with_edits, with_candidate, has_failed}
+use Rattle.nc_model.specs.declared.verdict.Verdict.TheVariants.{Done, Selected, Locked, Refused}
+use Rattle.nc_model.specs.Access.{every_right, visible}
+use Rattle.nc_model.specs.Applied.{Applied, applied}
 use Rattle.nc_model.specs.Laws.{OpeningIsGood, GoodStays}
-use Rattle.nc_model.proofs.ListLemmas.{all_one, all_append, pairs_last, all_filter, pairs_filter, filter_shorter}
-use Rattle.nc_model.specs.History.{IsLegal, after}
 use Rattle.nc_model.specs.Payload.{edits_of}
-use Rattle.nc_model.specs.Unchecked.{every_right}
-use Rattle.nc_model.specs.Verdict.{is_merge, is_candidate, applied_to, rows_left, edited_rows, rules_with}
-use Rattle.nc_model.proofs.EditLemmas.{edits_keep_tree, payload_fits}
+use Rattle.nc_model.specs.State.{State, IsGood, IsSessionId, expired, session_ended, candidate_in_force, is_live}
+use Rattle.nc_model.specs.Step.{Fits, next, changed, changed_by, outcome_of, answer_to, answered, is_full, with_candidate, rows_of_ok, has_failed}
+use Rattle.nc_names.specs.declared.cause.CauseKind.TheVariants.{UnknownParameter, BadToken}
+use Rattle.nc_model.specs.Changes.{changes_between}
+use Rattle.nc_model.specs.Edited.{cause_where}
+use Rattle.nc_model.specs.Words.{confirmed_word}
+use Rattle.nc_model.specs.Verdict.{cause_of, changes_denied, checked, verdict_on, asked_verdict, operation_refused, commit_refusal, kept_unless, violation_in, violation_cause, edits_made, made_by, rows_set, result_unless, unsupported, is_target, copied, unless_denied, rows_copied, stored}
+use Rattle.nc_model.proofs.PayloadLaws.{payload_keeps_configuration, inline_is_configuration}
 use Rattle.nc_model.proofs.HistoryLemmas.{rest_legal}
-
--- where there is a good state, edits leave a data tree
-abbrev EditsKeepTrees : Rules → Type 0
-EditsKeepTrees rules =
-    (s : State) (session : ℕ) (asked : Asked) (rows : List Row) →
-    IsGood s → rules.edited s session asked ≡ Some rows → IsDataTree s.schema rows
+use Rattle.nc_model.proofs.ListLemmas.{all_one, all_append, pairs_last, all_filter, pairs_filter, filter_shorter}
 
 pub opening_is_good : OpeningIsGood
-opening_is_good schema running faults proper tree = record {
+opening_is_good schema running faults proper configuration valid = record {
   schema = proper;
-  running = tree;
+  running = configuration;
+  valid = valid;
   candidate = tt;
   given = λ k d within. absurd (omega (arith, within));
   distinct = λ i j d less within. absurd (omega (arith, within));
@@ -49,6 +62,7 @@ good_ended : (s : State) (n : ℕ) → IsGood s → IsGood (session_ended s n)
 good_ended s n good = record {
   schema = good.schema;
   running = good.running;
+  valid = good.valid;
   candidate = good.candidate;
   given = all_filter (λ (x : Session). IsSessionId s.last x.number) (λ x. not (x.number == n)) s.sessions good.given;
   distinct = pairs_filter (λ (x : Session) (later : Session). x.number ≢ later.number) (λ x. not (x.number == n)) s.sessions good.distinct;
@@ -67,6 +81,7 @@ good_started s peer room good =
     record {
       schema = good.schema;
       running = good.running;
+      valid = good.valid;
       candidate = good.candidate;
       given = all_append (λ (x : Session). IsSessionId (s.last + 1) x.number) s.sessions (new ∷ [])
           (λ k d within. let g = good.given k d within in (g.0, omega (arith, g.1)))
@@ -81,10 +96,14 @@ in_force : (P : List Row → Type 0) (candidate : Option (List Row)) (running : 
 in_force P None running some otherwise = otherwise
 in_force P (Some rows) running some otherwise = some
 
-good_committed : (s : State) → IsGood s → IsGood (record s { running = candidate_in_force s; candidate = None })
-good_committed s good = record {
+in_force_is : (s : State) → IsGood s → IsConfiguration s.schema (candidate_in_force s)
+in_force_is s good = in_force (IsConfiguration s.schema) s.candidate s.running good.candidate good.running
+
+good_committed : (s : State) → IsGood s → IsValid s.schema (candidate_in_force s) → IsGood (record s { running = candidate_in_force s; candidate = None })
+good_committed s good valid = record {
   schema = good.schema;
-  running = in_force (IsDataTree s.schema) s.candidate s.running good.candidate good.running;
+  running = in_force_is s good;
+  valid = valid;
   candidate = tt;
   given = good.given;
   distinct = good.distinct;
@@ -96,6 +115,7 @@ good_discarded : (s : State) → IsGood s → IsGood (record s { candidate = Non
 good_discarded s good = record {
   schema = good.schema;
   running = good.running;
+  valid = good.valid;
   candidate = tt;
   given = good.given;
   distinct = good.distinct;
@@ -103,72 +123,177 @@ good_discarded s good = record {
   last = good.last;
 }
 
-good_done : (s : State) (n : ℕ) (asked : Asked) → IsGood s → IsGood (done s n asked)
-good_done s n (Commit confirmed timeout persist persist_id) good = good_committed s good
-good_done s n DiscardChanges good = good_discarded s good
-good_done s n CloseSession good = good_ended s n good
-good_done s n asked good = good
-
-good_with : (s : State) (rows : List Row) → IsDataTree s.schema rows → IsGood s → IsGood (with_candidate s rows)
-good_with s rows tree good = by (is_same_rows rows (candidate_in_force s))
+good_with : (s : State) (rows : List Row) → IsConfiguration s.schema rows → IsGood s → IsGood (with_candidate s (Some rows))
+good_with s rows configuration good = by (is_same_rows rows (candidate_in_force s))
   where
     by : (same : Bool) → IsGood (if same then s else record s { candidate = Some rows })
     by true = good
     by false = record {
       schema = good.schema;
       running = good.running;
-      candidate = tree;
+      valid = good.valid;
+      candidate = configuration;
       given = good.given;
       distinct = good.distinct;
       few = good.few;
       last = good.last;
     }
 
-good_edits : (s : State) (rows : Option (List Row)) → IfSome rows (IsDataTree s.schema) → IsGood s → IsGood (with_edits s rows)
-good_edits s None trees good = good
-good_edits s (Some rows) trees good = good_with s rows trees good
+good_candidate : (s : State) (rows : Option (List Row)) → IfSome rows (IsConfiguration s.schema) → IsGood s → IsGood (with_candidate s rows)
+good_candidate s None each good = good
+good_candidate s (Some rows) each good = good_with s rows each good
 
-kept_trees : (rules : Rules) (s : State) (n : ℕ) (asked : Asked) → EditsKeepTrees rules → IsGood s → IfSome (rules.edited s n asked) (IsDataTree s.schema)
-kept_trees rules s n asked keep good = by (rules.edited s n asked) refl
+-- where no violation is answered there is none
+no_violation : (tables : Tables) (rows : List Row) → violation_in tables rows ≡ None → IsValid tables rows
+no_violation tables rows none = by (violations tables rows) none
   where
-    by : (rows : Option (List Row)) → rules.edited s n asked ≡ rows → IfSome rows (IsDataTree s.schema)
-    by None is = tt
-    by (Some rows) is = keep s n asked rows good is
+    by : (found : List Violation) → option_map violation_cause (slice_get found 0) ≡ None → found ≡ []
+    by [] e = refl
+    by (violation ∷ more) e = cc
 
-good_answered : (rules : Rules) (s : State) (n : ℕ) (asked : Result Asked Cause) (verdict : Verdict) → EditsKeepTrees rules → IsGood s → IsGood (answered rules s n asked verdict)
-good_answered rules s n (Err cause) verdict keep good = good
-good_answered rules s n (Ok asked) verdict keep good = by (is_edit asked)
+both_none : {A : Type 0} (a b : Option A) → option_or a b ≡ None → (a ≡ None) × (b ≡ None)
+both_none None b e = (refl, e)
+both_none (Some a) b e = cc
+
+checked_done : (refused : Option Cause) (decided : Verdict) → checked refused decided ≡ Done → (refused ≡ None) × (decided ≡ Done)
+checked_done None decided e = (refl, e)
+checked_done (Some cause) decided e = cc
+
+-- a commit that is done makes a valid configuration running
+commit_is_valid : (s : State) (n : ℕ) (confirmed : Bool) (persist_id : Option (List ℕ)) → commit_refusal s n confirmed persist_id ≡ None → IsValid s.schema (candidate_in_force s)
+commit_is_valid s n confirmed persist_id none =
+    let invalid = violation_in s.schema (candidate_in_force s) in
+    let denied = changes_denied every_right (changes_between s.schema s.running (candidate_in_force s)) in
+    let no_token = cause_where (is_some persist_id) (cause_of BadToken []) in
+    let first = both_none (cause_where confirmed (cause_of UnknownParameter (confirmed_word ∷ []))) (option_or no_token (option_or denied invalid)) none in
+    let later = both_none no_token (option_or denied invalid) first.1 in
+    no_violation s.schema (candidate_in_force s) (both_none denied invalid later.1).1
+
+abbrev rows_are : List Row → Result (List Row) Cause
+rows_are rows = Ok rows
+
+-- what edits leave that are set
+module _ (s : State) (good : IsGood s) where
+  set_is : (test : TestOption) (made : Result Applied Cause) → ((it : Applied) → made ≡ Ok it → IsConfiguration s.schema it.rows) → IfSome (rows_set s.schema test made) (IsConfiguration s.schema)
+  set_is test (Err cause) each = tt
+  set_is Set (Ok it) each = each it refl
+  set_is TestThenSet (Ok it) each = by (is_some (violation_in s.schema it.rows))
+    where
+      by : (broken : Bool) → IfSome (if broken then None else Some it.rows) (IsConfiguration s.schema)
+      by true = tt
+      by false = each it refl
+  set_is TestOnly (Ok it) each = tt
+
+  made_is : (n : ℕ) (on_error : ErrorOption) (default_operation : Default3) (config : Elem) (edits : Result (List Edit) Cause) → edits_of s.schema default_operation config ≡ edits →
+      (it : Applied) → made_by s n on_error edits ≡ Ok it → IsConfiguration s.schema it.rows
+  made_is n on_error default_operation config (Err cause) are it is = cc
+  made_is n on_error default_operation config (Ok edits) are it is =
+      subst (λ (a : Applied). IsConfiguration s.schema a.rows) (same is)
+      (payload_keeps_configuration s.schema every_right on_error default_operation config (candidate_in_force s) edits good.schema (in_force_is s good) are)
+    where
+      same : made_by s n on_error (Ok edits) ≡ Ok it → applied s.schema every_right on_error (candidate_in_force s) edits ≡ it
+      same e = cc
+
+  unless_is : (refused : Option Cause) (result : Result Applied Cause) (it : Applied) → result_unless refused result ≡ Ok it → result ≡ Ok it
+  unless_is None result it e = e
+  unless_is (Some cause) result it e = cc
+
+  edits_are : (n : ℕ) (target : Datastore) (default_operation : Default3) (on_error : ErrorOption) (config : Elem) (it : Applied) →
+      edits_made s n target default_operation on_error config ≡ Ok it → IsConfiguration s.schema it.rows
+  edits_are n target default_operation on_error config it is =
+      made_is n on_error default_operation config (edits_of s.schema default_operation config) refl it
+      (unless_is (unsupported is_target target) (made_by s n on_error (edits_of s.schema default_operation config)) it is)
+
+  -- what is copied
+  all_seen : (n : ℕ) (rows : List Row) → visible s n rows ≡ rows
+  all_seen n [] = refl
+  all_seen n (row ∷ rows) = ap (λ more. row ∷ more) (all_seen n rows)
+
+  stored_is : (store : Datastore) → IsConfiguration s.schema (stored s store)
+  stored_is Running = good.running
+  stored_is Candidate = in_force_is s good
+  stored_is Startup = good.running
+  stored_is Url = good.running
+
+  ok_rows : (some others : List Row) → rows_are some ≡ rows_are others → some ≡ others
+  ok_rows some others e = cc
+
+  source_is : (n : ℕ) (source : Origin) (rows : List Row) → rows_copied s n source ≡ Ok rows → IsConfiguration s.schema rows
+  source_is n (Store store) rows is =
+      let seen : IsConfiguration s.schema (visible s n (stored s store)) = subst (IsConfiguration s.schema) (sym (all_seen n (stored s store))) (stored_is store) in
+      subst (IsConfiguration s.schema) (ok_rows (visible s n (stored s store)) rows is) seen
+  source_is n (Inline config) rows is = inline_is_configuration s.schema config rows good.schema is
+
+  unless_rows : (refused : Option Cause) (result : Result (List Row) Cause) (rows : List Row) → result_unless refused result ≡ Ok rows → result ≡ Ok rows
+  unless_rows None result rows e = e
+  unless_rows (Some cause) result rows e = cc
+
+  denied_rows : (n : ℕ) (result : Result (List Row) Cause) (rows : List Row) → unless_denied s n result ≡ Ok rows → result ≡ Ok rows
+  denied_rows n (Err cause) rows e = cc
+  denied_rows n (Ok made) rows e = unless_rows _ (Ok made) rows e
+
+  copied_is : (n : ℕ) (target : Datastore) (source : Origin) (result : Result (List Row) Cause) → copied s n target source ≡ result → IfSome (rows_of_ok result) (IsConfiguration s.schema)
+  copied_is n target source (Err cause) is = tt
+  copied_is n target source (Ok rows) is = source_is n source rows (denied_rows n (rows_copied s n source) rows (unless_rows _ (unless_denied s n (rows_copied s n source)) rows is))
+
+good_asked : (s : State) (n : ℕ) (asked : Asked) (decided : Verdict) (failed : Bool) → IsGood s → (decided ≡ Done → asked_verdict s n asked failed ≡ Done) → IsGood (changed_by s n asked decided)
+good_asked s n (EditConfig target default_operation test on_error config) decided failed good done =
+    good_candidate s (rows_set s.schema test (edits_made s n target default_operation on_error config))
+    (set_is s good test (edits_made s n target default_operation on_error config) (λ it is. edits_are s good n target default_operation on_error config it is)) good
+good_asked s n (CopyConfig target source) decided failed good done =
+    good_candidate s (rows_of_ok (copied s n target source)) (copied_is s good n target source (copied s n target source) refl) good
+good_asked s n (Commit confirmed timeout persist persist_id) Done failed good done =
+    good_committed s good (commit_is_valid s n confirmed persist_id (checked_done (commit_refusal s n confirmed persist_id) (kept_unless failed) (done refl)).0)
+good_asked s n (Commit confirmed timeout persist persist_id) (Selected rows) failed good done = good
+good_asked s n (Commit confirmed timeout persist persist_id) (Locked lock nodes) failed good done = good
+good_asked s n (Commit confirmed timeout persist persist_id) (Refused causes) failed good done = good
+good_asked s n DiscardChanges Done failed good done = good_discarded s good
+good_asked s n DiscardChanges (Selected rows) failed good done = good
+good_asked s n DiscardChanges (Locked lock nodes) failed good done = good
+good_asked s n DiscardChanges (Refused causes) failed good done = good
+good_asked s n CloseSession Done failed good done = good_ended s n good
+good_asked s n CloseSession (Selected rows) failed good done = good
+good_asked s n CloseSession (Locked lock nodes) failed good done = good
+good_asked s n CloseSession (Refused causes) failed good done = good
+good_asked s n (Get filter) decided failed good done = good
+good_asked s n (GetConfig source filter) decided failed good done = good
+good_asked s n (DeleteConfig target) decided failed good done = good
+good_asked s n (Lock target) decided failed good done = good
+good_asked s n (Unlock target) decided failed good done = good
+good_asked s n (KillSession session) decided failed good done = good
+good_asked s n (CancelCommit persist_id) decided failed good done = good
+good_asked s n (Validate source) decided failed good done = good
+good_asked s n (PartialLock selects) decided failed good done = good
+good_asked s n (PartialUnlock lock) decided failed good done = good
+
+good_answered : (s : State) (n : ℕ) (refused : Option Cause) (asked : Result Asked Cause) (failed : Bool) → IsGood s → IsGood (answered s n asked (checked refused (verdict_on s n asked failed)))
+good_answered s n refused (Err cause) failed good = good
+good_answered s n refused (Ok asked) failed good =
+    good_asked s n asked (checked refused (asked_verdict s n asked failed)) failed good (λ done. (checked_done refused (asked_verdict s n asked failed) done).1)
+
+good_changed : (s : State) (event : Event) (failed : Bool) → IsGood s → IsGood (changed s event (outcome_of s event failed))
+good_changed s (Start peer) failed good = by (is_full s) refl
   where
-    made : (done_now : Bool) → IsGood (if done_now then done s n asked else s)
-    made true = good_done s n asked good
-    made false = good
-
-    by : (edit : Bool) → IsGood (if edit then with_edits s (rules.edited s n asked) else (if is_done verdict then done s n asked else s))
-    by true = good_edits s (rules.edited s n asked) (kept_trees rules s n asked keep good) good
-    by false = made (is_done verdict)
-
-good_changed : (rules : Rules) (s : State) (event : Event) (failed : Bool) → EditsKeepTrees rules → IsGood s → IsGood (changed rules s event (outcome_of rules s event failed))
-good_changed rules s (Start peer) failed keep good = by (is_full s) refl
-  where
-    by : (full : Bool) → is_full s ≡ full → IsGood (changed rules s (Start peer) (if full then Full (length s.sessions) s.last else Started (s.last + 1)))
+    by : (full : Bool) → is_full s ≡ full → IsGood (changed s (Start peer) (if full then Full (length s.sessions) s.last else Started (s.last + 1)))
     by true is = good
     by false is = good_started s peer is good
-good_changed rules s (Requested n request) failed keep good = by (is_live s n)
+good_changed s (Requested n request) failed good = by (is_live s n)
   where
-    by : (live : Bool) → IsGood (changed rules s (Requested n request) (if live then answer_to rules s n request failed else NotLive))
-    by true = good_answered rules s n request.asked (rules.verdict s n request failed) keep good
+    by : (live : Bool) → IsGood (changed s (Requested n request) (if live then answer_to s n request failed else NotLive))
+    by true = good_answered s n (operation_refused s n request.operation) request.asked failed good
     by false = good
-good_changed rules s (End n) failed keep good = by (is_live s n)
+good_changed s (End n) failed good = by (is_live s n)
   where
-    by : (live : Bool) → IsGood (changed rules s (End n) (if live then Ended else NotLive))
+    by : (live : Bool) → IsGood (changed s (End n) (if live then Ended else NotLive))
     by true = good_ended s n good
     by false = good
-good_changed rules s Reading failed keep good = good
+good_changed s Reading failed good = good
 
 good_now : (s : State) (at : ℕ) → IsGood s → IsGood (expired s at)
 good_now s at good = record {
   schema = good.schema;
   running = good.running;
+  valid = good.valid;
   candidate = good.candidate;
   given = good.given;
   distinct = good.distinct;
@@ -180,6 +305,7 @@ good_counted : (s : State) (faults : ℕ) → IsGood s → IsGood (record s { fa
 good_counted s faults good = record {
   schema = good.schema;
   running = good.running;
+  valid = good.valid;
   candidate = good.candidate;
   given = good.given;
   distinct = good.distinct;
@@ -187,43 +313,13 @@ good_counted s faults good = record {
   last = good.last;
 }
 
-good_next : (rules : Rules) (s : State) (e : Entry) → EditsKeepTrees rules → IsGood s → Fits rules s e → IsGood (next rules s e)
-good_next rules s e keep good fits =
-    subst (λ (outcome : Outcome). IsGood (record (changed rules (expired s e.at) e.event outcome) { faults = e.faults_after })) (sym fits.outcome)
-    (good_counted (changed rules (expired s e.at) e.event (outcome_of rules (expired s e.at) e.event (has_failed e.outcome))) e.faults_after
-    (good_changed rules (expired s e.at) e.event (has_failed e.outcome) keep (good_now s e.at good)))
-
-stays_good : (rules : Rules) (first : ℕ) (s : State) (history : List Entry) → EditsKeepTrees rules → IsGood s → IsLegal rules first s history → IsGood (after rules s history)
-stays_good rules first s [] keep good legal = good
-stays_good rules first s (e ∷ rest) keep good legal =
-    stays_good rules (first + length (e ∷ [])) (next rules s e) rest keep (good_next rules s e keep good (legal [] rest e refl).1) (rest_legal rules first s (e ∷ []) rest legal)
-
--- the edits of an edit-config do
-module _ (s : State) (good : IsGood s) where
-  in_force_is_tree : IsDataTree s.schema (candidate_in_force s)
-  in_force_is_tree = in_force (IsDataTree s.schema) s.candidate s.running good.candidate good.running
-
-  left_is_tree : (on_error : ErrorOption) (config : Elem) (rows : List Row) → rows_left s on_error (edits_of s.schema config) ≡ Some rows → IsDataTree s.schema rows
-  left_is_tree on_error config rows is = by (edits_of s.schema config) refl is
-    where
-      by : (edits : Result (List Edit) Cause) → edits_of s.schema config ≡ edits → rows_left s on_error edits ≡ Some rows → IsDataTree s.schema rows
-      by (Err cause) are is = cc
-      by (Ok edits) are is =
-          subst (IsDataTree s.schema) (same is)
-          (edits_keep_tree s.schema every_right on_error (candidate_in_force s) edits good.schema in_force_is_tree (payload_fits s.schema config edits good.schema are))
-        where
-          same : Some (applied_to s on_error edits).rows ≡ Some rows → (applied_to s on_error edits).rows ≡ rows
-          same e = cc
-
-  edited_is_tree : (asked : Asked) (rows : List Row) → edited_rows s asked ≡ Some rows → IsDataTree s.schema rows
-  edited_is_tree (EditConfig target default_operation test on_error config) rows is = by (is_merge default_operation) (is_candidate target) is
-    where
-      by : (merges candidate : Bool) → (if merges then (if candidate then rows_left s on_error (edits_of s.schema config) else None) else None) ≡ Some rows → IsDataTree s.schema rows
-      by true true is = left_is_tree on_error config rows is
-      by true false is = cc
-      by false candidate is = cc
-  edited_is_tree asked rows is = cc
+pub good_next : (s : State) (e : Entry) → IsGood s → Fits s e → IsGood (next s e)
+good_next s e good fits =
+    subst (λ (outcome : Outcome). IsGood (record (changed (expired s e.at) e.event outcome) { faults = e.faults_after })) (sym fits.outcome)
+    (good_counted (changed (expired s e.at) e.event (outcome_of (expired s e.at) e.event (has_failed e.outcome))) e.faults_after
+    (good_changed (expired s e.at) e.event (has_failed e.outcome) (good_now s e.at good)))
 
 pub good_stays : GoodStays
-good_stays reply first s history good legal =
-    stays_good (rules_with reply) first s history (λ u session asked rows is_good is. edited_is_tree u is_good asked rows is) good legal
+good_stays first s [] good legal = good
+good_stays first s (e ∷ rest) good legal =
+    good_stays (first + length (e ∷ [])) (next s e) rest (good_next s e good (legal [] rest e refl).1) (rest_legal first s (e ∷ []) rest legal)

@@ -12,7 +12,7 @@ use Rattle.nc_schema.specs.declared.node.Node.{Node}
 use Rattle.nc_schema.specs.Configuration.{IsDataTree}
 use Rattle.nc_schema.specs.Order.{keys_above, StepBefore, StepsBefore, IsBefore}
 use Rattle.nc_schema.specs.Paths.{key_count, IsPathOf}
-use Rattle.nc_schema.specs.ProperNodes.{HoldsNodes, HasProperNodes}
+use Rattle.nc_schema.proofs.ProperLemmas.{HoldsNodes, HasProperNodes}
 use Rattle.nc_schema.specs.Tables.{Tables}
 use Rattle.nc_schema.proofs.OrderLemmas.{step_irreflexive, step_transitive}
 use Rattle.nc_schema.specs.Blocks.{with_block}

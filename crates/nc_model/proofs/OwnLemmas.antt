@@ -15,7 +15,8 @@ use Rattle.nc_schema.specs.declared.node.Node.{Node}
 use Rattle.nc_schema.specs.Configuration.{LeadsTo, IsAtOrBelow, StandTogether, KeysFollow, key_rows, IsRowValue, HasItsValue, StandsForItself, IsInCase, StandsOneCase, AncestorsStand, IsSubtree}
 use Rattle.nc_schema.specs.Order.{keys_above, sibling_place, StepBefore, StepsBefore, IsBefore}
 use Rattle.nc_schema.specs.Paths.{key_count, HasAllKeys, IsStepIn, LeadDown, IsPathOf}
-use Rattle.nc_schema.specs.ProperNodes.{IsKeyIn, HasProperNodes}
+use Rattle.nc_schema.specs.Proper.{IsKeyIn}
+use Rattle.nc_schema.proofs.ProperLemmas.{HasProperNodes}
 use Rattle.nc_schema.specs.Tables.{Tables}
 use Rattle.nc_model.proofs.CaseLemmas.{one_case}
 use Rattle.nc_model.proofs.ListLemmas.{heads_same, tails_same, no_element, split, contains_behind, all_cons, pairs_cons, one_element, contains_more, all_one, all_append, some_same, contains_here, last_same}

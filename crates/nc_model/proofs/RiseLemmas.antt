@@ -13,7 +13,7 @@ use Rattle.nc_names.specs.declared.path.Row.{Row}
 use Rattle.nc_names.specs.declared.path.Step.{Step}
 use Rattle.nc_schema.specs.Configuration.{IsDataTree}
 use Rattle.nc_schema.specs.Order.{keys_above, sibling_place, StepBefore, IsBefore}
-use Rattle.nc_schema.specs.ProperNodes.{HasProperNodes}
+use Rattle.nc_schema.proofs.ProperLemmas.{HasProperNodes}
 use Rattle.nc_schema.specs.Tables.{Tables}
 use Rattle.nc_schema.proofs.OrderLemmas.{step_irreflexive, step_transitive}
 use Rattle.nc_names.specs.Same.{is_same_step}

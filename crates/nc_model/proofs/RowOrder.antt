@@ -18,6 +18,7 @@ use Rattle.nc_model.proofs.PathViews.{IsParting, IsHigher, IsLower, view, node_a
 use Rattle.nc_model.proofs.RiseLemmas.{goes_first, not_behind}
 use Rattle.nc_names.proofs.SameLemmas.{step_itself}
 use Rattle.nc_model.proofs.SiblingLemmas.{siblings}
+use Rattle.nc_schema.proofs.ProperLemmas.{proper_nodes}
 
 -- what is at or below a path is not before it
 lower_test : (tables : Tables) (rows : List Row) (place : Place) (above steps rest : List Step) → steps_before tables rows place above (steps ++ rest) steps ≡ false
@@ -45,7 +46,7 @@ rows_stand_in_order tables rows proper tree =
     by : (row later : Row) → IsPartOf (row ∷ later ∷ []) rows → IsParting row.path.steps later.path.steps ⊎ IsHigher row.path.steps later.path.steps ⊎ IsLower row.path.steps later.path.steps →
         (steps_before tables rows Kept [] row.path.steps later.path.steps ≡ true) × (steps_before tables rows Kept [] later.path.steps row.path.steps ≡ false)
     by row later part (inl p) =
-        let goes = siblings tables rows row later p.common p.x p.y p.more p.others proper tree part p.one p.other p.differ in (
+        let goes = siblings tables rows row later p.common p.x p.y p.more p.others (proper_nodes tables proper) tree part p.one p.other p.differ in (
           ap (λ ss. steps_before tables rows Kept [] ss later.path.steps) p.one
               ∙ ap (λ ss. steps_before tables rows Kept [] (p.common ++ p.x ∷ p.more) ss) p.other
               ∙ parting_test tables rows Kept [] p.common p.x p.y p.more p.others p.differ

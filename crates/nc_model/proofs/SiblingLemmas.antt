@@ -17,7 +17,7 @@ use Rattle.nc_schema.specs.declared.node.Node.{Node}
 use Rattle.nc_schema.specs.Configuration.{IsAtOrBelow, StandTogether, StandsForItself, IsDataTree}
 use Rattle.nc_schema.specs.Order.{keys_above, sibling_place, StepBefore, IsBefore}
 use Rattle.nc_schema.specs.Paths.{key_count, HasAllKeys, IsStepIn, LeadDown, IsPathOf}
-use Rattle.nc_schema.specs.ProperNodes.{HoldsNodes, HasProperNodes}
+use Rattle.nc_schema.proofs.ProperLemmas.{HoldsNodes, HasProperNodes}
 use Rattle.nc_schema.specs.Tables.{Tables}
 use Rattle.nc_schema.proofs.OrderLemmas.{same_node, step_total}
 use Rattle.nc_schema.specs.Standing.{is_by_user, stands_before, has_entry, entries}

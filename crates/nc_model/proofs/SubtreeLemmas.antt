@@ -13,7 +13,7 @@ use Rattle.nc_schema.specs.declared.node.Node.{Node}
 use Rattle.nc_schema.specs.Configuration.{LeadsTo, key_rows, IsRowValue, HasItsValue, IsDataTree, AncestorsStand, IsSubtree}
 use Rattle.nc_schema.specs.Order.{IsBefore}
 use Rattle.nc_schema.specs.Paths.{HasAllKeys, IsPathOf}
-use Rattle.nc_schema.specs.ProperNodes.{HasProperNodes}
+use Rattle.nc_schema.proofs.ProperLemmas.{HasProperNodes}
 use Rattle.nc_schema.specs.Tables.{Tables}
 use Rattle.nc_schema.specs.Blocks.{own_rows, rows_of_node}
 use Rattle.nc_schema.specs.Kinds.{has_value}

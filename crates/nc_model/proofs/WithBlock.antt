@@ -17,7 +17,8 @@ use Rattle.nc_schema.specs.declared.node.Node.{Node}
 use Rattle.nc_schema.specs.Configuration.{IsAtOrBelow, StandTogether, HasItsValue, LeadsTo, KeysFollow, StandsForItself, AncestorsStand, IsInCase, StandsOneCase, IsDataTree, IsSubtree}
 use Rattle.nc_schema.specs.Order.{keys_above, sibling_place, StepBefore, StepsBefore, IsBefore}
 use Rattle.nc_schema.specs.Paths.{IsPathOf}
-use Rattle.nc_schema.specs.ProperNodes.{HoldsNodes, IsKeyIn, HasProperNodes}
+use Rattle.nc_schema.proofs.ProperLemmas.{HoldsNodes, HasProperNodes}
+use Rattle.nc_schema.specs.Proper.{IsKeyIn}
 use Rattle.nc_schema.specs.Tables.{Tables}
 use Rattle.nc_schema.proofs.OrderLemmas.{order_is_strict, step_irreflexive, step_transitive}
 use Rattle.nc_schema.specs.Blocks.{with_block}

@@ -1,8 +1,7 @@
 -- One edit of a configuration: what it leaves, or why it is refused (RFC 6241 7.2; RFC 7950 7.5.8,
 -- 7.6.6, 7.7.9 and 7.8.6; RFC 8341 3.4.5).
-use Rattle.std.specs.Prelude.{◌&&◌, ◌||◌, ℕ, Bool, true, false, not, if◌then◌else◌, List, [], ◌∷◌, ◌++◌, map, Option, Some, None, Result, Ok, Err}
-use Rattle.std.specs.Cmp.Lexicographic.{pointwise}
-use Rattle.std.specs.List.{filter, filter_map, find, list_any, last_or, reduce}
+use Rattle.std.specs.Prelude.{◌&&◌, ℕ, Bool, true, false, not, if◌then◌else◌, List, [], ◌∷◌, ◌++◌, map, Option, Some, None, Result, Ok, Err}
+use Rattle.std.specs.List.{filter, filter_map, list_any, reduce}
 use Rattle.std.specs.Option.{option_map_or}
 use Rattle.nc_names.specs.declared.cause.CauseKind.{CauseKind}
 use Rattle.nc_names.specs.declared.cause.CauseKind.TheVariants.{Exists, Absent, MissingInstance, DataDenied}
@@ -12,11 +11,7 @@ use Rattle.nc_names.specs.declared.path.Place.TheVariants.{Kept, Before, After}
 use Rattle.nc_names.specs.declared.path.Right.{Right}
 use Rattle.nc_names.specs.declared.path.Right.TheVariants.{Read, Create as MayCreate, Update as MayUpdate, Delete as MayDelete, Exec}
 use Rattle.nc_names.specs.declared.path.Row.{Row}
-use Rattle.nc_names.specs.declared.path.Step.{Step}
-use Rattle.nc_schema.specs.declared.node.Kind.{Kind}
-use Rattle.nc_schema.specs.declared.node.Kind.TheVariants.{Container, Leaf, LeafList, List as ListKind}
 use Rattle.nc_schema.specs.declared.node.Node.{Node}
-use Rattle.nc_schema.specs.Configuration.{key_rows}
 use Rattle.nc_schema.specs.Tables.{Tables}
 use Rattle.nc_model.specs.declared.access.By.{By}
 use Rattle.nc_model.specs.declared.access.By.TheVariants.{Rule, DenyAll, DenyWrite, OperationDefault}
@@ -25,17 +20,18 @@ use Rattle.nc_model.specs.declared.edit.Action.{Action}
 use Rattle.nc_model.specs.declared.edit.Action.TheVariants.{Nothing, Merge, Create, Replace, Delete, Remove}
 use Rattle.nc_model.specs.declared.edit.Edit.{Edit}
 use Rattle.nc_model.specs.declared.request.Cause.{Cause}
-use Rattle.nc_names.specs.Same.{is_same_keys, is_same_value, is_same_path, is_at_or_below}
-use Rattle.nc_schema.specs.Standing.{node_of, has_row, block_at, exists, lacks_above, entries, has_entry, placed, is_by_user, steps_before, excludes}
+use Rattle.nc_schema.specs.Standing.{node_of, block_at, exists, lacks_above, has_entry, steps_before, excludes}
+use Rattle.nc_model.specs.Changes.{is_missing, is_updated}
 use Rattle.nc_model.specs.Words.{key_word, value_word, rule_word, default_word, read_word, write_word, exec_word, operation_word, deny_all_word, deny_write_word}
-use Rattle.nc_schema.specs.Blocks.{at_node, entries_beside, row_at, rows_of_node, with_block}
+use Rattle.nc_schema.specs.Blocks.{at_node, entries_beside, rows_of_node, with_block}
 use Rattle.nc_schema.specs.Kinds.{has_value, is_plain_container}
 
 -- the rows at and below the node once the edit is made
 abbrev pub new_block : Tables → List Row → Path → Action → List Row
 new_block tables rows path Nothing = block_at rows path.steps
 new_block tables rows path (Merge value) =
-    if exists rows path.steps && not (at_node tables path has_value) then block_at rows path.steps else rows_of_node tables path value
+    if exists rows path.steps && not (at_node tables path has_value) then block_at rows path.steps
+    else rows_of_node tables path value
 new_block tables rows path (Create new) = new
 new_block tables rows path (Replace new) = new
 new_block tables rows path Delete = []
@@ -53,42 +49,41 @@ abbrev pub left_by : Tables → List Row → Edit → List Row
 left_by tables rows edit =
     with_block tables rows edit.path (place_by edit.action edit.place) (new_block tables rows edit.path edit.action)
 
--- an entry ordered by the user that exists gets another place
-abbrev pub moves : Tables → List Row → List Step → Place → Bool
-moves tables rows steps place =
-    option_map_or (λ step. is_by_user tables step.node && has_entry step.keys (entries_beside rows steps)
-    && not (pointwise is_same_keys (placed place step.keys (entries_beside rows steps)) (entries_beside rows steps))) (last_or None steps) false
-
 -- what an edit changes at one path (RFC 8341 3.2.2, 3.4.5)
 pub record Change : Type 0 where
   pub path : Path
   pub right : Right
 
-abbrev pub update_where : Bool → Path → Option Change
-update_where true path = Some (record { path = path; right = MayUpdate })
-update_where false path = None
+-- what becomes of a row that stands afterwards: it is new, or its value or its place has changed
+abbrev pub change_at : Tables → List Row → List Row → Row → Option Change
+change_at tables old new row =
+    if is_missing old row then Some (record { path = row.path; right = MayCreate })
+    else (if is_updated tables old new row then Some (record { path = row.path; right = MayUpdate }) else None)
 
--- what becomes of a row: it is created, or its value or its place changes
-abbrev pub change_from : Option Row → Bool → Row → Option Change
-change_from None moved row = Some (record { path = row.path; right = MayCreate })
-change_from (Some old) moved row = update_where (moved || not (is_same_value old.value row.value)) row.path
+-- rows of other cases of their choices take a row's place (RFC 7950 7.9)
+abbrev pub gives_way : Tables → List Row → Row → Bool
+gives_way tables rows row = list_any (λ other. excludes tables other.path.steps row.path.steps) rows
 
--- what an edit deletes, without the rows of other cases, and then what it creates and updates
+-- what an edit changes at and below its node: what it deletes, and then what it creates and updates. What gives way
+-- to another case is not deleted by the user
 abbrev pub changes_by : Tables → List Row → Edit → List Change
 changes_by tables rows edit =
     let block = new_block tables rows edit.path edit.action in
-    map (λ row. record { path = row.path; right = MayDelete }) (filter (λ row. not (has_row block row.path.steps)) (block_at rows edit.path.steps))
-    ++ filter_map (λ row. change_from (row_at rows row.path.steps)
-    (is_same_path row.path.steps edit.path.steps && moves tables rows edit.path.steps (place_by edit.action edit.place)) row) block
+    map (λ row. record { path = row.path; right = MayDelete })
+    (filter (λ row. is_missing block row && not (gives_way tables block row)) (block_at rows edit.path.steps))
+    ++ filter_map (change_at tables rows (left_by tables rows edit)) block
 
--- the earlier of two changes in document order
+-- the earlier of two changes in document order. Entries that the user orders come as they stand before the edit, and
+-- new ones after them
 abbrev pub earlier : Tables → List Row → Change → Change → Change
-earlier tables rows change other = if steps_before tables rows Kept [] other.path.steps change.path.steps then other else change
+earlier tables rows change other =
+    if steps_before tables rows Kept [] other.path.steps change.path.steps then other else change
 
 -- the first change in document order that is denied
 abbrev pub first_denied : Tables → (Path → Right → Decision) → List Row → Edit → Option Change
 first_denied tables rights rows edit =
-    reduce (earlier tables rows) (filter (λ change. not (rights change.path change.right).permit) (changes_by tables rows edit))
+    reduce (earlier tables rows)
+    (filter (λ change. not (rights change.path change.right).permit) (changes_by tables rows edit))
 
 -- the default that denied (RFC 8341 3.4.5, steps 9 to 12)
 abbrev pub default_name : Right → List ℕ
@@ -124,10 +119,12 @@ anchor_word node = if has_value node.kind then value_word else key_word
 
 abbrev pub lacks_anchor : List Row → Edit → Bool
 lacks_anchor rows edit =
-    option_map_or (λ anchor. not (has_entry anchor (entries_beside rows edit.path.steps))) (anchor_of (place_by edit.action edit.place)) false
+    option_map_or (λ anchor. not (has_entry anchor (entries_beside rows edit.path.steps)))
+    (anchor_of (place_by edit.action edit.place)) false
 
 abbrev pub anchor_names : Tables → Path → List (List ℕ)
-anchor_names tables path = option_map_or (λ node. anchor_word node ∷ node.name.name ∷ []) (node_of tables path.steps) []
+anchor_names tables path =
+    option_map_or (λ node. anchor_word node ∷ node.name.name ∷ []) (node_of tables path.steps) []
 
 -- the first of several causes
 abbrev pub first_cause : List (Option Cause) → Option Cause
@@ -142,14 +139,16 @@ cause_where false cause = None
 -- the node is there; a container without presence is where its parent is
 abbrev pub is_there : Tables → List Row → Path → Bool
 is_there tables rows path =
-    if at_node tables path is_plain_container then not (lacks_above tables rows path.steps) else exists rows path.steps
+    if at_node tables path is_plain_container then not (lacks_above tables rows path.steps)
+    else exists rows path.steps
 
 -- the node is there though it is created, or is not though it has to be (RFC 6241 7.2)
 abbrev pub missed : Tables → List Row → Path → Action → Option Cause
 missed tables rows path Nothing = cause_where (not (is_there tables rows path)) (cause_at Absent path [])
 missed tables rows path (Merge value) = cause_where (lacks_above tables rows path.steps) (cause_at Absent path [])
 missed tables rows path (Create new) =
-    first_cause (cause_where (exists rows path.steps) (cause_at Exists path []) ∷ cause_where (lacks_above tables rows path.steps) (cause_at Absent path []) ∷ [])
+    first_cause (cause_where (exists rows path.steps) (cause_at Exists path [])
+    ∷ cause_where (lacks_above tables rows path.steps) (cause_at Absent path []) ∷ [])
 missed tables rows path (Replace new) = cause_where (lacks_above tables rows path.steps) (cause_at Absent path [])
 missed tables rows path Delete = cause_where (not (exists rows path.steps)) (cause_at Absent path [])
 missed tables rows path Remove = None

@@ -1,9 +1,8 @@
 -- What follows from the definitions.
-use Rattle.std.specs.Prelude.{◌≡◌, ◌↔◌, ◌+◌, ℕ, Bool, true, false, IsTrue, List, [], ◌∷◌, ◌++◌, length, Option, Ok}
-use Rattle.std.specs.List.{All, AllPairs, Contains}
+use Rattle.std.specs.Prelude.{◌⊎◌, ◌≡◌, ◌↔◌, ◌+◌, ℕ, Bool, true, false, List, [], ◌∷◌, ◌++◌, length, Ok, Result, map}
+use Rattle.std.specs.List.{All, AllPairs, Contains, filter, list_any}
 use Rattle.nc_message.specs.declared.tree.Elem.{Elem}
 use Rattle.nc_message.specs.declared.tree.Part.TheVariants.{Child}
-use Rattle.nc_message.specs.declared.tree.Tree.{Tree}
 use Rattle.nc_names.specs.declared.path.Path.{Path}
 use Rattle.nc_names.specs.declared.path.Place.{Place}
 use Rattle.nc_names.specs.declared.path.Place.TheVariants.{Kept}
@@ -13,43 +12,56 @@ use Rattle.nc_names.specs.declared.path.Step.{Step}
 use Rattle.nc_schema.specs.Configuration.{IsAtOrBelow, IsDataTree, IsConfiguration}
 use Rattle.nc_schema.specs.Laws.{IsSystemOrderedPath}
 use Rattle.nc_schema.specs.Order.{IsBefore}
-use Rattle.nc_schema.specs.ProperNodes.{HasProperNodes}
 use Rattle.nc_schema.specs.Tables.{Tables}
 use Rattle.nc_model.specs.declared.access.Decision.{Decision}
+use Rattle.nc_model.specs.declared.asked.Default3.{Default3}
 use Rattle.nc_model.specs.declared.asked.ErrorOption.{ErrorOption}
 use Rattle.nc_model.specs.declared.edit.Edit.{Edit}
 use Rattle.nc_model.specs.declared.entry.Entry.{Entry}
-use Rattle.nc_model.specs.declared.request.Request.{Request}
-use Rattle.nc_model.specs.declared.verdict.Verdict.{Verdict}
+use Rattle.nc_model.specs.declared.position.Position.{Position}
 use Rattle.nc_model.specs.Applied.{applied}
 use Rattle.nc_model.specs.Edited.{edited, new_block}
-use Rattle.nc_model.specs.Payload.{part_edits, elem_edits, edits_of}
-use Rattle.nc_model.specs.ProperEdit.{IsProperEdit, BringsCanonical}
+use Rattle.nc_model.specs.Elements.{Reading}
+use Rattle.nc_model.specs.Filter.{is_containment, is_content_match, is_of_node, level_of, selected}
+use Rattle.nc_model.specs.Payload.{part_edits, elem_edits, edits_of, rows_of}
+use Rattle.nc_model.specs.ProperEdit.{IsProperEdit, BringsCanonical, IsReadEdit}
 use Rattle.nc_names.specs.Same.{is_at_or_below}
 use Rattle.nc_schema.specs.Standing.{block_at, steps_before, excludes}
 use Rattle.nc_model.specs.State.{State, IsGood, opening}
-use Rattle.nc_model.specs.Step.{Rules, Fits}
-use Rattle.nc_model.specs.Verdict.{rules_with}
+use Rattle.nc_model.specs.Step.{Fits, has_failed, is_commit, is_done, next}
 use Rattle.nc_model.specs.History.{after, IsLegal, IsMineIn}
+use Rattle.nc_model.specs.declared.asked.Asked.{Asked}
+use Rattle.nc_model.specs.declared.asked.Asked.TheVariants.{CloseSession}
+use Rattle.nc_model.specs.declared.asked.Default3.{Default3}
+use Rattle.nc_model.specs.declared.event.Event.{Event}
+use Rattle.nc_model.specs.declared.event.Event.TheVariants.{Start, Request as Requested, End}
+use Rattle.nc_model.specs.declared.event.Outcome.{Outcome}
+use Rattle.nc_model.specs.declared.event.Outcome.TheVariants.{Answered, Ended, NotLive, Started}
+use Rattle.nc_model.specs.declared.peer.Peer.{Peer}
+use Rattle.nc_model.specs.declared.request.Cause.{Cause}
+use Rattle.nc_model.specs.declared.verdict.Verdict.TheVariants.{Done}
+use Rattle.nc_names.specs.Counts.{Rose}
+use Rattle.nc_schema.specs.Proper.{IsProperSchema}
+use Rattle.nc_schema.specs.Violations.{IsValid}
 
 -- the state after a history is that after its rest, from the state after its front
 abbrev pub HistoriesJoin : Type 0
 HistoriesJoin =
-    (rules : Rules) (s : State) (front rest : List Entry) →
-    after rules s (front ++ rest) ≡ after rules (after rules s front) rest
+    (s : State) (front rest : List Entry) →
+    after s (front ++ rest) ≡ after (after s front) rest
 
 -- a history is legal exactly where its front is, and its rest is from there on
 abbrev pub LegalHistoriesJoin : Type 0
 LegalHistoriesJoin =
-    (rules : Rules) (first : ℕ) (s : State) (front rest : List Entry) →
-    IsLegal rules first s (front ++ rest)
-    ↔ (IsLegal rules first s front × IsLegal rules (first + length front) (after rules s front) rest)
+    (first : ℕ) (s : State) (front rest : List Entry) →
+    IsLegal first s (front ++ rest)
+    ↔ (IsLegal first s front × IsLegal (first + length front) (after s front) rest)
 
 -- one entry is a legal history exactly where it has the first number and fits
 abbrev pub OneEntryIsLegal : Type 0
 OneEntryIsLegal =
-    (rules : Rules) (first : ℕ) (s : State) (e : Entry) →
-    IsLegal rules first s (e ∷ []) ↔ ((e.number ≡ first) × Fits rules s e)
+    (first : ℕ) (s : State) (e : Entry) →
+    IsLegal first s (e ∷ []) ↔ ((e.number ≡ first) × Fits s e)
 
 -- entries of a history are entries of every longer one
 abbrev pub MineStays : Type 0
@@ -58,66 +70,129 @@ MineStays = (mine history more : List Entry) → IsMineIn mine history → IsMin
 -- the last entry of a longer legal history may be added to them
 abbrev pub MineGrows : Type 0
 MineGrows =
-    (rules : Rules) (first : ℕ) (s : State) (mine history more : List Entry) (e : Entry) →
-    IsLegal rules first s (history ++ (more ++ e ∷ [])) → IsMineIn mine history →
+    (first : ℕ) (s : State) (mine history more : List Entry) (e : Entry) →
+    IsLegal first s (history ++ (more ++ e ∷ [])) → IsMineIn mine history →
     IsMineIn (mine ++ e ∷ []) (history ++ (more ++ e ∷ []))
 
 -- an edit that fits the schema leaves a data tree, where it is made in one
 abbrev pub EditKeepsTree : Type 0
 EditKeepsTree =
     (tables : Tables) (rights : Path → Right → Decision) (rows left : List Row) (edit : Edit) →
-    HasProperNodes tables → IsDataTree tables rows → IsProperEdit tables edit → edited tables rights rows edit ≡ Ok left → IsDataTree tables left
-
--- what a test says of a data node's number and a text
-abbrev pub Passes : (ℕ → List ℕ → Bool) → ℕ → List ℕ → Type 0
-Passes test number text = IsTrue (test number text)
+    IsProperSchema tables → IsDataTree tables rows → IsProperEdit tables edit →
+    edited tables rights rows edit ≡ Ok left → IsDataTree tables left
 
 -- and a configuration, where it brings canonical values to one
 abbrev pub EditKeepsConfiguration : Type 0
 EditKeepsConfiguration =
-    (is_canonical : ℕ → List ℕ → Bool) (tables : Tables) (rights : Path → Right → Decision) (rows left : List Row) (edit : Edit) →
-    HasProperNodes tables → IsConfiguration (Passes is_canonical) tables rows →
-    IsProperEdit tables edit → BringsCanonical (Passes is_canonical) tables edit →
-    edited tables rights rows edit ≡ Ok left → IsConfiguration (Passes is_canonical) tables left
+    (tables : Tables) (rights : Path → Right → Decision) (rows left : List Row) (edit : Edit) →
+    IsProperSchema tables → IsConfiguration tables rows → IsProperEdit tables edit → BringsCanonical tables edit →
+    edited tables rights rows edit ≡ Ok left → IsConfiguration tables left
 
 -- at and below its node an edit that fits the schema leaves the rows that its action gives; of the others it
 -- leaves those that are there, but for the rows of other cases (RFC 7950 7.9)
 pub record EditLeaves : Type 0 where
   pub node :
       (tables : Tables) (rights : Path → Right → Decision) (rows left : List Row) (edit : Edit) →
-      IsProperEdit tables edit → edited tables rights rows edit ≡ Ok left → block_at left edit.path.steps ≡ new_block tables rows edit.path edit.action
+      IsProperEdit tables edit → edited tables rights rows edit ≡ Ok left →
+      block_at left edit.path.steps ≡ new_block tables rows edit.path edit.action
   pub others :
       (tables : Tables) (rights : Path → Right → Decision) (rows left : List Row) (edit : Edit) (row : Row) →
       IsProperEdit tables edit → edited tables rights rows edit ≡ Ok left → ¬ IsAtOrBelow edit.path.steps row.path →
-      Contains left row ↔ (Contains rows row × All (λ added. excludes tables added.path.steps row.path.steps ≡ false) (new_block tables rows edit.path edit.action))
+      Contains left row ↔
+      (Contains rows row × All (λ added. excludes tables added.path.steps row.path.steps ≡ false)
+      (new_block tables rows edit.path edit.action))
 
 -- several edits leave a data tree too, under every error-option
 abbrev pub EditsKeepTree : Type 0
 EditsKeepTree =
-    (tables : Tables) (rights : Path → Right → Decision) (on_error : ErrorOption) (rows : List Row) (edits : List Edit) →
-    HasProperNodes tables → IsDataTree tables rows → All (IsProperEdit tables) edits → IsDataTree tables (applied tables rights on_error rows edits).rows
+    (tables : Tables) (rights : Path → Right → Decision) (on_error : ErrorOption) (rows : List Row)
+    (edits : List Edit) →
+    IsProperSchema tables → IsDataTree tables rows → All (IsProperEdit tables) edits →
+    IsDataTree tables (applied tables rights on_error rows edits).rows
 
--- the edits of a payload fit the schema
+-- the edits of a payload fit the schema, and bring canonical values
 abbrev pub PayloadFits : Type 0
 PayloadFits =
-    (tables : Tables) (config : Elem) (edits : List Edit) → HasProperNodes tables → edits_of tables config ≡ Ok edits → All (IsProperEdit tables) edits
+    (tables : Tables) (default_operation : Default3) (config : Elem) (edits : List Edit) →
+    IsProperSchema tables → edits_of tables default_operation config ≡ Ok edits → All (IsReadEdit tables) edits
 
--- a data tree makes a good opening state
+-- so a configuration stays one under them
+abbrev pub PayloadKeepsConfiguration : Type 0
+PayloadKeepsConfiguration =
+    (tables : Tables) (rights : Path → Right → Decision) (on_error : ErrorOption) (default_operation : Default3)
+    (config : Elem) (rows : List Row) (edits : List Edit) →
+    IsProperSchema tables → IsConfiguration tables rows →
+    edits_of tables default_operation config ≡ Ok edits →
+    IsConfiguration tables (applied tables rights on_error rows edits).rows
+
+-- the rows of an inline configuration are one
+abbrev pub InlineIsConfiguration : Type 0
+InlineIsConfiguration =
+    (tables : Tables) (config : Elem) (rows : List Row) →
+    IsProperSchema tables → rows_of tables config ≡ Ok rows → IsConfiguration tables rows
+
+-- a valid configuration makes a good opening state
 abbrev pub OpeningIsGood : Type 0
 OpeningIsGood =
-    (schema : Tables) (running : List Row) (faults : ℕ) → HasProperNodes schema → IsDataTree schema running → IsGood (opening schema running faults)
+    (schema : Tables) (running : List Row) (faults : ℕ) →
+    IsProperSchema schema → IsConfiguration schema running → IsValid schema running → IsGood (opening schema running faults)
 
--- a good state stays good over every legal history
+-- a good state stays good over every legal history: running is valid throughout
 abbrev pub GoodStays : Type 0
-GoodStays =
-    (reply : Tables → Request → Verdict → Tree) (first : ℕ) (s : State) (history : List Entry) →
-    IsGood s → IsLegal (rules_with reply) first s history → IsGood (after (rules_with reply) s history)
+GoodStays = (first : ℕ) (s : State) (history : List Entry) → IsGood s → IsLegal first s history → IsGood (after s history)
+
+-- what makes an entry, its place aside: its event, the reading of the clock, and what the disk did
+abbrev pub made_from : Entry → Event × ℕ × Bool × ℕ
+made_from e = (e.event, e.at, has_failed e.outcome, e.faults_after)
+
+-- a legal history is determined by its opening, and by the events, the readings of the clock and what the disk did
+abbrev pub HistoryIsDetermined : Type 0
+HistoryIsDetermined =
+    (first : ℕ) (opening : State) (history other : List Entry) →
+    IsLegal first opening history → IsLegal first opening other → map made_from history ≡ map made_from other → history ≡ other
+
+-- a disk fault is answered only where the count of the disk's faults rose
+abbrev pub DiskFaultHasCause : Type 0
+DiskFaultHasCause = (s : State) (e : Entry) → Fits s e → has_failed e.outcome ≡ true → Rose e.faults_before e.faults_after
+
+-- the entry is a commit that is done
+abbrev pub IsCommitDone : Event → Outcome → Type 0
+IsCommitDone (Requested session request) (Answered verdict reply) = (is_commit request.asked ≡ true) × (verdict ≡ Done)
+IsCommitDone event outcome = ⊥
+
+-- running changes by a commit alone
+abbrev pub CommitAloneChangesRunning : Type 0
+CommitAloneChangesRunning = (s : State) (e : Entry) → ((next s e).running ≡ s.running) ⊎ IsCommitDone e.event e.outcome
+
+-- the event is of this session
+abbrev pub IsOf : ℕ → Event → Type 0
+IsOf session (Requested own request) = own ≡ session
+IsOf session (End own) = own ≡ session
+IsOf session event = ⊥
+
+abbrev pub asks_close : Result Asked Cause → Bool
+asks_close (Ok CloseSession) = true
+asks_close asked = false
+
+-- an entry that ends this session: its End, or its close-session that is done (RFC 6241 7.8)
+abbrev pub EndsSession : ℕ → Event → Outcome → Type 0
+EndsSession session (End own) Ended = own ≡ session
+EndsSession session (Requested own request) (Answered verdict reply) = (own ≡ session) × (asks_close request.asked ≡ true) × (is_done verdict ≡ true)
+EndsSession session event outcome = ⊥
+
+-- a session that was started, and is found not to be live by a later entry of it, was ended by one between them
+abbrev pub IsEndedBetween : Type 0
+IsEndedBetween =
+    (first : ℕ) (opening : State) (front between : List Entry) (start last : Entry) (peer : Peer) (session : ℕ) →
+    IsLegal first opening (front ++ start ∷ (between ++ last ∷ [])) →
+    start.event ≡ Start peer → start.outcome ≡ Started session → IsOf session last.event → last.outcome ≡ NotLive →
+    (ender : Entry) × Contains between ender × EndsSession session ender.event ender.outcome
 
 -- the edits of a child are those of the element
 abbrev pub ChildIsElement : Type 0
 ChildIsElement =
-    (tables : Tables) (above : List Step) (parent : Option ℕ) (earlier : List ℕ) (e : Elem) →
-    part_edits tables above parent earlier (Child e) ≡ elem_edits tables above parent earlier e
+    (reading : Reading) (at : Position) (earlier : List Step) (e : Elem) →
+    part_edits reading at earlier (Child e) ≡ elem_edits reading at earlier e
 
 -- the test for a node at or below another is what it says
 abbrev pub BelowIsBelow : Type 0
@@ -133,6 +208,32 @@ PlacesAreInOrder =
 -- the user's where the user orders entries
 abbrev pub RowsStandInOrder : Type 0
 RowsStandInOrder =
-    (tables : Tables) (rows : List Row) → HasProperNodes tables → IsDataTree tables rows →
+    (tables : Tables) (rows : List Row) → IsProperSchema tables → IsDataTree tables rows →
     AllPairs (λ row later.
-    (steps_before tables rows Kept [] row.path.steps later.path.steps ≡ true) × (steps_before tables rows Kept [] later.path.steps row.path.steps ≡ false)) rows
+    (steps_before tables rows Kept [] row.path.steps later.path.steps ≡ true) ×
+    (steps_before tables rows Kept [] later.path.steps row.path.steps ≡ false)) rows
+
+-- what a filter keeps of a data tree is a data tree: keys stand with their entries, and entries with what is in them
+abbrev pub SelectedIsDataTree : Type 0
+SelectedIsDataTree =
+    (tables : Tables) (elem : Elem) (rows : List Row) → IsProperSchema tables → IsDataTree tables rows →
+    IsDataTree tables (selected tables elem rows)
+
+-- the rows that a filter keeps are rows of the configuration, in their order
+abbrev pub SelectedStandsInRows : Type 0
+SelectedStandsInRows =
+    (tables : Tables) (elem : Elem) (rows : List Row) → (keeps : Row → Bool) × (selected tables elem rows ≡ filter keeps rows)
+
+-- a filter without an element selects nothing (RFC 6241 6.4.2)
+abbrev pub EmptyFilterSelectsNothing : Type 0
+EmptyFilterSelectsNothing =
+    (tables : Tables) (elem : Elem) (rows : List Row) → level_of elem ≡ [] → selected tables elem rows ≡ []
+
+-- a selection node at the top, with no content match beside it, selects all rows at and below the nodes of its name
+-- (RFC 6241 6.2.4)
+abbrev pub SelectionNodeSelectsSubtree : Type 0
+SelectionNodeSelectsSubtree =
+    (tables : Tables) (elem one : Elem) (rows : List Row) (row : Row) (step : Step) (rest : List Step) →
+    Contains (level_of elem) one → list_any is_content_match (level_of elem) ≡ false →
+    is_content_match one ≡ false → is_containment one ≡ false → is_of_node tables one step ≡ true →
+    Contains rows row → row.path.steps ≡ step ∷ rest → Contains (selected tables elem rows) row

@@ -1,160 +1,82 @@
--- The edits of an edit-config's payload whose elements have no attributes: each is merged (RFC 6241
--- 7.2). Faults are found in document order, an element's own before its attributes, keys and children.
-use Rattle.std.specs.Prelude.{◌==◌, ◌&&◌, ◌||◌, ℕ, Bool, true, false, not, if◌then◌else◌, List, [], ◌∷◌, ◌++◌, Option, Some, None, Result, Ok, Err, option_and_then, option_map, option_to_list, slice_get}
-use Rattle.std.specs.List.{find, flat_map, list_any, position}
+-- The edits of an edit-config's payload, the rows of an inline configuration, and the paths that either names (RFC
+-- 6241 7.2, 7.3). Faults are found in document order, an element's own before those of its children.
+use Rattle.std.specs.Prelude.{ℕ, Bool, false, if◌then◌else◌, List, [], ◌∷◌, ◌++◌, ◌||◌, fold, Option, Some, None, Result, Ok, Err, option_and_then}
+use Rattle.std.specs.List.{flat_map, list_any}
 use Rattle.std.specs.Option.{option_map_or}
-use Rattle.nc_names.specs.declared.cause.CauseKind.{CauseKind}
-use Rattle.nc_names.specs.declared.cause.CauseKind.TheVariants.{UnknownElement, UnknownNamespace, UnknownAttribute, MissingKey, BadElement}
-use Rattle.nc_names.specs.declared.name.QName.{QName}
+use Rattle.nc_names.specs.Same.{is_at_or_below, is_same_path}
+use Rattle.nc_names.specs.declared.cause.CauseKind.TheVariants.{BadElement}
+use Rattle.nc_names.specs.declared.name.Bound.{Bound}
 use Rattle.nc_names.specs.declared.path.Path.{Path}
+use Rattle.nc_names.specs.declared.path.Place.{Place}
 use Rattle.nc_names.specs.declared.path.Place.TheVariants.{Kept}
+use Rattle.nc_names.specs.declared.path.Row.{Row}
 use Rattle.nc_names.specs.declared.path.Step.{Step}
-use Rattle.nc_names.specs.Signs.{is_white}
-use Rattle.nc_message.specs.declared.tree.Attr.{Attr}
 use Rattle.nc_message.specs.declared.tree.Elem.{Elem}
 use Rattle.nc_message.specs.declared.tree.Part.{Part, Child', Chars, Row_of-Part, end_of-Part, more_of-Part}
 use Rattle.nc_message.specs.declared.tree.Part.TheBlock.{Row_of-Elem, end_of-Elem, more_of-Elem, items-the_row-Part}
-use Rattle.nc_names.specs.Same.{is_same_name, is_same_text}
-use Rattle.nc_schema.specs.declared.node.Kind.{Kind}
-use Rattle.nc_schema.specs.declared.node.Kind.TheVariants.{Container, Leaf, LeafList, List as ListKind}
-use Rattle.nc_schema.specs.declared.node.Node.{Node}
+use Rattle.nc_schema.specs.InstancePaths.{entry_keys, key_nodes}
+use Rattle.nc_schema.specs.Kinds.{has_value}
 use Rattle.nc_schema.specs.Tables.{Tables}
-use Rattle.nc_model.specs.declared.edit.Action.TheVariants.{Merge}
+use Rattle.nc_schema.specs.Values.{canonical, canonical_keys}
+use Rattle.nc_model.specs.Attributes.{cause_in, operation_of, place_of}
+use Rattle.nc_model.specs.Edited.{left_by}
+use Rattle.nc_model.specs.Elements.{Reading, Named, has_text, named, keys_read, value_in, steps_to, with_step}
+use Rattle.nc_model.specs.Faults.{inside, unknown_or}
+use Rattle.nc_model.specs.declared.asked.Asked.{Asked}
+use Rattle.nc_model.specs.declared.asked.Asked.TheVariants.{EditConfig, CopyConfig, Validate}
+use Rattle.nc_model.specs.declared.asked.Default3.{Default3}
+use Rattle.nc_model.specs.declared.asked.Default3.TheVariants.{Merge as MergeByDefault, Replace as ReplaceByDefault, Nothing as NothingByDefault}
+use Rattle.nc_model.specs.declared.datastore.Origin.TheVariants.{Inline as InlineConfig}
+use Rattle.nc_model.specs.declared.edit.Action.{Action}
+use Rattle.nc_model.specs.declared.edit.Action.TheVariants.{Nothing as Look, Merge as Set, Create as Add, Replace as Put, Delete as Drop, Remove as Clear}
 use Rattle.nc_model.specs.declared.edit.Edit.{Edit}
+use Rattle.nc_model.specs.declared.position.EditOperation.{EditOperation}
+use Rattle.nc_model.specs.declared.position.EditOperation.TheVariants.{Merge, Replace, Create, Delete, Remove, Nothing}
+use Rattle.nc_model.specs.declared.position.Position.{Position}
+use Rattle.nc_model.specs.declared.position.Under.{Under}
+use Rattle.nc_model.specs.declared.position.Under.TheVariants.{Edited, Rows, Inline}
 use Rattle.nc_model.specs.declared.request.Cause.{Cause}
-use Rattle.nc_schema.specs.Kinds.{has_value, is_leaf}
-use Rattle.nc_schema.specs.Standing.{cases_of, cases_differ}
-use Rattle.nc_schema.specs.Children.{child_number, is_same_number}
 
-abbrev pub text_of : Part → List ℕ
-text_of (Chars text) = text
-text_of (Child' _ child) = []
+-- the merge of an element's node
+abbrev pub merge_of : Reading → Position → Named → Edit
+merge_of reading at named = record {
+  path = record { steps = steps_to reading at named };
+  action = Set (if has_value named.node.kind then value_in reading named else None);
+  place = Kept;
+}
 
--- the text of an element without child elements
-abbrev pub whole_text : List Part → List ℕ
-whole_text parts = flat_map text_of parts
+-- the rows of a subtree: what its elements leave that are merged, one after another, into nothing
+abbrev pub rows_merged : Tables → List Edit → List Row
+rows_merged tables merges = fold (left_by tables) [] merges
 
-abbrev pub is_child : Part → Bool
-is_child (Chars text) = false
-is_child (Child' _ child) = true
+-- an element's action by its operation, with the merges of it and of what is in it
+abbrev pub action_by : Tables → EditOperation → Action → List Edit → Action
+action_by tables Merge merge merges = merge
+action_by tables Nothing merge merges = Look
+action_by tables Create merge merges = Add (rows_merged tables merges)
+action_by tables Replace merge merges = Put (rows_merged tables merges)
+action_by tables Delete merge merges = Drop
+action_by tables Remove merge merges = Clear
 
-abbrev pub has_child : List Part → Bool
-has_child parts = list_any is_child parts
+-- the edits below stay where each element gives its own; below others there are none, or they are rows
+abbrev pub stays_by : EditOperation → List Edit → List Edit
+stays_by Merge below = below
+stays_by Nothing below = below
+stays_by operation below = []
 
--- there is text that is not white space
-abbrev pub has_text : List Part → Bool
-has_text parts = list_any (λ part. list_any (λ sign. not (is_white sign)) (text_of part)) parts
+-- the edits of an element, with those of what is in it: among rows they are merges
+abbrev pub made : Tables → Under → EditOperation → Edit → Place → List Edit → List Edit
+made tables (Edited above) operation merge place below =
+    record { path = merge.path; action = action_by tables operation merge.action (merge ∷ below); place = place } ∷
+    stays_by operation below
+made tables (Rows above) operation merge place below = merge ∷ below
+made tables Inline operation merge place below = merge ∷ below
+made tables under operation merge place below = []
 
--- the name of an element, and what is in it
-abbrev pub name_in : {n : _} → Row_of-Elem n → Option QName
-name_in end_of-Elem = None
-name_in (more_of-Elem name bounds attrs shape parts none) = Some name
-
-abbrev pub parts_in : {n : _} → Row_of-Elem n → List Part
-parts_in end_of-Elem = []
-parts_in (more_of-Elem name bounds attrs shape parts none) = items-the_row-Part _ parts
-
-abbrev pub child_name : Part → Option QName
-child_name (Chars text) = None
-child_name (Child' _ child) = name_in child
-
-abbrev pub child_parts : Part → List Part
-child_parts (Chars text) = []
-child_parts (Child' _ child) = parts_in child
-
--- the number of the data node of a child
-abbrev pub number_of_part : Tables → Option ℕ → Part → Option ℕ
-number_of_part tables parent part = option_and_then (λ name. child_number tables parent name) (child_name part)
-
--- the path of a node; at the top there is none
-abbrev pub path_of : List Step → Option Path
-path_of [] = None
-path_of (step ∷ rest) = Some (record { steps = step ∷ rest })
-
-abbrev pub cause_in : CauseKind → List Step → List (List ℕ) → Cause
-cause_in kind steps names = record { kind = kind; path = path_of steps; names = names }
-
--- an element that is no data node of the schema there, in a namespace of a module or in another
-abbrev pub unknown_cause : Tables → List Step → QName → Cause
-unknown_cause tables above name =
-    if list_any (λ found. is_same_text found.space name.space) tables.modules then cause_in UnknownElement above (name.name ∷ [])
-    else cause_in UnknownNamespace above (name.name ∷ name.space ∷ [])
-
--- content that a node of the kind may not have: a child element beside or in a value, or text elsewhere
-abbrev pub has_bad_content : Kind → List Part → Bool
-has_bad_content kind parts = if has_value kind then has_child parts else has_text parts
-
--- among the elements before it in its parent there is the same leaf, or a node of another case of one
--- choice (RFC 7950 7.9)
-abbrev pub clashes : Tables → List ℕ → ℕ → Kind → Bool
-clashes tables earlier number kind =
-    list_any (λ other. (is_leaf kind && other == number) || cases_differ (cases_of tables number) (cases_of tables other)) earlier
-
--- the content of the first child that is the data node of that number
-abbrev pub content_of : Tables → ℕ → List Part → ℕ → Option (List Part)
-content_of tables parent parts number =
-    option_map child_parts (find (λ part. is_same_number (number_of_part tables (Some parent) part) (Some number)) parts)
-
--- the value in a leaf's content; none where it has child elements
-abbrev pub value_in : List Part → Option (List ℕ)
-value_in parts = if has_child parts then None else Some (whole_text parts)
-
--- the values of all keys of an entry, in the order of the `key` statement, or none where one is not to
--- be read
-abbrev pub with_key : Option (List ℕ) → Option (List (List ℕ)) → Option (List (List ℕ))
-with_key (Some value) (Some values) = Some (value ∷ values)
-with_key value values = None
-
-abbrev pub key_values : Tables → ℕ → List ℕ → List Part → Option (List (List ℕ))
-key_values tables number [] parts = Some []
-key_values tables number (key ∷ keys) parts =
-    with_key (option_and_then value_in (content_of tables number parts key)) (key_values tables number keys parts)
-
--- the keys in the step to an element's node: an entry whose keys are not all to be read has none
-abbrev pub keys_of : Tables → ℕ → Kind → List ℕ → List Part → List (List ℕ)
-keys_of tables number (Container presence) keys parts = []
-keys_of tables number Leaf keys parts = []
-keys_of tables number LeafList keys parts = whole_text parts ∷ []
-keys_of tables number ListKind keys parts = option_map_or (λ values. values) (key_values tables number keys parts) []
-
-abbrev pub step_of : Tables → ℕ → Node → List Part → Step
-step_of tables number node parts = record { node = number; keys = keys_of tables number node.kind node.keys parts }
-
-abbrev pub is_absent : Option (List Part) → Bool
-is_absent None = true
-is_absent (Some parts) = false
-
--- the first key of an entry that is not there
-abbrev pub missing_key : Tables → ℕ → List ℕ → List Part → Option ℕ
-missing_key tables number keys parts = find (λ key. is_absent (content_of tables number parts key)) keys
-
-abbrev pub local_name : Tables → ℕ → List ℕ
-local_name tables number = option_map_or (λ node. node.name.name) (slice_get tables.nodes number) []
-
--- the first fault of an element itself, of its attributes and of its keys; none of them is known here
-abbrev pub attribute_fault : List Step → QName → List Attr → Option Cause
-attribute_fault steps name [] = None
-attribute_fault steps name (attr ∷ attrs) = Some (cause_in UnknownAttribute steps (attr.name.name ∷ name.name ∷ []))
-
-abbrev pub key_fault : Tables → List Step → Option ℕ → Option Cause
-key_fault tables steps None = None
-key_fault tables steps (Some key) = Some (cause_in MissingKey steps (local_name tables key ∷ []))
-
-abbrev pub first_fault : Bool → Cause → Option Cause → Option Cause → Option Cause
-first_fault true cause attribute key = Some cause
-first_fault false cause (Some attribute) key = Some attribute
-first_fault false cause None key = key
-
-abbrev pub element_fault : Tables → List Step → List ℕ → ℕ → Node → QName → List Attr → List Part → Option Cause
-element_fault tables above earlier number node name attrs parts =
-    let steps = above ++ step_of tables number node parts ∷ [] in
-    first_fault (clashes tables earlier number node.kind || has_bad_content node.kind parts) (cause_in BadElement above (name.name ∷ []))
-    (attribute_fault steps name attrs) (key_fault tables steps (missing_key tables number node.keys parts))
-
--- the edit of an element: its node is merged
-abbrev pub element_edit : List Step → Kind → List Part → Edit
-element_edit steps kind parts =
-    record { path = record { steps = steps }; action = Merge (if has_value kind then Some (whole_text parts) else None); place = Kept }
+abbrev pub made_of : Reading → Position → Named → List Edit → List Edit
+made_of reading at named below =
+    made reading.tables at.under (operation_of at.under named.elem.attrs) (merge_of reading at named)
+    (place_of reading named) below
 
 -- edits, and then more, unless there is a fault
 abbrev pub with_more : Result (List Edit) Cause → Result (List Edit) Cause → Result (List Edit) Cause
@@ -162,58 +84,146 @@ with_more (Err cause) more = Err cause
 with_more (Ok edits) (Err cause) = Err cause
 with_more (Ok edits) (Ok more) = Ok (edits ++ more)
 
+abbrev pub if_read : {A B : Type 0} → (A → B) → Result A Cause → Result B Cause
+if_read make (Ok a) = Ok (make a)
+if_read make (Err cause) = Err cause
+
 abbrev pub unless_fault : Option Cause → Result (List Edit) Cause → Result (List Edit) Cause
 unless_fault None edits = edits
 unless_fault (Some cause) edits = Err cause
 
--- the edit of an element at a data node, and then those of its children
-abbrev pub node_edits : Tables → List Step → List ℕ → ℕ → Option Node → QName → List Attr → List Part → (List Step → Result (List Edit) Cause) → Result (List Edit) Cause
-node_edits tables above earlier number None name attrs parts children = Err (unknown_cause tables above name)
-node_edits tables above earlier number (Some node) name attrs parts children =
-    let steps = above ++ step_of tables number node parts ∷ [] in
-    unless_fault (element_fault tables above earlier number node name attrs parts)
-    (with_more (Ok (element_edit steps node.kind parts ∷ [])) (children steps))
+-- the edits of an element at a data node
+abbrev pub node_edits : Reading → Position → Option Named → (Position → Result (List Edit) Cause) →
+    Result (List Edit) Cause
+node_edits reading at None children = Ok []
+node_edits reading at (Some named) children = if_read (made_of reading at named) (children (inside reading at named))
 
--- the edits of an element, which is that data node, or none
-abbrev pub numbered_edits : Tables → List Step → List ℕ → Option ℕ → QName → List Attr → List Part → (List Step → Option ℕ → Result (List Edit) Cause) → Result (List Edit) Cause
-numbered_edits tables above earlier None name attrs parts children = Err (unknown_cause tables above name)
-numbered_edits tables above earlier (Some number) name attrs parts children =
-    node_edits tables above earlier number (slice_get tables.nodes number) name attrs parts (λ steps. children steps (Some number))
-
--- the data nodes of the children so far
-abbrev pub with_number : Tables → Option ℕ → List ℕ → Part → List ℕ
-with_number tables parent earlier part = earlier ++ option_to_list (number_of_part tables parent part)
+-- the first fault of an element, or its edits, where those of its children are given
+abbrev pub element_edits : Reading → Position → List Step → Elem → (Position → Result (List Edit) Cause) →
+    Result (List Edit) Cause
+element_edits reading at earlier elem children =
+    unless_fault (unknown_or reading at earlier elem (named reading at.parent elem))
+    (node_edits reading at (named reading at.parent elem) children)
 
 abbrev mutual
-  -- the edits of a part of an element
-  pub part_edits : Tables → List Step → Option ℕ → List ℕ → Part → Result (List Edit) Cause
-  part_edits tables above parent earlier (Chars text) = Ok []
-  part_edits tables above parent earlier (Child' _ child) = child_edits tables above parent earlier child
+  -- the edits of a part of an element, with the steps of the elements before it
+  pub part_edits : Reading → Position → List Step → Part → Result (List Edit) Cause
+  part_edits reading at earlier (Chars text) = Ok []
+  part_edits reading at earlier (Child' _ child) = child_edits reading at earlier child
 
-  pub child_edits : Tables → List Step → Option ℕ → List ℕ → {n : _} → Row_of-Elem n → Result (List Edit) Cause
-  child_edits tables above parent earlier end_of-Elem = Ok []
-  child_edits tables above parent earlier (more_of-Elem name bounds attrs shape parts none) =
-      numbered_edits tables above earlier (child_number tables parent name) name attrs (items-the_row-Part _ parts)
-      (λ steps number. parts_edits tables steps number [] parts)
+  pub child_edits : Reading → Position → List Step → {n : _} → Row_of-Elem n → Result (List Edit) Cause
+  child_edits reading at earlier end_of-Elem = Ok []
+  child_edits reading at earlier (more_of-Elem name bounds attrs shape parts none) =
+      element_edits reading at earlier
+      (record { name = name; bounds = bounds; attrs = attrs; parts = items-the_row-Part _ parts })
+      (λ within. parts_edits reading within [] parts)
 
-  pub parts_edits : Tables → List Step → Option ℕ → List ℕ → {n : _} → Row_of-Part n → Result (List Edit) Cause
-  parts_edits tables above parent earlier end_of-Part = Ok []
-  parts_edits tables above parent earlier (more_of-Part part more) =
-      with_more (part_edits tables above parent earlier part) (parts_edits tables above parent (with_number tables parent earlier part) more)
+  pub parts_edits : Reading → Position → List Step → {n : _} → Row_of-Part n → Result (List Edit) Cause
+  parts_edits reading at earlier end_of-Part = Ok []
+  parts_edits reading at earlier (more_of-Part part more) =
+      with_more (part_edits reading at earlier part) (parts_edits reading at (with_step reading at earlier part) more)
 
 -- the edits of the parts of an element, from the first on
-abbrev pub list_edits : Tables → List Step → Option ℕ → List ℕ → List Part → Result (List Edit) Cause
-list_edits tables above parent earlier [] = Ok []
-list_edits tables above parent earlier (part ∷ more) =
-    with_more (part_edits tables above parent earlier part) (list_edits tables above parent (with_number tables parent earlier part) more)
+abbrev pub list_edits : Reading → Position → List Step → List Part → Result (List Edit) Cause
+list_edits reading at earlier [] = Ok []
+list_edits reading at earlier (part ∷ more) =
+    with_more (part_edits reading at earlier part) (list_edits reading at (with_step reading at earlier part) more)
 
--- the edits of an element in a parent
-abbrev pub elem_edits : Tables → List Step → Option ℕ → List ℕ → Elem → Result (List Edit) Cause
-elem_edits tables above parent earlier e =
-    numbered_edits tables above earlier (child_number tables parent e.name) e.name e.attrs e.parts
-    (λ steps number. list_edits tables steps number [] e.parts)
+-- the edits of an element where it stands
+abbrev pub elem_edits : Reading → Position → List Step → Elem → Result (List Edit) Cause
+elem_edits reading at earlier elem =
+    element_edits reading at earlier elem (λ within. list_edits reading within [] elem.parts)
 
--- the edits of a whole `config`, or its first fault
-abbrev pub edits_of : Tables → Elem → Result (List Edit) Cause
-edits_of tables config =
-    if has_text config.parts then Err (cause_in BadElement [] (config.name.name ∷ [])) else list_edits tables [] None [] config.parts
+-- a whole `config`, whose own attributes say nothing
+abbrev pub config_edits : Reading → Under → Elem → Result (List Edit) Cause
+config_edits reading under config =
+    if has_text config.parts then Err (cause_in BadElement [] (config.name.name ∷ []))
+    else list_edits reading (record { above = []; parent = None; under = under }) [] config.parts
+
+abbrev pub by_default : Default3 → EditOperation
+by_default MergeByDefault = Merge
+by_default ReplaceByDefault = Replace
+by_default NothingByDefault = Nothing
+
+-- the edits of a payload, or its first fault
+abbrev pub edits_read : Reading → Default3 → Elem → Result (List Edit) Cause
+edits_read reading default_operation config = config_edits reading (Edited (by_default default_operation)) config
+
+-- the rows of an inline configuration, or its first fault
+abbrev pub rows_read : Reading → Elem → Result (List Row) Cause
+rows_read reading config = if_read (rows_merged reading.tables) (config_edits reading Inline config)
+
+-- ---- the paths that a payload names
+-- the place of an element, where its node and keys have a reading, and those of what is in it
+abbrev pub places_at : List Step → Option (List (List ℕ)) → Named → (List Step → List (List Step)) → List (List Step)
+places_at above None named children = []
+places_at above (Some keys) named children =
+    let steps = above ++ record { node = named.number; keys = keys } ∷ [] in steps ∷ children steps
+
+abbrev pub element_places : Reading → List Step → Option Named → (List Step → Option ℕ → List (List Step)) →
+    List (List Step)
+element_places reading above None children = []
+element_places reading above (Some named) children =
+    places_at above (keys_read reading named.node.kind named) named (λ steps. children steps (Some named.number))
+
+abbrev mutual
+  -- the places of the elements in a part of an element
+  pub part_places : Reading → List Step → Option ℕ → Part → List (List Step)
+  part_places reading above parent (Chars text) = []
+  part_places reading above parent (Child' _ child) = child_places reading above parent child
+
+  pub child_places : Reading → List Step → Option ℕ → {n : _} → Row_of-Elem n → List (List Step)
+  child_places reading above parent end_of-Elem = []
+  child_places reading above parent (more_of-Elem name bounds attrs shape parts none) =
+      element_places reading above
+      (named reading parent
+      (record { name = name; bounds = bounds; attrs = attrs; parts = items-the_row-Part _ parts }))
+      (λ steps number. parts_places reading steps number parts)
+
+  pub parts_places : Reading → List Step → Option ℕ → {n : _} → Row_of-Part n → List (List Step)
+  parts_places reading above parent end_of-Part = []
+  parts_places reading above parent (more_of-Part part more) =
+      part_places reading above parent part ++ parts_places reading above parent more
+
+-- an element of the payload stands at the path or below it
+abbrev pub stands_in : Reading → Elem → Path → Bool
+stands_in reading config path =
+    list_any (λ steps. is_at_or_below path.steps (record { steps = steps }))
+    (flat_map (part_places reading [] None) config.parts)
+
+-- the payload's fault is about the path
+abbrev pub is_at_fault : {A : Type 0} → Result A Cause → Path → Bool
+is_at_fault (Ok it) path = false
+is_at_fault (Err cause) path = option_map_or (λ at. is_same_path at.steps path.steps) cause.path false
+
+-- a payload names the paths of its elements, with those above them, and that of its fault
+abbrev pub names_path_read : Reading → Asked → Path → Bool
+names_path_read reading (EditConfig target default_operation test on_error config) path =
+    stands_in reading config path || is_at_fault (edits_read reading default_operation config) path
+names_path_read reading (CopyConfig target (InlineConfig config)) path =
+    stands_in reading config path || is_at_fault (rows_read reading config) path
+names_path_read reading (Validate (InlineConfig config)) path =
+    stands_in reading config path || is_at_fault (rows_read reading config) path
+names_path_read reading asked path = false
+
+-- ---- by the types of the schema's data nodes, and by the grammar of instance identifiers
+-- the canonical keys of the entry of a list that predicates name
+abbrev pub canonical_entry : Tables → ℕ → List ℕ → List Bound → Option (List (List ℕ))
+canonical_entry tables number text bounds =
+    option_and_then (canonical_keys (λ key value. canonical tables key value bounds) (key_nodes tables number))
+    (entry_keys tables number text bounds)
+
+abbrev pub reading_of : Tables → Reading
+reading_of tables = record { tables = tables; value = canonical tables; keys = canonical_entry tables }
+
+-- the edits of a payload, or its first fault
+abbrev pub edits_of : Tables → Default3 → Elem → Result (List Edit) Cause
+edits_of tables default_operation config = edits_read (reading_of tables) default_operation config
+
+-- the rows of an inline configuration, or its first fault
+abbrev pub rows_of : Tables → Elem → Result (List Row) Cause
+rows_of tables config = rows_read (reading_of tables) config
+
+-- the request's payload names the path
+abbrev pub names_path : Tables → Asked → Path → Bool
+names_path tables asked path = names_path_read (reading_of tables) asked path

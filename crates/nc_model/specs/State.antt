@@ -1,16 +1,12 @@
 -- The state of the server: its datastores and sessions (RFC 6241 5.1, 8.1 and 8.3).
-use Rattle.std.specs.Prelude.{◌≢◌, ◌==◌, ◌≤◌, ℕ, max, Bool, not, List, [], length, Option, None, IfSome, unwrap_or}
+use Rattle.std.specs.Prelude.{◌≢◌, ◌≤◌, ◌==◌, ℕ, Bool, List, [], length, max, not, Option, None, IfSome, unwrap_or}
 use Rattle.std.specs.List.{All, AllPairs, filter, list_any}
 use Rattle.nc_names.specs.declared.path.Row.{Row}
+use Rattle.nc_schema.specs.Configuration.{IsConfiguration}
+use Rattle.nc_schema.specs.Proper.{IsProperSchema}
 use Rattle.nc_schema.specs.Tables.{Tables}
-use Rattle.nc_schema.specs.Configuration.{IsDataTree}
-use Rattle.nc_schema.specs.ProperNodes.{HasProperNodes}
-use Rattle.nc_model.specs.declared.peer.Peer.{Peer}
-
--- a live session: its session-id (RFC 6241 8.1) and its client
-pub record Session : Type 0 where
-  pub number : ℕ
-  pub peer : Peer
+use Rattle.nc_schema.specs.Violations.{IsValid}
+use Rattle.nc_model.specs.declared.session.Session.{Session}
 
 -- the schema; running and candidate, which is none while it is unmodified (RFC 6241 8.3.1); the live
 -- sessions; the latest reading of the clock, in milliseconds; the last session-id that was given, or 0;
@@ -55,11 +51,13 @@ last_session_id = 4294967295
 abbrev pub IsSessionId : ℕ → ℕ → Type 0
 IsSessionId last number = (1 ≤ number) × (number ≤ last)
 
--- what is true of every state that a good opening state leads to
+-- what is true of every state that a good opening state leads to: running is a valid configuration, the
+-- candidate a configuration (RFC 6241 8.3.1)
 pub record IsGood (s : State) : Type 0 where
-  pub schema : HasProperNodes s.schema
-  pub running : IsDataTree s.schema s.running
-  pub candidate : IfSome s.candidate (IsDataTree s.schema)
+  pub schema : IsProperSchema s.schema
+  pub running : IsConfiguration s.schema s.running
+  pub valid : IsValid s.schema s.running
+  pub candidate : IfSome s.candidate (IsConfiguration s.schema)
   pub given : All (λ session. IsSessionId s.last session.number) s.sessions
   pub distinct : AllPairs (λ session later. session.number ≢ later.number) s.sessions
   pub few : length s.sessions ≤ most_sessions

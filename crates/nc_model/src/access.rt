@@ -3,7 +3,7 @@ ghost use Rattle.std.specs.Prelude.{◌≡◌, Bool, true, IfOk};
 ghost use Rattle.nc_names.specs.declared.path.Path.{Path};
 ghost use Rattle.nc_names.specs.declared.path.Right.{Right};
 ghost use Rattle.nc_model.specs.declared.access.Decision.{Decision};
-ghost use Rattle.nc_model.specs.Unchecked.{every_right};
+ghost use Rattle.nc_model.specs.Access.{every_right};
 
 use nc_names::{Memory, Path, Right, Text};
 

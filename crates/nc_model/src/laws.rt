@@ -1,6 +1,6 @@
 //! What follows from the definitions in `specs/`, each as the contract of a function that does
 //! nothing. A call of one makes its law known to the caller.
-ghost use Rattle.nc_model.specs.Laws.{HistoriesJoin, LegalHistoriesJoin, OneEntryIsLegal, MineStays, MineGrows, ChildIsElement, OpeningIsGood, GoodStays, BelowIsBelow, PlacesAreInOrder, PayloadFits, EditKeepsTree, EditKeepsConfiguration, EditLeaves, EditsKeepTree, RowsStandInOrder};
+ghost use Rattle.nc_model.specs.Laws.{HistoriesJoin, LegalHistoriesJoin, OneEntryIsLegal, MineStays, MineGrows, ChildIsElement, BelowIsBelow, PlacesAreInOrder, EditKeepsTree, EditKeepsConfiguration, EditLeaves, EditsKeepTree, RowsStandInOrder, OpeningIsGood, GoodStays, HistoryIsDetermined, DiskFaultHasCause, CommitAloneChangesRunning, IsEndedBetween, PayloadFits, PayloadKeepsConfiguration, InlineIsConfiguration, SelectedIsDataTree, SelectedStandsInRows, EmptyFilterSelectsNothing, SelectionNodeSelectsSubtree};
 
 /// The state after a history is that after its rest, from the state after its front.
 pub fn histories_join()
@@ -32,9 +32,19 @@ pub fn child_is_element()
     ensures { ChildIsElement }
 {}
 
-/// The edits of a payload fit the schema.
+/// The edits of a payload fit the schema, and bring canonical values.
 pub fn payload_fits()
     ensures { PayloadFits }
+{}
+
+/// The edits of a payload leave a configuration, where they are made in one.
+pub fn payload_keeps_configuration()
+    ensures { PayloadKeepsConfiguration }
+{}
+
+/// The rows of an inline configuration are a configuration.
+pub fn inline_is_configuration()
+    ensures { InlineIsConfiguration }
 {}
 
 /// An edit that fits the schema leaves a data tree, where it is made in one.
@@ -82,4 +92,46 @@ pub fn places_are_in_order()
 /// The rows of a data tree stand in document order, which is the user's where the user orders entries.
 pub fn rows_stand_in_order()
     ensures { RowsStandInOrder }
+{}
+
+/// A legal history is determined by its opening, and by the events, the readings of the clock and what
+/// the disk did.
+pub fn history_is_determined()
+    ensures { HistoryIsDetermined }
+{}
+
+/// A disk fault is answered only where the count of the disk's faults rose.
+pub fn disk_fault_has_cause()
+    ensures { DiskFaultHasCause }
+{}
+
+/// Running changes by a commit alone.
+pub fn commit_alone_changes_running()
+    ensures { CommitAloneChangesRunning }
+{}
+
+/// A session that was started, and is found not to be live by a later entry of it, was ended by one
+/// between them.
+pub fn is_ended_between()
+    ensures { IsEndedBetween }
+{}
+
+/// The rows that a filter keeps are rows of the configuration, in their order.
+pub fn selected_stands_in_rows()
+    ensures { SelectedStandsInRows }
+{}
+
+/// A filter without an element selects nothing (RFC 6241 6.4.2).
+pub fn empty_filter_selects_nothing()
+    ensures { EmptyFilterSelectsNothing }
+{}
+
+/// A selection node at the top selects all rows at and below the nodes of its name (RFC 6241 6.2.4).
+pub fn selection_node_selects_subtree()
+    ensures { SelectionNodeSelectsSubtree }
+{}
+
+/// What a filter keeps of a data tree is a data tree.
+pub fn selected_is_data_tree()
+    ensures { SelectedIsDataTree }
 {}

@@ -8,6 +8,7 @@
 
 mod access;
 mod asked;
+mod changes;
 mod datastore;
 mod desk;
 mod edit;
@@ -15,23 +16,30 @@ mod entry;
 mod event;
 mod laws;
 mod peer;
+mod position;
 mod request;
-#[cfg(test)]
-mod tests;
+mod session;
 mod verdict;
 
 pub use access::{By, Decision, Rights, Sees, Unchecked};
 pub use asked::{Asked, Default3, ErrorOption, Operation, Select, TestOption};
+pub use changes::Changes;
 pub use datastore::{Datastore, Origin};
 pub use desk::{Desk, DeskFault, Spent};
 pub use edit::{Action, Edit};
 pub use entry::{Bears, Entry};
 pub use event::{Event, Outcome};
 pub use laws::{
-    below_is_below, child_is_element, edit_keeps_configuration, edit_keeps_tree, edit_leaves,
-    edits_keep_tree, good_stays, histories_join, legal_histories_join, mine_grows, mine_stays,
-    one_entry_is_legal, opening_is_good, payload_fits, places_are_in_order, rows_stand_in_order,
+    below_is_below, child_is_element, commit_alone_changes_running, disk_fault_has_cause,
+    edit_keeps_configuration, edit_keeps_tree, edit_leaves, edits_keep_tree,
+    empty_filter_selects_nothing, good_stays, histories_join, history_is_determined,
+    inline_is_configuration, is_ended_between, legal_histories_join, mine_grows, mine_stays,
+    one_entry_is_legal, opening_is_good, payload_fits, payload_keeps_configuration,
+    places_are_in_order, rows_stand_in_order, selected_is_data_tree, selected_stands_in_rows,
+    selection_node_selects_subtree,
 };
 pub use peer::Peer;
+pub use position::{EditOperation, Position, Under};
 pub use request::{Cause, Request};
+pub use session::Session;
 pub use verdict::Verdict;

@@ -16,7 +16,7 @@ use Rattle.nc_schema.specs.declared.node.Node.{Node}
 use Rattle.nc_schema.specs.Children.{IsChild, IsFirstChild, IsAbove, HasLowerParents, HasRoom, IsListOfNodes}
 use Rattle.nc_names.specs.Same.{is_same_name}
 use Rattle.nc_names.proofs.SameLemmas.{name_decide}
-use Rattle.nc_schema.specs.Index.{Names, number_of, with_entry, HasEntry, known_child, IsIndexOf, IsIndexed, KeepsName}
+use Rattle.nc_schema.specs.inner.Index.{Names, number_of, with_entry, HasEntry, known_child, IsIndexOf, IsIndexed, KeepsName}
 
 -- ---- an element of a list that grew or changed in one place
 get_kept : {X : Type 0} (xs : List X) (x : X) (i : ℕ) → i < length xs → slice_get (xs ++ x ∷ []) i ≡ slice_get xs i

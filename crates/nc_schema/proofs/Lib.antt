@@ -1,6 +1,13 @@
-pub mod BeganLemmas
+pub mod PlaceLemmas
 pub mod IndexLemmas
 pub mod OrderLemmas
 pub mod PathTextLemmas
 pub mod TextLemmas
 pub mod TreeLemmas
+pub mod Example
+pub mod ValueRows
+pub mod PathRows
+pub mod ValidityExamples
+pub mod ProperLemmas
+pub mod ViolationLemmas
+pub mod ChildLemmas

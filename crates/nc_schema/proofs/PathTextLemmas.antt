@@ -9,7 +9,8 @@ use Rattle.nc_schema.specs.declared.node.Kind.{Kind}
 use Rattle.nc_schema.specs.declared.node.Kind.TheVariants.{Container, Leaf, LeafList, List as ListKind}
 use Rattle.nc_schema.specs.declared.node.Node.{Node}
 use Rattle.nc_schema.specs.Laws.{TextNamesOnePath}
-use Rattle.nc_schema.specs.Names.{HasProperNames, CanBeQuoted}
+use Rattle.nc_schema.proofs.ProperLemmas.{HasProperNames, proper_names}
+use Rattle.nc_schema.specs.PathTexts.{CanBeQuoted}
 use Rattle.nc_schema.specs.Paths.{key_count, LeadDown}
 use Rattle.nc_names.specs.Signs.{slash, colon}
 use Rattle.nc_schema.specs.PathTexts.{module_name, prefixed_name, predicates, step_predicates, step_text}
@@ -122,6 +123,6 @@ steps_once tables names above (step ∷ steps) (other ∷ others) leads lead can
     λ i. first.0 i ∷ rest i
 
 pub text_names_one_path : TextNamesOnePath
-text_names_one_path tables path other names leads lead can could e =
-    let same = steps_once tables names None path.steps other.steps leads.down lead.down can could e in
+text_names_one_path tables path other proper leads lead can could e =
+    let same = steps_once tables (proper_names tables proper) None path.steps other.steps leads.down lead.down can could e in
     λ i. record { steps = same i }

@@ -5,7 +5,7 @@ use Rattle.std.specs.Char.{is_ascii_digit}
 use Rattle.std.specs.List.{All, list_all, list_any, flat_map}
 use Rattle.nc_names.specs.Identifiers.{IsIdentifier}
 use Rattle.nc_names.specs.Signs.{quote, apostrophe, dot, equals, opening_bracket, closing_bracket, slash, begins_identifier, is_in_identifier}
-use Rattle.nc_schema.specs.Names.{CanBeQuoted}
+use Rattle.nc_schema.specs.PathTexts.{CanBeQuoted}
 use Rattle.nc_schema.specs.PathTexts.{mark_round, quoted, key_name, key_predicates, value_predicate}
 use Rattle.nc_schema.specs.Tables.{Tables}
 

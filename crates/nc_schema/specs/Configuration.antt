@@ -8,6 +8,7 @@ use Rattle.nc_schema.specs.declared.node.Kind.{Kind}
 use Rattle.nc_schema.specs.declared.node.Kind.TheVariants.{Container, Leaf, LeafList, List as ListKind}
 use Rattle.nc_schema.specs.declared.node.Node.{Node}
 use Rattle.nc_schema.specs.Tables.{Tables}
+use Rattle.nc_schema.specs.Values.{IsCanonical}
 use Rattle.nc_schema.specs.Paths.{IsPathOf}
 use Rattle.nc_schema.specs.Order.{IsBefore}
 
@@ -39,10 +40,14 @@ abbrev pub HasItsValue : Tables → Row → Type 0
 HasItsValue tables row =
     (above : List Step) (step : Step) (node : Node) → LeadsTo tables above step node row → IsRowValue node.kind step row.value
 
--- the value of a row is a canonical text at its node
-abbrev pub HasCanonicalValue : (ℕ → List ℕ → Type 0) → Tables → Row → Type 0
-HasCanonicalValue IsCanonical tables row =
-    (above : List Step) (step : Step) (node : Node) → LeadsTo tables above step node row → IfSome row.value (IsCanonical step.node)
+-- the value of a row, if it has one, is such at its node
+abbrev pub HasValueThat : (ℕ → List ℕ → Type 0) → Tables → Row → Type 0
+HasValueThat IsSuch tables row =
+    (above : List Step) (step : Step) (node : Node) → LeadsTo tables above step node row → IfSome row.value (IsSuch step.node)
+
+-- the value of a row is the canonical text of a value of its node's type (RFC 7950 9.1)
+abbrev pub HasCanonicalValue : Tables → Row → Type 0
+HasCanonicalValue tables row = HasValueThat (IsCanonical tables) tables row
 
 -- the rows of the keys of a list entry (RFC 7950 7.8.2)
 abbrev pub key_rows : List Step → List ℕ → List (List ℕ) → List Row
@@ -102,8 +107,7 @@ pub record IsSubtree (tables : Tables) (top : List Step) (rows : List Row) : Typ
 abbrev pub IsDataTree : Tables → List Row → Type 0
 IsDataTree tables rows = IsSubtree tables [] rows
 
--- a configuration: a data tree whose values are canonical. `IsCanonical` says of a data node's number
--- and a text whether the text is the canonical one of a value of the node's type (RFC 7950 9.1)
-pub record IsConfiguration (IsCanonical : ℕ → List ℕ → Type 0) (tables : Tables) (rows : List Row) : Type 0 where
+-- a configuration: a data tree whose values are canonical
+pub record IsConfiguration (tables : Tables) (rows : List Row) : Type 0 where
   pub tree : IsDataTree tables rows
-  pub canonical : All (HasCanonicalValue IsCanonical tables) rows
+  pub canonical : All (HasCanonicalValue tables) rows

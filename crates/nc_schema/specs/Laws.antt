@@ -5,7 +5,8 @@ use Rattle.nc_names.specs.declared.path.Path.{Path}
 use Rattle.nc_names.specs.declared.path.Row.{Row}
 use Rattle.nc_schema.specs.Configuration.{IsDataTree}
 use Rattle.nc_schema.specs.Tables.{Tables}
-use Rattle.nc_schema.specs.Names.{HasProperNames, HasQuotableKeys}
+use Rattle.nc_schema.specs.Proper.{IsProperSchema}
+use Rattle.nc_schema.specs.PathTexts.{HasQuotableKeys}
 use Rattle.nc_schema.specs.Paths.{NamesNodeOf}
 use Rattle.nc_schema.specs.PathTexts.{path_text_of}
 use Rattle.nc_schema.specs.Order.{IsSystemOrdered, IsBefore}
@@ -25,10 +26,10 @@ OrderIsTotal =
     (tables : Tables) (path other : Path) → IsSystemOrderedPath tables path →
     IsBefore tables path other ⊎ (path ≡ other) ⊎ IsBefore tables other path
 
--- in a schema of proper names a path text names one path
+-- a path text names one path
 abbrev pub TextNamesOnePath : Type 0
 TextNamesOnePath =
-    (tables : Tables) (path other : Path) → HasProperNames tables →
+    (tables : Tables) (path other : Path) → IsProperSchema tables →
     NamesNodeOf tables path → NamesNodeOf tables other → HasQuotableKeys path → HasQuotableKeys other →
     path_text_of tables path ≡ path_text_of tables other → path ≡ other
 

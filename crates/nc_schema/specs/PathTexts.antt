@@ -1,7 +1,7 @@
--- The text of a path: an instance identifier whose prefixes are module names (RFC 7950 9.13,
--- RFC 7951 6.11), every step and every key with its prefix.
-use Rattle.std.specs.Prelude.{ℕ, List, [], ◌∷◌, ◌++◌, ◌==◌, slice_get, if◌then◌else◌}
-use Rattle.std.specs.List.{flat_map, list_any, zip}
+-- The text of a path: an instance identifier whose prefixes are module names (RFC 7950 9.13),
+-- every step and every key with its prefix.
+use Rattle.std.specs.Prelude.{◌⊎◌, ℕ, List, [], ◌∷◌, ◌++◌, ◌==◌, slice_get, if◌then◌else◌, IsFalse}
+use Rattle.std.specs.List.{flat_map, list_any, zip, All}
 use Rattle.std.specs.Option.{option_map_or}
 use Rattle.nc_names.specs.declared.path.Step.{Step}
 use Rattle.nc_names.specs.declared.path.Path.{Path}
@@ -64,3 +64,11 @@ step_text tables step = slash ∷ prefixed_name tables step.node ++ step_predica
 -- identifier
 abbrev pub path_text_of : Tables → Path → List ℕ
 path_text_of tables path = flat_map (step_text tables) path.steps
+
+-- a value can stand between quotation marks: it lacks one of the two kinds
+abbrev pub CanBeQuoted : List ℕ → Type 0
+CanBeQuoted value = IsFalse (list_any (λ sign. sign == apostrophe) value) ⊎ IsFalse (list_any (λ sign. sign == quote) value)
+
+-- so can each key of the path
+abbrev pub HasQuotableKeys : Path → Type 0
+HasQuotableKeys path = All (λ step. All CanBeQuoted step.keys) path.steps

@@ -1,5 +1,6 @@
 -- What is true of the schema that modules define (RFC 7950 5.1, 6.2, 7.5 to 7.9, 9).
-use Rattle.std.specs.Prelude.{◌≡◌, ◌≢◌, ◌<◌, ◌≤◌, ◌↔◌, ◌++◌, [], ◌∷◌, ℕ, List, Option, Some, IsTrue, IsSome, IfSome, IsSomeAnd, slice_get}
+use Rattle.std.specs.Prelude.{◌≡◌, ◌≢◌, ◌<◌, ◌≤◌, ◌↔◌, ◌++◌, [], ◌∷◌, ℕ, Bool, List, length, Option, Some}
+use Rattle.std.specs.Prelude.{IsTrue, IsFalse, IsSome, IfSome, IsSomeAnd, slice_get}
 use Rattle.std.specs.List.{All, AllPairs, Any}
 use Rattle.nc_names.specs.declared.name.Module.{Module}
 use Rattle.nc_names.specs.declared.name.QName.{QName}
@@ -9,7 +10,7 @@ use Rattle.nc_schema.specs.declared.node.Kind.TheVariants.{Leaf, List as ListKin
 use Rattle.nc_schema.specs.declared.node.Node.{Node}
 use Rattle.nc_schema.specs.declared.value_type.ValueType.{ValueType}
 use Rattle.nc_schema.specs.declared.value_type.ValueType.TheVariants.{Decimal, Bits, Union, Identity, Leafref}
-use Rattle.nc_schema.specs.Kinds.{holds_nodes, has_entries, has_value}
+use Rattle.nc_schema.specs.Kinds.{holds_nodes, has_entries, has_value, is_leaf, is_list}
 use Rattle.nc_schema.specs.Tables.{Tables}
 
 -- so it is with each data node and its number
@@ -49,6 +50,38 @@ AreNested tables parent cases =
     (before after : List Case) (one : Case) → cases ≡ before ++ one ∷ after →
     IsSomeAnd (slice_get tables.choices one.choice) (λ choice. (choice.parent ≡ parent) × (choice.within ≡ before))
 
+-- those data nodes stand one in another, the first in that one
+abbrev pub IsChain : Tables → ℕ → List ℕ → Type 0
+IsChain tables above [] = Unit {0}
+IsChain tables above (number ∷ rest) =
+    IsSomeAnd (slice_get tables.nodes number) (λ node. node.parent ≡ Some above) × IsChain tables number rest
+
+abbrev pub IsContainer : Tables → ℕ → Type 0
+IsContainer tables number =
+    IsSomeAnd (slice_get tables.nodes number) (λ node. IsTrue (holds_nodes node.kind) × IsFalse (is_list node.kind))
+
+-- a leaf of a `unique` statement stands in the list, or in containers in it (RFC 7950 7.8.3)
+pub record IsUniqueIn (tables : Tables) (number leaf : ℕ) : Type 0 where
+  pub kind : IsSomeAnd (slice_get tables.nodes leaf) (λ node. node.kind ≡ Leaf)
+  pub between : List ℕ
+  pub chain : IsChain tables number (between ++ leaf ∷ [])
+  pub containers : All (IsContainer tables) between
+
+-- a list alone has `unique` statements, each with leafs
+abbrev pub HasItsUniques : Tables → ℕ → Node → Type 0
+HasItsUniques tables number node = All (λ leafs. (leafs ≢ []) × All (IsUniqueIn tables number) leafs) node.uniques
+
+-- leafs have at most one default, leaf-lists any number (RFC 7950 7.6.4, 7.7.4)
+abbrev pub HasItsDefaults : Node → Type 0
+HasItsDefaults node = IsTrue (is_leaf node.kind) → length node.defaults ≤ 1
+
+-- a leafref turns down at a node above the leaf or leaf-list (RFC 7950 9.9.2)
+abbrev pub TurnsAbove : Tables → ℕ → Node → Type 0
+TurnsAbove tables number node =
+    (target above : ℕ) (required : Bool) →
+    slice_get tables.types node.kind_of_value ≡ Some (Leafref target (Some above) required) → IsTrue (has_value node.kind) →
+    (between : List ℕ) × IsChain tables above (between ++ number ∷ [])
+
 -- an identity is one of a module (RFC 7950 7.18)
 abbrev pub IsIdentityOf : Tables → QName → Type 0
 IsIdentityOf tables name = IsIdentifier name.name × Any (λ found. found.space ≡ name.space) tables.modules
@@ -80,3 +113,6 @@ pub record IsProperSchema (tables : Tables) : Type 0 where
   -- a leaf and a leaf-list have a type (RFC 7950 7.6.3, 7.7.3)
   pub typed : EachNode tables (λ number node. IsTrue (has_value node.kind) → IsSome (slice_get tables.types node.kind_of_value))
   pub types : All (IsProperType tables) tables.types
+  pub uniques : EachNode tables (HasItsUniques tables)
+  pub defaults : EachNode tables (λ number node. HasItsDefaults node)
+  pub leafrefs : EachNode tables (TurnsAbove tables)

@@ -11,8 +11,6 @@ use Rattle.nc_names.specs.declared.path.Place.TheVariants.{Kept, First, Last, Be
 use Rattle.nc_names.specs.declared.path.Row.{Row}
 use Rattle.nc_names.specs.declared.path.Step.{Step}
 use Rattle.nc_schema.specs.declared.node.Case.{Case}
-use Rattle.nc_schema.specs.declared.node.Kind.{Kind}
-use Rattle.nc_schema.specs.declared.node.Kind.TheVariants.{Container, Leaf, LeafList, List as ListKind}
 use Rattle.nc_schema.specs.declared.node.Node.{Node}
 use Rattle.nc_schema.specs.Order.{keys_above, sibling_place}
 use Rattle.nc_schema.specs.Tables.{Tables}

@@ -1,6 +1,6 @@
 //! An index of data nodes by their parents and names, which finds a child without a walk.
 ghost use Rattle.std.specs.Prelude.{OnOk};
-ghost use Rattle.nc_schema.specs.Index.{HasEntry};
+ghost use Rattle.nc_schema.specs.inner.Index.{HasEntry};
 
 use crate::Node;
 use indexmap::IndexMap;
@@ -21,7 +21,7 @@ impl Index {
     ghost use Rattle.std.specs.Prelude.{◌≡◌, ◌<◌, ◌^◌, ◌++◌, [], ◌∷◌, length, List, IfSome, IfOk, OnOk};
     ghost use Rattle.nc_schema.specs.declared.node.Node.{Node};
     ghost use Rattle.nc_schema.specs.Children.{IsListOfNodes};
-    ghost use Rattle.nc_schema.specs.Index.{IsIndexOf, known_child};
+    ghost use Rattle.nc_schema.specs.inner.Index.{IsIndexOf, known_child};
 
     /// The index of no nodes.
     pub(crate) fn new(alloc: Global) -> Index

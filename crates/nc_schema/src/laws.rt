@@ -12,8 +12,8 @@ pub fn order_is_total()
     ensures { OrderIsTotal }
 {}
 
-/// In a schema of proper names the text of a path names that path alone, where each key lacks one of
-/// the two kinds of quotation mark.
+/// The text of a path names that path alone, where each key lacks one of the two kinds of quotation
+/// mark.
 pub fn text_names_one_path()
     ensures { TextNamesOnePath }
 {}

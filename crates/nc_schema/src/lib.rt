@@ -12,10 +12,11 @@ mod laws;
 mod node;
 mod nodes;
 mod path_text;
+mod pattern;
 mod schema;
-#[cfg(test)]
-mod tests;
 mod value_type;
+mod violation;
+mod written;
 
 pub use laws::{
     empty_is_data_tree, order_is_strict, order_is_total, rows_are_one_list, rows_rise,
@@ -23,5 +24,8 @@ pub use laws::{
 };
 pub use nc_names::Module;
 pub use node::{Case, Choice, Deny, Kind, Node};
+pub use pattern::{LeafrefEnd, Pattern, PatternStep};
 pub use schema::Schema;
 pub use value_type::{Between, ValueType};
+pub use violation::Violation;
+pub use written::{WrittenName, WrittenPredicate, WrittenStep};

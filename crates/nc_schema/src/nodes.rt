@@ -2,7 +2,7 @@
 ghost use Rattle.std.specs.Prelude.{◌≡◌, ◌<◌, ◌^◌, ◌↔◌, false, [], ◌∷◌, ◌++◌, length, slice_get, slice_set, IsTrue, OnOk, OnErr};
 ghost use Rattle.std.specs.Option.{option_copied};
 ghost use Rattle.std.specs.Bool.{OnTrue};
-ghost use Rattle.nc_schema.specs.Index.{IsIndexOf, KeepsName};
+ghost use Rattle.nc_schema.specs.inner.Index.{IsIndexOf, KeepsName};
 ghost use Rattle.nc_schema.specs.Children.{IsChild, IsFirstChild, IsAbove, HasLowerParents, HasRoom, IsListOfNodes};
 
 use crate::Node;
@@ -26,7 +26,7 @@ impl Model for Nodes {
 
     ghost Value = { List Node };
 
-    ghost use Rattle.nc_schema.specs.Index.{IsIndexed};
+    ghost use Rattle.nc_schema.specs.inner.Index.{IsIndexed};
 
     ghost view = { λ n. n.items };
 

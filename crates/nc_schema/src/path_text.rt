@@ -1,8 +1,7 @@
-//! The text of a path (RFC 7950 9.13, RFC 7951 6.11).
-ghost use Rattle.std.specs.Prelude.{◌≡◌, [], ◌∷◌, ◌++◌, ◌==◌, IsTrue, OnOk, OnErr};
+//! The text of a path (RFC 7950 9.13).
+ghost use Rattle.std.specs.Prelude.{◌≡◌, [], ◌∷◌, ◌++◌, ◌==◌, IsTrue, IfOk, OnOk, OnErr};
 ghost use Rattle.std.specs.List.{flat_map, list_any};
 ghost use Rattle.nc_names.specs.Signs.{apostrophe};
-ghost use Rattle.nc_schema.specs.Began.{Began};
 ghost use Rattle.nc_schema.specs.PathTexts.{prefixed_name, module_name, mark_round, quoted, key_name, key_predicate, key_predicates, value_predicate, step_predicates, step_text, path_text_of};
 
 use crate::{Kind, Schema};
@@ -10,24 +9,31 @@ use nc_names::{Memory, Path, Step, Text};
 
 impl Schema {
     /// Puts the text of a path of this schema at the end of `out`: an instance identifier in which
-    /// every step and every key has its module's name as prefix. Where memory is wanting, `out` has
-    /// got a beginning of the text.
+    /// every step and every key has its module's name as prefix. Where memory is wanting, `out` is as
+    /// it was.
     pub fn path_text(&self, path: &Path, out: &mut Text) -> Result<(), Memory>
         ensures ok { OnOk result (out.new ≡ out.old ++ path_text_of self.now path.now) }
-        ensures err { OnErr result (Began out.old out.new (path_text_of self.now path.now)) }
+        ensures err { OnErr result (out.new ≡ out.old) }
     {
-        for step in path.steps.as_slice() {
-            write_step(self, step, out)?;
-        }
-        Ok(())
+        let text = text_of(self, path, Text::new(out.alloc()))?;
+        out.push_str(text.as_str())
     }
 }
 
+/// The text of a path, at the end of another.
+fn text_of(schema: &Schema, path: &Path, before: Text) -> Result<Text, Memory>
+    ensures { IfOk result (λ text. text ≡ before ++ path_text_of schema.now path.now) }
+{
+    let mut text = before;
+    for step in path.steps.as_slice() {
+        write_step(schema, step, &mut text)?;
+    }
+    Ok(text)
+}
+
 /// Writes one step with its predicates.
-#[tactic(auto, using(crate::proofs::BeganLemmas::began_first, crate::proofs::BeganLemmas::began_second))]
 fn write_step(schema: &Schema, step: &Step, out: &mut Text) -> Result<(), Memory>
-    ensures ok { OnOk result (out.new ≡ out.old ++ step_text schema.now step.now) }
-    ensures err { OnErr result (Began out.old out.new (step_text schema.now step.now)) }
+    ensures { OnOk result (out.new ≡ out.old ++ step_text schema.now step.now) }
 {
     out.push('/')?;
     write_name(schema, step.node, out)?;
@@ -35,10 +41,8 @@ fn write_step(schema: &Schema, step: &Step, out: &mut Text) -> Result<(), Memory
 }
 
 /// Writes the name of a data node with its module's name as prefix.
-#[tactic(auto, using(crate::proofs::BeganLemmas::began_first, crate::proofs::BeganLemmas::began_second))]
 fn write_name(schema: &Schema, number: u32, out: &mut Text) -> Result<(), Memory>
-    ensures ok { OnOk result (out.new ≡ out.old ++ prefixed_name schema.now number) }
-    ensures err { OnErr result (Began out.old out.new (prefixed_name schema.now number)) }
+    ensures { OnOk result (out.new ≡ out.old ++ prefixed_name schema.now number) }
 {
     let Some(node) = schema.node(number) else {
         return Ok(());
@@ -49,10 +53,8 @@ fn write_name(schema: &Schema, number: u32, out: &mut Text) -> Result<(), Memory
 }
 
 /// Writes the name of a module.
-#[tactic(auto, using(crate::proofs::BeganLemmas::began_first, crate::proofs::BeganLemmas::began_second))]
 fn write_module(schema: &Schema, number: u32, out: &mut Text) -> Result<(), Memory>
-    ensures ok { OnOk result (out.new ≡ out.old ++ module_name schema.now number) }
-    ensures err { OnErr result (Began out.old out.new (module_name schema.now number)) }
+    ensures { OnOk result (out.new ≡ out.old ++ module_name schema.now number) }
 {
     match schema.module(number) {
         Some(found) => out.push_str(found.name.as_str()),
@@ -61,10 +63,8 @@ fn write_module(schema: &Schema, number: u32, out: &mut Text) -> Result<(), Memo
 }
 
 /// Writes the predicates of a step to an entry.
-#[tactic(auto, using(crate::proofs::BeganLemmas::began_first, crate::proofs::BeganLemmas::began_second))]
 fn write_predicates(schema: &Schema, step: &Step, out: &mut Text) -> Result<(), Memory>
-    ensures ok { OnOk result (out.new ≡ out.old ++ step_predicates schema.now step.now) }
-    ensures err { OnErr result (Began out.old out.new (step_predicates schema.now step.now)) }
+    ensures { OnOk result (out.new ≡ out.old ++ step_predicates schema.now step.now) }
 {
     let Some(node) = schema.node(step.node) else {
         return Ok(());
@@ -77,10 +77,8 @@ fn write_predicates(schema: &Schema, step: &Step, out: &mut Text) -> Result<(), 
 }
 
 /// Writes the predicates of a list entry.
-#[tactic(auto, using(crate::proofs::BeganLemmas::began_first, crate::proofs::BeganLemmas::began_second))]
 fn write_keys(schema: &Schema, keys: &[u32], values: &[Text], out: &mut Text) -> Result<(), Memory>
-    ensures ok { OnOk result (out.new ≡ out.old ++ key_predicates schema.now keys.now values.now) }
-    ensures err { OnErr result (Began out.old out.new (key_predicates schema.now keys.now values.now)) }
+    ensures { OnOk result (out.new ≡ out.old ++ key_predicates schema.now keys.now values.now) }
 {
     for (key, value) in keys.iter().zip(values) {
         write_key(schema, *key, value, out)?;
@@ -89,10 +87,8 @@ fn write_keys(schema: &Schema, keys: &[u32], values: &[Text], out: &mut Text) ->
 }
 
 /// Writes the predicate of one key.
-#[tactic(auto, using(crate::proofs::BeganLemmas::began_first, crate::proofs::BeganLemmas::began_second))]
 fn write_key(schema: &Schema, key: u32, value: &Text, out: &mut Text) -> Result<(), Memory>
-    ensures ok { OnOk result (out.new ≡ out.old ++ key_predicate schema.now key value.now) }
-    ensures err { OnErr result (Began out.old out.new (key_predicate schema.now key value.now)) }
+    ensures { OnOk result (out.new ≡ out.old ++ key_predicate schema.now key value.now) }
 {
     write_key_name(schema, key, out)?;
     write_quoted(value, out)?;
@@ -100,10 +96,8 @@ fn write_key(schema: &Schema, key: u32, value: &Text, out: &mut Text) -> Result<
 }
 
 /// Writes the predicate of a key up to its value.
-#[tactic(auto, using(crate::proofs::BeganLemmas::began_first, crate::proofs::BeganLemmas::began_second))]
 fn write_key_name(schema: &Schema, key: u32, out: &mut Text) -> Result<(), Memory>
-    ensures ok { OnOk result (out.new ≡ out.old ++ key_name schema.now key) }
-    ensures err { OnErr result (Began out.old out.new (key_name schema.now key)) }
+    ensures { OnOk result (out.new ≡ out.old ++ key_name schema.now key) }
 {
     out.push('[')?;
     write_name(schema, key, out)?;
@@ -111,10 +105,8 @@ fn write_key_name(schema: &Schema, key: u32, out: &mut Text) -> Result<(), Memor
 }
 
 /// Writes the predicate of a leaf-list entry.
-#[tactic(auto, using(crate::proofs::BeganLemmas::began_first, crate::proofs::BeganLemmas::began_second))]
 fn write_values(values: &[Text], out: &mut Text) -> Result<(), Memory>
-    ensures ok { OnOk result (out.new ≡ out.old ++ flat_map value_predicate values.now) }
-    ensures err { OnErr result (Began out.old out.new (flat_map value_predicate values.now)) }
+    ensures { OnOk result (out.new ≡ out.old ++ flat_map value_predicate values.now) }
 {
     for value in values {
         write_value(value, out)?;
@@ -123,10 +115,8 @@ fn write_values(values: &[Text], out: &mut Text) -> Result<(), Memory>
 }
 
 /// Writes the predicate of a value of a leaf-list.
-#[tactic(auto, using(crate::proofs::BeganLemmas::began_first, crate::proofs::BeganLemmas::began_second))]
 fn write_value(value: &Text, out: &mut Text) -> Result<(), Memory>
-    ensures ok { OnOk result (out.new ≡ out.old ++ value_predicate value.now) }
-    ensures err { OnErr result (Began out.old out.new (value_predicate value.now)) }
+    ensures { OnOk result (out.new ≡ out.old ++ value_predicate value.now) }
 {
     out.push_str("[.=")?;
     write_quoted(value, out)?;
@@ -134,10 +124,8 @@ fn write_value(value: &Text, out: &mut Text) -> Result<(), Memory>
 }
 
 /// Writes a value between two marks: apostrophes, unless it holds one.
-#[tactic(auto, using(crate::proofs::BeganLemmas::began_first, crate::proofs::BeganLemmas::began_second))]
 fn write_quoted(value: &Text, out: &mut Text) -> Result<(), Memory>
-    ensures ok { OnOk result (out.new ≡ out.old ++ quoted value.now) }
-    ensures err { OnErr result (Began out.old out.new (quoted value.now)) }
+    ensures { OnOk result (out.new ≡ out.old ++ quoted value.now) }
 {
     let mark = mark_round(value);
     out.push(mark)?;

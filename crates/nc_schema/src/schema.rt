@@ -1,7 +1,7 @@
 //! The schema: data nodes, choices, types and modules, each named by its number from 0.
 ghost use Rattle.std.specs.Prelude.{◌≡◌, ◌<◌, [], ◌∷◌, ◌++◌, length, slice_get, slice_set, IfOk, OnOk, OnErr};
 ghost use Rattle.std.specs.Option.{option_copied};
-ghost use Rattle.nc_schema.specs.Children.{IsFirstChild, IsAbove, HasLowerParents, HasRoom};
+ghost use Rattle.nc_schema.specs.Children.{IsFirstChild, child_number, IsAbove, HasLowerParents, HasRoom};
 ghost use Rattle.nc_schema.specs.Tables.{no_tables};
 
 use crate::nodes::Nodes;
@@ -49,6 +49,13 @@ impl Schema {
         self.modules.get(number as usize)
     }
 
+    /// The modules by their numbers.
+    pub fn modules(&self) -> &[Module]
+        ensures { result.now ≡ self.now.modules }
+    {
+        self.modules.as_slice()
+    }
+
     /// The type of a number, or `None` past the last.
     pub fn value_type(&self, number: u32) -> Option<&ValueType>
         ensures { option_copied result ≡ slice_get self.now.types number }
@@ -59,7 +66,8 @@ impl Schema {
     /// The number of the first data node of that name in that parent, or at the top where `parent`
     /// is `None`; `None` where there is no such node.
     pub fn child(&self, parent: Option<u32>, name: &QName) -> Option<u32>
-        ensures { IsFirstChild self.now.nodes parent name.now result }
+        ensures first { IsFirstChild self.now.nodes parent name.now result }
+        ensures number { result ≡ child_number self.now parent name.now }
     {
         self.nodes.child(parent, name)
     }

@@ -1,4 +1,4 @@
-use Rattle.nc_model.proofs.EditLemmas as lemmas
+use Rattle.nc_model.proofs.PayloadLaws as lemmas
 use Rattle.nc_model.proofs.laws.payload_fits.Goals as goal
 
 pub returns : goal.returns

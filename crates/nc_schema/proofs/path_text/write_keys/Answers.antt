@@ -3,7 +3,7 @@ use Rattle.std.specs.List.{flat_map, zip}
 use Rattle.std.proofs.lemmas.List.{take_all, length_push}
 use Rattle.std.proofs.lemmas.Slice.Zip.{zip_turn, zip_end, length-zip}
 use Rattle.nc_schema.specs.PathTexts.{key_predicate}
-use Rattle.nc_schema.proofs.BeganLemmas.{began_at, written_more, pair_at, err_of}
+use Rattle.nc_schema.proofs.PlaceLemmas.{written_more, pair_at}
 use Rattle.nc_schema.proofs.path_text.write_keys.Goals as goal
 
 pub loop-key-preserved : goal.loop-key-preserved
@@ -18,20 +18,10 @@ loop-key-preserved c =
     let within : place < length (zip keys values) = omega (arith, length-zip keys values, turn.0, turn.1) in
     let more = written_more f (zip keys values) place pair within here in
     let count : length (c.loop-key.yielded ++ (c.in-Some.key, c.in-Some.value) ∷ []) ≡ suc place = length_push c.loop-key.yielded (c.in-Some.key, c.in-Some.value) ∙ add-one place in
-    rw count (c.in_ok-write_key.ensures.ok ∙ ap (λ x. x ++ f pair) c.loop-key.invariant ∙ append_assoc c.args.out.now (flat_map f (take place (zip keys values))) (f pair) ∙ ap (λ x. c.args.out.now ++ x) (sym more))
+    rw count (c.in_ok-write_key.ensures ∙ ap (λ x. x ++ f pair) c.loop-key.invariant ∙ append_assoc c.args.out.now (flat_map f (take place (zip keys values))) (f pair) ∙ ap (λ x. c.args.out.now ++ x) (sym more))
 
-pub returns-in_err-write_key-clause-err : goal.returns-in_err-write_key-clause-err
-returns-in_err-write_key-clause-err c =
-    let keys = c.args.keys.now in
-    let values = c.args.values.now in
-    let place : ℕ = length c.loop-key.yielded in
-    let turn = zip_turn keys values c.loop-key.yielded _ c.loop-key.key-iterator c.next.new.self c.next.result (search rules) (search rules) c.loop-key.yielded_by (c.in-Some.key, c.in-Some.value) c.in-Some.is c.next.ensures.steps in
-    let here = pair_at keys values place c.in-Some.key.now c.in-Some.value.now turn.0 turn.1 (turn.2 _) (turn.3 _) in
-    let within : place < length (zip keys values) = omega (arith, length-zip keys values, turn.0, turn.1) in
-    err_of _ (began_at (λ pair. key_predicate c.args.schema.now pair.0 pair.1) (zip keys values) place (c.in-Some.key.now, c.in-Some.value.now) _ c.loop-key.out _ within here c.loop-key.invariant c.in_err-write_key.ensures.err)
-
-pub returns-clause-ok : goal.returns-clause-ok
-returns-clause-ok c =
+pub returns : goal.returns
+returns c =
     let f = λ (pair : ℕ × List ℕ). key_predicate c.args.schema.now pair.0 pair.1 in
     let pairs = zip c.args.keys.now c.args.values.now in
     let end = zip_end c.args.keys.now c.args.values.now c.loop-key.yielded _ c.loop-key.key-iterator c.next.new.self c.next.result (search rules) (search rules) c.loop-key.yielded_by c.in-None.is c.next.ensures.steps in

@@ -1,7 +1,7 @@
 use Rattle.std.proofs.Common.{rules, ◌≡◌, ◌<◌, ◌++◌, ◌∷◌, [], Some, length, ap, sym, ◌∙◌}
 use Rattle.std.proofs.lemmas.Option.{slice_get-get_or}
 use Rattle.nc_names.specs.Same.{is_same_name}
-use Rattle.nc_schema.specs.Index.{number_of, with_entry}
+use Rattle.nc_schema.specs.inner.Index.{number_of, with_entry}
 use Rattle.nc_schema.specs.declared.index.Index.{Index}
 use Rattle.nc_schema.proofs.IndexLemmas.{index_at_top, index_below, knows_nothing, above_is}
 use Rattle.nc_schema.proofs.index.Index.add.Goals as goal

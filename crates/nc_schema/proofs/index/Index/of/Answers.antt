@@ -1,7 +1,7 @@
 use Rattle.std.proofs.Common.{◌≡◌, ◌<◌, ◌++◌, ◌∷◌, [], ◌+◌, length, take, add-one, ap, sym, subst, ◌∙◌, arith, List}
 use Rattle.std.proofs.Math.Seq.{take-suc}
 use Rattle.std.proofs.lemmas.List.{length-take-le}
-use Rattle.nc_schema.specs.Index.{IsIndexOf}
+use Rattle.nc_schema.specs.inner.Index.{IsIndexOf}
 use Rattle.nc_schema.specs.declared.node.Node.{Node}
 use Rattle.nc_schema.proofs.IndexLemmas.{above_at}
 use Rattle.nc_schema.proofs.index.Index.of.Goals as goal

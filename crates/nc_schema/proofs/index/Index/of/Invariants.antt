@@ -1,5 +1,5 @@
 use Rattle.std.proofs.Common.{take}
-use Rattle.nc_schema.specs.Index.{IsIndexOf}
+use Rattle.nc_schema.specs.inner.Index.{IsIndexOf}
 use Rattle.nc_schema.proofs.index.Index.of.Given as goal
 
 -- the index is of the nodes so far

@@ -1,6 +1,6 @@
 use Rattle.std.proofs.Common.{◌≡◌, List, length, false, sym, subst}
 use Rattle.nc_schema.specs.Children.{IsAbove, HasRoom}
-use Rattle.nc_schema.specs.Index.{IsIndexOf, IsIndexed}
+use Rattle.nc_schema.specs.inner.Index.{IsIndexOf, IsIndexed}
 use Rattle.nc_schema.specs.declared.node.Node.{Node}
 use Rattle.nc_schema.proofs.IndexLemmas.{indexed_more}
 use Rattle.nc_schema.proofs.nodes.Nodes.push.Goals as goal

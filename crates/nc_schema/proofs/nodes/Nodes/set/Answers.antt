@@ -1,6 +1,6 @@
 use Rattle.std.proofs.Common.{◌≡◌, ◌<◌, Bool, true, false, not, List, length, refl, sym, subst, ◌∙◌}
 use Rattle.std.specs.Bool.{OnTrue}
-use Rattle.nc_schema.specs.Index.{IsIndexed, KeepsName}
+use Rattle.nc_schema.specs.inner.Index.{IsIndexed, KeepsName}
 use Rattle.nc_schema.specs.declared.node.Node.{Node}
 use Rattle.nc_schema.proofs.IndexLemmas.{indexed_in_place}
 use Rattle.nc_schema.proofs.nodes.Nodes.set.Goals as goal

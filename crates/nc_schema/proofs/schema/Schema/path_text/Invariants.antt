@@ -1,8 +1,0 @@
-use Rattle.std.proofs.Common.{◌≡◌, ◌++◌, take}
-use Rattle.std.specs.List.{flat_map}
-use Rattle.nc_schema.specs.PathTexts.{step_text}
-use Rattle.nc_schema.proofs.schema.Schema.path_text.Given as goal
-
--- the texts of the steps so far stand there
-abbrev pub invariant-loop-step : goal.invariant-loop-step
-invariant-loop-step l = l.out ≡ l.initial.out ++ flat_map (step_text l.self) (take l.step-index l.step-items)

@@ -1,0 +1,19 @@
+-- What prefixes stand for (Namespaces in XML 1.0, 3; RFC 7950 7.1.4).
+use Rattle.std.specs.Prelude.{ℕ, List, Option, map, option_map}
+use Rattle.std.specs.List.{find}
+use Rattle.nc_names.specs.declared.name.Bound.{Bound}
+use Rattle.nc_names.specs.declared.name.Module.{Module}
+use Rattle.nc_names.specs.Same.{is_same_text}
+use Rattle.nc_schema.specs.Tables.{Tables}
+
+-- the namespace for which a prefix stands; the empty prefix is the default namespace
+abbrev pub space_of : List Bound → List ℕ → Option (List ℕ)
+space_of bounds prefix = option_map (λ bound. bound.space) (find (λ bound. is_same_text bound.prefix prefix) bounds)
+
+-- the bindings of canonical texts: the name of each module stands for its namespace (RFC 7951 6.8, 6.11)
+abbrev pub module_bounds : Tables → List Bound
+module_bounds tables = map (λ found. record { prefix = found.name; space = found.space }) tables.modules
+
+-- the module of a namespace
+abbrev pub module_of : Tables → List ℕ → Option Module
+module_of tables space = find (λ found. is_same_text found.space space) tables.modules

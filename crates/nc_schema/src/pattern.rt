@@ -1,0 +1,42 @@
+//! What path texts name besides paths: patterns of paths, and the ends of leafref paths.
+use nc_names::{Copies, Many, Memory, Text};
+
+/// One step of a pattern: the number of a data node, and for each key of a list entry, or for the one
+/// value of a leaf-list entry, its text, or `None` where the pattern leaves it out.
+#[derive(PartialEq, Eq, Hash, Debug, Drop)]
+pub struct PatternStep {
+    pub node: u32,
+    pub keys: Many<Option<Text>>,
+}
+
+impl Copies for PatternStep {
+    fn copy(&self) -> Result<PatternStep, Memory> {
+        Ok(PatternStep {
+            node: self.node,
+            keys: self.keys.copy()?,
+        })
+    }
+}
+
+/// A path in which keys may be left out: what a `node-instance-identifier` names (RFC 8341 3.5.2).
+/// Without steps it is the root.
+#[derive(PartialEq, Eq, Hash, Debug, Drop)]
+pub struct Pattern {
+    pub steps: Many<PatternStep>,
+}
+
+impl Copies for Pattern {
+    fn copy(&self) -> Result<Pattern, Memory> {
+        Ok(Pattern {
+            steps: self.steps.copy()?,
+        })
+    }
+}
+
+/// Where the path of a leafref ends (RFC 7950 9.9.2): the data node `target`, in the instance of
+/// `above` in which the leaf stands, or in the whole tree where `above` is `None`.
+#[derive(Clone, Copy, PartialEq, Eq, Debug)]
+pub struct LeafrefEnd {
+    pub target: u32,
+    pub above: Option<u32>,
+}

@@ -1,5 +1,5 @@
 -- A prefix is found among the bindings in force.
-use Rattle.std.proofs.Common.{◌≡◌, ℕ, suc, ◌<◌, ◌≤◌, Bool, true, false, cond, not, ◌||◌, List, [], ◌∷◌, ◌++◌, map, filter, fold, take, length, get_or, Option, None, Some, option_map, refl, sym, ap, subst, ◌∙◌, append-nil, arith}
+use Rattle.std.proofs.Common.{◌≡◌, ℕ, suc, ◌<◌, Bool, true, false, cond, not, ◌||◌, List, [], ◌∷◌, ◌++◌, filter, take, length, get_or, Option, None, Some, option_map, refl, sym, ap, ◌∙◌, append-nil}
 use Rattle.std.specs.Prelude.{Result, Ok, Err, IfOk}
 use Rattle.std.specs.Prelude.{IsSome, is_some, ◌&&◌}
 use Rattle.std.specs.List.{list_any}
@@ -9,7 +9,7 @@ use Rattle.std.proofs.lemmas.List.Sums.{fold-append}
 use Rattle.nc_names.specs.Same.{is_same_text}
 use Rattle.nc_names.specs.declared.name.Bound.{Bound}
 use Rattle.nc_message.specs.Bindings.{Declared, declares, inside, space_of, is_empty}
-use Rattle.nc_message.specs.inner.Levels.{in_force, IsTable}
+use Rattle.nc_message.specs.inner.Levels.{in_force}
 
 same_to : (a b : List ℕ) → is_same_text a b ≡ true → a ≡ b
 same_to a b e = (bytes_decides a b).0 e
@@ -139,15 +139,14 @@ pub mapped_none : {A B : Type 0} (f : A → B) (o : Option A) → is_some o ≡ 
 mapped_none f None e = refl
 mapped_none f (Some x) e = absurd (cc e)
 
-
 -- a tag that declares nothing
 pub nothing_declared : (outer : List Bound) (d : Declared) → d.own ≡ [] → d.undeclares ≡ false → outer ≡ inside outer d
 nothing_declared outer d own undeclares =
     let keeps : (b : Bound) → not (declares d b.prefix) ≡ true = λ b. ap (λ l. not (list_any (λ x. is_same_text b.prefix x.prefix) l || (d.undeclares && is_empty b.prefix))) own ∙ ap (λ u. not (u && is_empty b.prefix)) undeclares in
     sym (ap (λ l. filter (λ b. not (declares d b.prefix)) outer ++ l) own ∙ append-nil (filter (λ b. not (declares d b.prefix)) outer) ∙ filtered (λ b. not (declares d b.prefix)) keeps outer) where
-  filtered : (p : Bound → Bool) → ((b : Bound) → p b ≡ true) → (bounds : List Bound) → filter p bounds ≡ bounds
-  filtered p all [] = refl
-  filtered p all (b ∷ more) = ap (λ t. cond t (b ∷ filter p more) (filter p more)) (all b) ∙ ap (λ l. b ∷ l) (filtered p all more)
+      filtered : (p : Bound → Bool) → ((b : Bound) → p b ≡ true) → (bounds : List Bound) → filter p bounds ≡ bounds
+      filtered p all [] = refl
+      filtered p all (b ∷ more) = ap (λ t. cond t (b ∷ filter p more) (filter p more)) (all b) ∙ ap (λ l. b ∷ l) (filtered p all more)
 
 -- whether a tag speaks of a prefix, as it was looked up
 pub spoken : (prefix : List ℕ) (d : Declared) (found : Option (List ℕ)) → found ≡ space_of prefix d.own

@@ -1,6 +1,5 @@
 -- The bindings in force, one after another.
 use Rattle.std.proofs.Common.{◌≡◌, ℕ, Bool, true, false, not, ◌||◌, List, [], ◌∷◌, ◌++◌, filter, fold, refl, sym, ap, ◌∙◌, append-nil, append_assoc, if◌then◌else◌}
-use Rattle.std.specs.List.{list_any}
 use Rattle.nc_names.specs.declared.name.Bound.{Bound}
 use Rattle.nc_message.specs.Bindings.{Declared, declares, inside}
 use Rattle.nc_message.specs.inner.Levels.{in_force, is_replaced, shown}

@@ -1,5 +1,12 @@
 pub mod Bindings
+pub mod Faults
 pub mod Marks
+pub mod Names
+pub mod Pieces
+pub mod Resolved
+pub mod Spells
+pub mod Texts
+pub mod Tokens
 pub mod Unmarked
 pub mod Written
 pub mod inner

@@ -38,12 +38,7 @@ fn has_to_be_declared(prefix: &str) -> bool
 }
 
 /// Declares a prefix at its use, where it has to be declared and was not seen before.
-fn push_use(
-    seen: &mut Prefixes,
-    prefix: &Text,
-    space: &Text,
-    out: &mut Bytes,
-) -> Result<(), Memory>
+fn push_use(seen: &mut Prefixes, prefix: &Text, space: &Text, out: &mut Bytes) -> Result<(), Memory>
     ensures ok { OnOk result (Declares seen.old.seen seen.new.seen out.old out.new
         (record { prefix = prefix.now; space = space.now } ∷ [])) }
     ensures err { OnErr result (Extends out.old out.new) }

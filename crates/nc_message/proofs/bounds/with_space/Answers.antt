@@ -1,4 +1,4 @@
-use Rattle.std.proofs.Common.{◌≡◌, ◌∙◌, sym, ap, Some, None, true, false, cond}
+use Rattle.std.proofs.Common.{◌≡◌, ◌∙◌, sym, ap, Some, None, cond}
 use Rattle.std.specs.BTreeMap.{get}
 use Rattle.std.specs.Ordering.{nat_cmp}
 use Rattle.std.specs.Cmp.Lexicographic.{slice_cmp}
@@ -16,7 +16,7 @@ returns-then-contains_key c = λ own table other.
 pub returns : goal.returns
 returns c = λ own table other.
     let none : space_of c.args.prefix own ≡ None =
-        sym (table c.args.prefix) ∙ none_of (get (slice_cmp nat_cmp) c.args.spaces c.args.prefix) (sym c.contains_key.ensures ∙ c.if-contains_key.false) in
+    sym (table c.args.prefix) ∙ none_of (get (slice_cmp nat_cmp) c.args.spaces c.args.prefix) (sym c.contains_key.ensures ∙ c.if-contains_key.false) in
     c.in_ok-insert.ensures.updates.0 other
     ∙ ap (λ t. cond t (Some c.args.space) (get (slice_cmp nat_cmp) c.args.spaces other)) (is_eq-slice_cmp c.args.prefix other)
     ∙ ap (λ o. cond (is_same_text c.args.prefix other) (Some c.args.space) o) (table other)

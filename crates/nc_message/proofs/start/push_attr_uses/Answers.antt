@@ -1,4 +1,4 @@
-use Rattle.std.proofs.Common.{rules, arith}
+use Rattle.std.proofs.Common.{arith}
 use Rattle.nc_message.proofs.Declaring.{attr_step}
 use Rattle.nc_message.proofs.start.push_attr_uses.Goals as goal
 

@@ -1,4 +1,4 @@
-use Rattle.std.proofs.Common.{rules, subst, sym, ap, ◌∙◌, Bool, List, []}
+use Rattle.std.proofs.Common.{rules, subst, sym, ap, ◌∙◌, Bool}
 use Rattle.nc_message.specs.Written.{is_declarable}
 use Rattle.nc_message.specs.inner.Declaring.{IsAdded}
 use Rattle.nc_message.proofs.Declaring.{not_declared, seen_before, newly_declared}

@@ -1,5 +1,3 @@
-use Rattle.std.proofs.Common.{◌≡◌, ◌∙◌, sym}
-use Rattle.std.specs.Result.{IfOk}
 use Rattle.nc_message.specs.Bindings.{inside}
 use Rattle.nc_message.proofs.Looking.{nothing_declared, ok_as}
 use Rattle.nc_message.proofs.bounds.Bounds.below.Goals as goal

@@ -1,4 +1,4 @@
-use Rattle.std.proofs.Common.{◌≡◌, ◌∙◌, sym, None, true, false}
+use Rattle.std.proofs.Common.{◌≡◌, ◌∙◌, sym, None}
 use Rattle.std.specs.Option.{option_copied}
 use Rattle.nc_message.specs.Bindings.{space_of}
 use Rattle.nc_message.proofs.Looking.{looked, taken_away, left_alone, mapped_some, mapped_none}

@@ -1,0 +1,14 @@
+pub mod Attrs
+pub mod Cases
+pub mod Complete
+pub mod Exact
+pub mod Faulty
+pub mod Goes
+pub mod Going
+pub mod Numbered
+pub mod Resolving
+pub mod Sets
+pub mod Sound
+pub mod Spelled
+pub mod UpTo
+pub mod Utf8

@@ -1,0 +1,38 @@
+//! The names that were read.
+ghost use Rattle.std.specs.Prelude.{◌≡◌, IfOk};
+
+use nc_names::{Copies, Memory, Text};
+use std::alloc::Global;
+use std::collections::BTreeSet;
+
+/// The names that were read, which the elements and attributes that have them share.
+#[derive(Drop)]
+pub(crate) struct Known {
+    alloc: Global,
+    names: BTreeSet<Text>,
+}
+
+impl Known {
+    pub(crate) fn new(alloc: Global) -> Known {
+        Known {
+            alloc,
+            names: BTreeSet::new(alloc),
+        }
+    }
+
+    /// The text of a name, shared with those that were read before.
+    pub(crate) fn name(&mut self, chars: &str) -> Result<Text, Memory>
+        ensures { IfOk result (λ it. it ≡ chars.now) }
+    {
+        if chars.is_empty() {
+            return Ok(Text::new(self.alloc));
+        }
+        let text = Text::from_text(self.alloc, chars)?;
+        if let Some(known) = self.names.get(&text) {
+            return known.copy();
+        }
+        let text = text.shared()?;
+        self.names.insert(text.copy()?)?;
+        Ok(text)
+    }
+}

@@ -1,0 +1,12 @@
+//! Laws of messages, without code.
+ghost use Rattle.nc_message_read.specs.Laws.{OneTree, NoTreeAtFault};
+
+/// A message has one tree.
+pub fn one_tree()
+    ensures { OneTree }
+{}
+
+/// A message with a fault has no tree.
+pub fn no_tree_at_fault()
+    ensures { NoTreeAtFault }
+{}

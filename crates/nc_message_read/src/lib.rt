@@ -1,0 +1,25 @@
+//! The reader of messages: the tree that the bytes of a message spell, or where and why they spell none
+//! (XML 1.0, Namespaces in XML 1.0, RFC 6241 3).
+//!
+//! It stands on the definition of what bytes spell in nc_message. It goes once through the message, token by
+//! token, with a stack of the elements that are open. Namespaces, bindings and names that repeat are shared in
+//! the tree, and what a client names is looked up by order, so time and memory stay near-linear in the message.
+#![tactic(auto)]
+
+mod declared;
+mod known;
+mod laws;
+mod numbers;
+mod open;
+mod read;
+mod reader;
+mod scan;
+mod stack;
+mod start;
+mod stop;
+mod text;
+mod written;
+
+pub use laws::{no_tree_at_fault, one_tree};
+pub use read::read_message;
+pub use stop::MessageFault;

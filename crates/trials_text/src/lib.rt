@@ -5,6 +5,10 @@
 #[cfg(test)]
 mod frames_tests;
 #[cfg(test)]
+mod message_read_tests;
+#[cfg(test)]
+mod message_tests;
+#[cfg(test)]
 mod names_tests;
 #[cfg(test)]
 mod outside_tests;

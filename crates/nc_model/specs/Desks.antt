@@ -35,7 +35,8 @@ own_of seen = filter (λ e. is_own e.event) seen
 
 -- the history grew, an entry of that event is its last, and that is among the desk's own now. A desk that is
 -- alone made all of it
-pub record Entered (Stands : List Entry → List Entry → Type 0) (alone : Bool) (seen mine : List Entry) (event : Event) (e : Entry) : Type 0 where
+pub record Entered (Stands : List Entry → List Entry →
+    Type 0) (alone : Bool) (seen mine : List Entry) (event : Event) (e : Entry) : Type 0 where
   pub event_is : e.event ≡ event
   pub others : List Entry
   pub none : IsTrue alone → others ≡ []
@@ -51,18 +52,21 @@ IsLastNumber true seen ticket = (ticket ≡ most_requests) × (length seen ≡ m
 IsLastNumber false seen ticket = ticket ≡ last_ticket
 
 -- a desk that is spent at that number stands for the lists for which it stood
-pub record IsSpentAt (Stands : List Entry → List Entry → Type 0) (alone : Bool) (seen mine : List Entry) (ticket : ℕ) : Type 0 where
+pub record IsSpentAt (Stands : List Entry → List Entry →
+    Type 0) (alone : Bool) (seen mine : List Entry) (ticket : ℕ) : Type 0 where
   pub last : IsLastNumber alone seen ticket
   pub stands : Stands seen mine
 
 -- an event is entered; or the clock's reading is in its place; or the desk is spent
-abbrev pub Submits : (List Entry → List Entry → Type 0) → Bool → List Entry → List Entry → Event → Result Entry DeskFault → Type 0
+abbrev pub Submits : (List Entry → List Entry → Type 0) → Bool → List Entry → List Entry → Event →
+    Result Entry DeskFault → Type 0
 Submits Stands alone seen mine event (Ok e) = Entered Stands alone seen mine event e
 Submits Stands alone seen mine event (Err DeskMemory) = (e : Entry) × Entered Stands alone seen mine Reading e
 Submits Stands alone seen mine event (Err (DeskSpent ticket)) = IsSpentAt Stands alone seen mine ticket
 
 -- an event is entered that takes no memory
-abbrev pub Enters : (List Entry → List Entry → Type 0) → Bool → List Entry → List Entry → Event → Result Entry Spent → Type 0
+abbrev pub Enters : (List Entry → List Entry → Type 0) → Bool → List Entry → List Entry → Event → Result Entry Spent →
+    Type 0
 Enters Stands alone seen mine event (Ok e) = Entered Stands alone seen mine event e
 Enters Stands alone seen mine event (Err spent) = IsSpentAt Stands alone seen mine spent.ticket
 

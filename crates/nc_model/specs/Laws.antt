@@ -135,11 +135,13 @@ InlineIsConfiguration =
 abbrev pub OpeningIsGood : Type 0
 OpeningIsGood =
     (schema : Tables) (running : List Row) (faults : ℕ) →
-    IsProperSchema schema → IsConfiguration schema running → IsValid schema running → IsGood (opening schema running faults)
+    IsProperSchema schema → IsConfiguration schema running → IsValid schema running →
+    IsGood (opening schema running faults)
 
 -- a good state stays good over every legal history: running is valid throughout
 abbrev pub GoodStays : Type 0
-GoodStays = (first : ℕ) (s : State) (history : List Entry) → IsGood s → IsLegal first s history → IsGood (after s history)
+GoodStays = (first : ℕ) (s : State) (history : List Entry) → IsGood s → IsLegal first s history →
+    IsGood (after s history)
 
 -- what makes an entry, its place aside: its event, the reading of the clock, and what the disk did
 abbrev pub made_from : Entry → Event × ℕ × Bool × ℕ
@@ -149,11 +151,13 @@ made_from e = (e.event, e.at, has_failed e.outcome, e.faults_after)
 abbrev pub HistoryIsDetermined : Type 0
 HistoryIsDetermined =
     (first : ℕ) (opening : State) (history other : List Entry) →
-    IsLegal first opening history → IsLegal first opening other → map made_from history ≡ map made_from other → history ≡ other
+    IsLegal first opening history → IsLegal first opening other → map made_from history ≡ map made_from other →
+    history ≡ other
 
 -- a disk fault is answered only where the count of the disk's faults rose
 abbrev pub DiskFaultHasCause : Type 0
-DiskFaultHasCause = (s : State) (e : Entry) → Fits s e → has_failed e.outcome ≡ true → Rose e.faults_before e.faults_after
+DiskFaultHasCause =
+    (s : State) (e : Entry) → Fits s e → has_failed e.outcome ≡ true → Rose e.faults_before e.faults_after
 
 -- the entry is a commit that is done
 abbrev pub IsCommitDone : Event → Outcome → Type 0
@@ -177,7 +181,8 @@ asks_close asked = false
 -- an entry that ends this session: its End, or its close-session that is done (RFC 6241 7.8)
 abbrev pub EndsSession : ℕ → Event → Outcome → Type 0
 EndsSession session (End own) Ended = own ≡ session
-EndsSession session (Requested own request) (Answered verdict reply) = (own ≡ session) × (asks_close request.asked ≡ true) × (is_done verdict ≡ true)
+EndsSession session (Requested own request) (Answered verdict reply) =
+    (own ≡ session) × (asks_close request.asked ≡ true) × (is_done verdict ≡ true)
 EndsSession session event outcome = ⊥
 
 -- a session that was started, and is found not to be live by a later entry of it, was ended by one between them
@@ -222,7 +227,8 @@ SelectedIsDataTree =
 -- the rows that a filter keeps are rows of the configuration, in their order
 abbrev pub SelectedStandsInRows : Type 0
 SelectedStandsInRows =
-    (tables : Tables) (elem : Elem) (rows : List Row) → (keeps : Row → Bool) × (selected tables elem rows ≡ filter keeps rows)
+    (tables : Tables) (elem : Elem) (rows : List Row) → (keeps : Row → Bool) ×
+    (selected tables elem rows ≡ filter keeps rows)
 
 -- a filter without an element selects nothing (RFC 6241 6.4.2)
 abbrev pub EmptyFilterSelectsNothing : Type 0

@@ -1,4 +1,4 @@
--- The names of modules that stand as prefixes in canonical texts (RFC 7951 6.8, 6.11), and their namespaces.
+-- The names of modules that stand as prefixes in canonical texts, and their namespaces.
 use Rattle.std.specs.Prelude.{◌==◌, ◌||◌, ℕ, zero, suc, Bool, true, false, not, if◌then◌else◌, List, [], ◌∷◌, ◌++◌, length, fold, Option, Some, None, slice_get, option_map}
 use Rattle.std.specs.List.{before_first, filter_map, find, list_any, slice_split}
 use Rattle.std.specs.Option.{option_map_or}

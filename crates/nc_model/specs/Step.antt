@@ -43,12 +43,14 @@ is_full s = length s.sessions == most_sessions || s.last == last_session_id
 -- what comes of a live session's request, where the disk fails or not
 abbrev pub answer_to : State → ℕ → Request → Bool → Outcome
 answer_to s session request failed =
-    let decided = verdict s session request failed in Answered decided (reply_of s.schema (sees_of s session) request decided)
+    let decided =
+    verdict s session request failed in Answered decided (reply_of s.schema (sees_of s session) request decided)
 
 -- what comes of an event
 abbrev pub outcome_of : State → Event → Bool → Outcome
 outcome_of s (Start peer) failed = if is_full s then Full (length s.sessions) s.last else Started (s.last + 1)
-outcome_of s (Requested session request) failed = if is_live s session then answer_to s session request failed else NotLive
+outcome_of s (Requested session request) failed =
+    if is_live s session then answer_to s session request failed else NotLive
 outcome_of s (End session) failed = if is_live s session then Ended else NotLive
 outcome_of s Reading failed = Noted
 
@@ -83,12 +85,14 @@ pub record Fits (s : State) (e : Entry) : Type 0 where
   pub proper : IsProperEvent e.event
   pub outcome : e.outcome ≡ outcome_of (expired s e.at) e.event (has_failed e.outcome)
   pub before : e.faults_before ≡ s.faults
-  pub faults : CountsFaults (reaches_disk (expired s e.at) e.event) (has_failed e.outcome) e.faults_before e.faults_after
+  pub faults : CountsFaults (reaches_disk (expired s e.at) e.event)
+      (has_failed e.outcome) e.faults_before e.faults_after
 
 -- the candidate gets rows, if any: it is as before where these are its own
 abbrev pub with_candidate : State → Option (List Row) → State
 with_candidate s None = s
-with_candidate s (Some rows) = if is_same_rows rows (candidate_in_force s) then s else record s { candidate = Some rows }
+with_candidate s (Some rows) =
+    if is_same_rows rows (candidate_in_force s) then s else record s { candidate = Some rows }
 
 abbrev pub rows_of_ok : Result (List Row) Cause → Option (List Row)
 rows_of_ok (Ok rows) = Some rows
@@ -100,7 +104,8 @@ abbrev pub changed_by : State → ℕ → Asked → Verdict → State
 changed_by s session (EditConfig target default_operation test on_error config) verdict =
     with_candidate s (rows_set s.schema test (edits_made s session target default_operation on_error config))
 changed_by s session (CopyConfig target source) verdict = with_candidate s (rows_of_ok (copied s session target source))
-changed_by s session (Commit confirmed timeout persist persist_id) Done = record s { running = candidate_in_force s; candidate = None }
+changed_by s session (Commit confirmed timeout persist persist_id) Done =
+    record s { running = candidate_in_force s; candidate = None }
 changed_by s session DiscardChanges Done = record s { candidate = None }
 changed_by s session CloseSession Done = session_ended s session
 changed_by s session asked verdict = s
@@ -111,7 +116,8 @@ answered s session (Ok asked) verdict = changed_by s session asked verdict
 
 -- what an event changes, by what came of it
 abbrev pub changed : State → Event → Outcome → State
-changed s (Start peer) (Started number) = record s { sessions = s.sessions ++ record { number = number; peer = peer } ∷ []; last = number }
+changed s (Start peer) (Started number) =
+    record s { sessions = s.sessions ++ record { number = number; peer = peer } ∷ []; last = number }
 changed s (Requested session request) (Answered verdict reply) = answered s session request.asked verdict
 changed s (End session) Ended = session_ended s session
 changed s event outcome = s

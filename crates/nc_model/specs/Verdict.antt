@@ -79,7 +79,8 @@ is_target Candidate = true
 is_target store = false
 
 abbrev pub unsupported : (Datastore → Bool) → Datastore → Option Cause
-unsupported is_offered store = cause_where (not (is_offered store)) (cause_of UnsupportedTarget (datastore_name store ∷ []))
+unsupported is_offered store =
+    cause_where (not (is_offered store)) (cause_of UnsupportedTarget (datastore_name store ∷ []))
 
 abbrev pub unsupported_origin : Origin → Option Cause
 unsupported_origin (Store store) = unsupported is_source store
@@ -108,12 +109,14 @@ violation_in tables rows = option_map violation_cause (slice_get (violations tab
 -- edit-config (RFC 6241 7.2): the edits are made on the candidate in force, as the error-option says
 abbrev pub made_by : State → ℕ → ErrorOption → Result (List Edit) Cause → Result Applied Cause
 made_by s session on_error (Err cause) = Err cause
-made_by s session on_error (Ok edits) = Ok (applied s.schema (rights_of s session) on_error (candidate_in_force s) edits)
+made_by s session on_error (Ok edits) =
+    Ok (applied s.schema (rights_of s session) on_error (candidate_in_force s) edits)
 
 -- why no edit is made, or what the edits leave and why some of them are refused
 abbrev pub edits_made : State → ℕ → Datastore → Default3 → ErrorOption → Elem → Result Applied Cause
 edits_made s session target default_operation on_error config =
-    result_unless (unsupported is_target target) (made_by s session on_error (edits_of s.schema default_operation config))
+    result_unless (unsupported is_target target)
+    (made_by s session on_error (edits_of s.schema default_operation config))
 
 -- the test-option: what the edits leave is tested, and is set unless it is not valid or only tested
 abbrev pub causes_of_test : Tables → TestOption → List Row → List Cause
@@ -137,7 +140,8 @@ rows_set tables TestOnly (Ok made) = None
 -- 3.4.5)
 abbrev pub denied_among : (Path → Right → Decision) → Right → List Path → Option Cause
 denied_among rights right paths =
-    option_map (λ path. cause_at DataDenied path (decision_names right (rights path right).by)) (find (λ path. not (rights path right).permit) paths)
+    option_map (λ path. cause_at DataDenied path (decision_names right (rights path right).by))
+    (find (λ path. not (rights path right).permit) paths)
 
 abbrev pub changes_denied : (Path → Right → Decision) → Changes → Option Cause
 changes_denied rights changes =
@@ -156,12 +160,14 @@ rows_copied s session (Inline config) = rows_of s.schema config
 abbrev pub unless_denied : State → ℕ → Result (List Row) Cause → Result (List Row) Cause
 unless_denied s session (Err cause) = Err cause
 unless_denied s session (Ok rows) =
-    result_unless (changes_denied (rights_of s session) (changes_between s.schema (candidate_in_force s) rows)) (Ok rows)
+    result_unless (changes_denied (rights_of s session) (changes_between s.schema (candidate_in_force s) rows))
+    (Ok rows)
 
 abbrev pub copied : State → ℕ → Datastore → Origin → Result (List Row) Cause
 copied s session target source =
     result_unless (option_or (unsupported is_target target)
-    (option_or (unsupported_origin source) (cause_where (is_same_store target source) (cause_of BadParameter (source_word ∷ [])))))
+    (option_or (unsupported_origin source)
+    (cause_where (is_same_store target source) (cause_of BadParameter (source_word ∷ [])))))
     (unless_denied s session (rows_copied s session source))
 
 abbrev pub done_where : {A : Type 0} → Result A Cause → Verdict
@@ -192,13 +198,15 @@ kept_unless false = Done
 -- the verdict on what is asked, where the disk fails or not
 abbrev pub asked_verdict : State → ℕ → Asked → Bool → Verdict
 asked_verdict s session (Get filter) failed = Selected (shown s session Running filter)
-asked_verdict s session (GetConfig source filter) failed = checked (unsupported is_source source) (Selected (shown s session source filter))
+asked_verdict s session (GetConfig source filter) failed =
+    checked (unsupported is_source source) (Selected (shown s session source filter))
 asked_verdict s session (EditConfig target default_operation test on_error config) failed =
     edit_verdict s.schema test (edits_made s session target default_operation on_error config)
 asked_verdict s session (CopyConfig target source) failed = done_where (copied s session target source)
 asked_verdict s session (DeleteConfig target) failed = refused_for UnsupportedTarget (datastore_name target ∷ [])
 asked_verdict s session CloseSession failed = Done
-asked_verdict s session (Commit confirmed timeout persist persist_id) failed = checked (commit_refusal s session confirmed persist_id) (kept_unless failed)
+asked_verdict s session (Commit confirmed timeout persist persist_id) failed =
+    checked (commit_refusal s session confirmed persist_id) (kept_unless failed)
 asked_verdict s session DiscardChanges failed = Done
 asked_verdict s session (Validate source) failed = validated s.schema (rows_to_validate s source)
 asked_verdict s session asked failed = refused_for UnknownOperation []
@@ -223,7 +231,8 @@ exec_denied decision = cause_where (not decision.permit) (cause_of ExecDenied (d
 abbrev pub operation_refused : State → ℕ → Option Operation → Option Cause
 operation_refused s session None = None
 operation_refused s session (Some operation) =
-    option_or (cause_where (not (is_offered operation)) (cause_of UnknownOperation [])) (exec_denied (exec_of s session operation))
+    option_or (cause_where (not (is_offered operation)) (cause_of UnknownOperation []))
+    (exec_denied (exec_of s session operation))
 
 abbrev pub verdict_on : State → ℕ → Result Asked Cause → Bool → Verdict
 verdict_on s session (Err cause) failed = Refused (cause ∷ [])
@@ -231,4 +240,5 @@ verdict_on s session (Ok asked) failed = asked_verdict s session asked failed
 
 -- the verdict on a live session's request, where the disk fails or not
 abbrev pub verdict : State → ℕ → Request → Bool → Verdict
-verdict s session request failed = checked (operation_refused s session request.operation) (verdict_on s session request.asked failed)
+verdict s session request failed =
+    checked (operation_refused s session request.operation) (verdict_on s session request.asked failed)

@@ -10,7 +10,7 @@ use Rattle.nc_schema.specs.Tables.{Tables}
 abbrev pub space_of : List Bound → List ℕ → Option (List ℕ)
 space_of bounds prefix = option_map (λ bound. bound.space) (find (λ bound. is_same_text bound.prefix prefix) bounds)
 
--- the bindings of canonical texts: the name of each module stands for its namespace (RFC 7951 6.8, 6.11)
+-- the bindings of canonical texts: the name of each module stands for its namespace
 abbrev pub module_bounds : Tables → List Bound
 module_bounds tables = map (λ found. record { prefix = found.name; space = found.space }) tables.modules
 

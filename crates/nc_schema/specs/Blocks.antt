@@ -15,14 +15,18 @@ use Rattle.std.specs.Prelude.{ℕ, Bool, List, None, Option, [], false, if◌the
 
 -- the rows that a node has by itself: an entry with those of its keys; none at a container without presence
 abbrev pub own_rows : Kind → List ℕ → Path → List (List ℕ) → Option (List ℕ) → List Row
-own_rows (Container presence) keys path values value = if presence then record { path = path; value = None } ∷ [] else []
+own_rows (Container presence) keys path values value =
+    if presence then record { path = path; value = None } ∷ [] else []
 own_rows Leaf keys path values value = record { path = path; value = value } ∷ []
 own_rows LeafList keys path values value = record { path = path; value = value } ∷ []
 own_rows ListKind keys path values value = record { path = path; value = None } ∷ key_rows path.steps keys values
 
 abbrev pub rows_of_node : Tables → Path → Option (List ℕ) → List Row
 rows_of_node tables path value =
-    option_map_or (λ node. own_rows node.kind node.keys path (option_map_or (λ step. step.keys) (last_or None path.steps) []) value) (node_of tables path.steps) []
+    option_map_or
+    (λ node.
+    own_rows node.kind node.keys path (option_map_or (λ step. step.keys) (last_or None path.steps) []) value)
+    (node_of tables path.steps) []
 
 abbrev pub at_node : Tables → Path → (Kind → Bool) → Bool
 at_node tables path test = option_map_or (λ node. test node.kind) (node_of tables path.steps) false
@@ -30,7 +34,9 @@ at_node tables path test = option_map_or (λ node. test node.kind) (node_of tabl
 -- the other rows: those of other cases go (RFC 7950 7.9)
 abbrev pub other_rows : Tables → List Row → List Step → List Row → List Row
 other_rows tables rows steps block =
-    filter (λ row. not (is_at_or_below steps row.path || list_any (λ added. excludes tables added.path.steps row.path.steps) block)) rows
+    filter (λ row.
+    not (is_at_or_below steps row.path
+    || list_any (λ added. excludes tables added.path.steps row.path.steps) block)) rows
 
 -- the block in its place among the other rows
 abbrev pub with_block : Tables → List Row → Path → Place → List Row → List Row

@@ -14,7 +14,8 @@ IsChild parent name node = (node.parent ≡ parent) × (node.name ≡ name)
 abbrev pub IsFirstChild : List Node → Option ℕ → QName → Option ℕ → Type 0
 IsFirstChild nodes parent name None = All (λ node. ¬ IsChild parent name node) nodes
 IsFirstChild nodes parent name (Some number) =
-    ((node : Node) × (slice_get nodes number ≡ Some node) × IsChild parent name node) × All (λ node. ¬ IsChild parent name node) (take number nodes)
+    ((node : Node) × (slice_get nodes number ≡ Some node) × IsChild parent name node) ×
+    All (λ node. ¬ IsChild parent name node) (take number nodes)
 
 -- a parent has a lower number than the nodes in it
 abbrev pub IsAbove : Option ℕ → ℕ → Type 0
@@ -40,4 +41,5 @@ is_same_number a b = false
 
 -- the number of the first data node of that name in that parent, or at the top
 abbrev pub child_number : Tables → Option ℕ → QName → Option ℕ
-child_number tables parent name = position (λ node. is_same_number node.parent parent && is_same_name node.name name) tables.nodes
+child_number tables parent name =
+    position (λ node. is_same_number node.parent parent && is_same_name node.name name) tables.nodes

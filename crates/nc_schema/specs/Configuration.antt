@@ -38,12 +38,14 @@ IsRowValue ListKind step value = value ≡ None
 
 abbrev pub HasItsValue : Tables → Row → Type 0
 HasItsValue tables row =
-    (above : List Step) (step : Step) (node : Node) → LeadsTo tables above step node row → IsRowValue node.kind step row.value
+    (above : List Step) (step : Step) (node : Node) → LeadsTo tables above step node row →
+    IsRowValue node.kind step row.value
 
 -- the value of a row, if it has one, is such at its node
 abbrev pub HasValueThat : (ℕ → List ℕ → Type 0) → Tables → Row → Type 0
 HasValueThat IsSuch tables row =
-    (above : List Step) (step : Step) (node : Node) → LeadsTo tables above step node row → IfSome row.value (IsSuch step.node)
+    (above : List Step) (step : Step) (node : Node) → LeadsTo tables above step node row →
+    IfSome row.value (IsSuch step.node)
 
 -- the value of a row is the canonical text of a value of its node's type (RFC 7950 9.1)
 abbrev pub HasCanonicalValue : Tables → Row → Type 0
@@ -52,7 +54,11 @@ HasCanonicalValue tables row = HasValueThat (IsCanonical tables) tables row
 -- the rows of the keys of a list entry (RFC 7950 7.8.2)
 abbrev pub key_rows : List Step → List ℕ → List (List ℕ) → List Row
 key_rows entry keys values =
-    map (λ pair. record { path = record { steps = entry ++ record { node = pair.0; keys = [] } ∷ [] }; value = Some pair.1 }) (zip keys values)
+    map (λ pair. record {
+      path =
+          record { steps = entry ++ record { node = pair.0; keys = [] } ∷ [] };
+      value = Some pair.1;
+    }) (zip keys values)
 
 -- the row of a list entry is followed at once by those of its keys
 abbrev pub KeysFollow : Tables → List Row → Type 0

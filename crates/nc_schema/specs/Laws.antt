@@ -14,7 +14,8 @@ use Rattle.nc_schema.specs.Order.{IsSystemOrdered, IsBefore}
 -- no path is before itself, and what is before a path is before all that the path is before
 pub record OrderIsStrict : Type 0 where
   pub irreflexive : (tables : Tables) (path : Path) → ¬ IsBefore tables path path
-  pub transitive : (tables : Tables) (path middle other : Path) → IsBefore tables path middle → IsBefore tables middle other → IsBefore tables path other
+  pub transitive : (tables : Tables) (path middle other : Path) → IsBefore tables path middle →
+      IsBefore tables middle other → IsBefore tables path other
 
 -- the system orders each node on the path
 abbrev pub IsSystemOrderedPath : Tables → Path → Type 0
@@ -40,7 +41,8 @@ EmptyIsDataTree = (tables : Tables) → IsDataTree tables []
 -- where the system orders every node, each row of a data tree is before all later ones
 abbrev pub RowsRise : Type 0
 RowsRise =
-    (tables : Tables) (rows : List Row) → IsDataTree tables rows → All (λ row. IsSystemOrderedPath tables row.path) rows →
+    (tables : Tables) (rows : List Row) → IsDataTree tables rows →
+    All (λ row. IsSystemOrderedPath tables row.path) rows →
     AllPairs (λ row later. IsBefore tables row.path later.path) rows
 
 -- so there is one list of the same rows

@@ -24,7 +24,8 @@ HasAllKeys node step = length step.keys ≡ key_count node.kind (length node.key
 -- list is named without an entry
 abbrev pub IsStepIn : Tables → Option ℕ → Step → Type 0
 IsStepIn tables above step =
-    IsSomeAnd (slice_get tables.nodes step.node) (λ node. (node.parent ≡ above) × (HasAllKeys node step ⊎ (step.keys ≡ [])))
+    IsSomeAnd (slice_get tables.nodes step.node) (λ node. (node.parent ≡ above) ×
+    (HasAllKeys node step ⊎ (step.keys ≡ [])))
 
 -- each step is in the node of the step before
 abbrev pub LeadDown : Tables → Option ℕ → List Step → Type 0

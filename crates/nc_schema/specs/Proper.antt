@@ -25,7 +25,8 @@ pub record IsProperModule (found : Module) : Type 0 where
 -- a data node stands in a container or a list, which has a lower number (RFC 7950 7.5, 7.8)
 abbrev pub StandsIn : Tables → ℕ → Option ℕ → Type 0
 StandsIn tables number parent =
-    IfSome parent (λ above. (above < number) × IsSomeAnd (slice_get tables.nodes above) (λ over. IsTrue (holds_nodes over.kind)))
+    IfSome parent (λ above. (above < number) ×
+    IsSomeAnd (slice_get tables.nodes above) (λ over. IsTrue (holds_nodes over.kind)))
 
 -- its name is an identifier in the namespace of its module (RFC 7950 5.3, 6.2)
 pub record IsNamed (tables : Tables) (node : Node) : Type 0 where
@@ -79,7 +80,8 @@ HasItsDefaults node = IsTrue (is_leaf node.kind) → length node.defaults ≤ 1
 abbrev pub TurnsAbove : Tables → ℕ → Node → Type 0
 TurnsAbove tables number node =
     (target above : ℕ) (required : Bool) →
-    slice_get tables.types node.kind_of_value ≡ Some (Leafref target (Some above) required) → IsTrue (has_value node.kind) →
+    slice_get tables.types node.kind_of_value ≡ Some (Leafref target (Some above) required) →
+    IsTrue (has_value node.kind) →
     (between : List ℕ) × IsChain tables above (between ++ number ∷ [])
 
 -- an identity is one of a module (RFC 7950 7.18)
@@ -92,7 +94,8 @@ IsProperType tables (Decimal digits among) = (1 ≤ digits) × (digits ≤ 18)
 IsProperType tables (Bits names) = AllPairs (λ name later. name ≢ later) names
 IsProperType tables (Union members) = All (λ member. IsSome (slice_get tables.types member)) members
 IsProperType tables (Identity among) = All (IsIdentityOf tables) among
-IsProperType tables (Leafref target above required) = IsSomeAnd (slice_get tables.nodes target) (λ node. IsTrue (has_value node.kind))
+IsProperType tables (Leafref target above required) =
+    IsSomeAnd (slice_get tables.nodes target) (λ node. IsTrue (has_value node.kind))
 IsProperType tables other = Unit {0}
 
 -- a schema that modules define
@@ -111,7 +114,8 @@ pub record IsProperSchema (tables : Tables) : Type 0 where
   pub cases : EachNode tables (λ number node. AreNested tables node.parent node.cases)
   pub outer_cases : All (λ choice. AreNested tables choice.parent choice.within) tables.choices
   -- a leaf and a leaf-list have a type (RFC 7950 7.6.3, 7.7.3)
-  pub typed : EachNode tables (λ number node. IsTrue (has_value node.kind) → IsSome (slice_get tables.types node.kind_of_value))
+  pub typed : EachNode tables (λ number node. IsTrue (has_value node.kind) →
+      IsSome (slice_get tables.types node.kind_of_value))
   pub types : All (IsProperType tables) tables.types
   pub uniques : EachNode tables (HasItsUniques tables)
   pub defaults : EachNode tables (λ number node. HasItsDefaults node)

@@ -40,7 +40,8 @@ above_of (step ∷ rest) = [] ∷ map (λ above. step ∷ above) (above_of rest)
 -- an entry or a container with presence above the node does not exist
 abbrev pub lacks_above : Tables → List Row → List Step → Bool
 lacks_above tables rows steps =
-    list_any (λ above. option_map_or (λ node. stands_for_itself node.kind) (node_of tables above) false && not (has_row rows above)) (above_of steps)
+    list_any (λ above. option_map_or (λ node. stands_for_itself node.kind) (node_of tables above) false
+    && not (has_row rows above)) (above_of steps)
 
 -- the keys in a path to an entry of that list, or the value in one to an entry of that leaf-list
 abbrev pub keys_in : List Step → ℕ → List Step → Option (List (List ℕ))
@@ -63,11 +64,13 @@ kept_or_last keys order = if has_entry keys order then order else order ++ keys 
 
 abbrev pub put_before : List (List ℕ) → List (List ℕ) → List (List (List ℕ)) → List (List (List ℕ))
 put_before anchor keys [] = []
-put_before anchor keys (entry ∷ more) = if is_same_keys entry anchor then keys ∷ entry ∷ more else entry ∷ put_before anchor keys more
+put_before anchor keys (entry ∷ more) =
+    if is_same_keys entry anchor then keys ∷ entry ∷ more else entry ∷ put_before anchor keys more
 
 abbrev pub put_after : List (List ℕ) → List (List ℕ) → List (List (List ℕ)) → List (List (List ℕ))
 put_after anchor keys [] = []
-put_after anchor keys (entry ∷ more) = if is_same_keys entry anchor then entry ∷ keys ∷ more else entry ∷ put_after anchor keys more
+put_after anchor keys (entry ∷ more) =
+    if is_same_keys entry anchor then entry ∷ keys ∷ more else entry ∷ put_after anchor keys more
 
 -- the entries in their order once one is put in its place (RFC 7950 7.7.9, 7.8.6). One that is put
 -- beside itself keeps its place
@@ -75,14 +78,17 @@ abbrev pub placed : Place → List (List ℕ) → List (List (List ℕ)) → Lis
 placed Kept keys order = kept_or_last keys order
 placed First keys order = keys ∷ without_entry keys order
 placed Last keys order = without_entry keys order ++ keys ∷ []
-placed (Before anchor) keys order = if is_same_keys anchor keys then kept_or_last keys order else put_before anchor keys (without_entry keys order)
-placed (After anchor) keys order = if is_same_keys anchor keys then kept_or_last keys order else put_after anchor keys (without_entry keys order)
+placed (Before anchor) keys order =
+    if is_same_keys anchor keys then kept_or_last keys order else put_before anchor keys (without_entry keys order)
+placed (After anchor) keys order =
+    if is_same_keys anchor keys then kept_or_last keys order else put_after anchor keys (without_entry keys order)
 
 -- one entry stands before another
 abbrev pub stands_before : List (List (List ℕ)) → List (List ℕ) → List (List ℕ) → Bool
 stands_before [] keys others = false
 stands_before (entry ∷ more) keys others =
-    if is_same_keys entry others then false else (if is_same_keys entry keys then true else stands_before more keys others)
+    if is_same_keys entry others then false
+    else (if is_same_keys entry keys then true else stands_before more keys others)
 
 abbrev pub is_less : Ordering → Bool
 is_less Less = true
@@ -96,12 +102,14 @@ is_by_user tables number = option_map_or (λ node. node.by_user) (slice_get tabl
 -- their keys (RFC 7950 7.7.7)
 abbrev pub entry_before : Tables → List (List (List ℕ)) → Step → Step → Bool
 entry_before tables order step other =
-    if is_by_user tables step.node then stands_before order step.keys other.keys else is_less (slice_cmp (slice_cmp nat_cmp) step.keys other.keys)
+    if is_by_user tables step.node then stands_before order step.keys other.keys
+    else is_less (slice_cmp (slice_cmp nat_cmp) step.keys other.keys)
 
 -- one of two siblings before the other, in document order
 abbrev pub sibling_before : Tables → List ℕ → List (List (List ℕ)) → Step → Step → Bool
 sibling_before tables keys order step other =
-    ltb (sibling_place keys step.node) (sibling_place keys other.node) || (step.node == other.node && entry_before tables order step other)
+    ltb (sibling_place keys step.node) (sibling_place keys other.node)
+    || (step.node == other.node && entry_before tables order step other)
 
 -- the place is that of the path's last step; above it every entry keeps its own
 abbrev pub place_at : Place → List Step → Place
@@ -120,7 +128,8 @@ steps_before tables rows place above (step ∷ steps) (other ∷ others) =
 
 -- one list has a case of a choice of which the other has another case (RFC 7950 7.9)
 abbrev pub cases_differ : List Case → List Case → Bool
-cases_differ some others = list_any (λ one. list_any (λ other. one.choice == other.choice && not (one.case == other.case)) others) some
+cases_differ some others =
+    list_any (λ one. list_any (λ other. one.choice == other.choice && not (one.case == other.case)) others) some
 
 abbrev pub cases_of : Tables → ℕ → List Case
 cases_of tables number = option_map_or (λ node. node.cases) (slice_get tables.nodes number) []
@@ -128,5 +137,6 @@ cases_of tables number = option_map_or (λ node. node.cases) (slice_get tables.n
 -- a node excludes another: they belong to two cases of one choice
 abbrev pub excludes : Tables → List Step → List Step → Bool
 excludes tables (step ∷ steps) (other ∷ others) =
-    if is_same_step step other then excludes tables steps others else cases_differ (cases_of tables step.node) (cases_of tables other.node)
+    if is_same_step step other then excludes tables steps others
+    else cases_differ (cases_of tables step.node) (cases_of tables other.node)
 excludes tables steps others = false

@@ -82,7 +82,7 @@ identity_name bounds text =
     if length prefix == 0 then None else name_in (space_of bounds prefix) (after_first (λ c. c == colon) text))
     else name_in (space_of bounds []) text
 
--- one of the identities, with the name of its module as prefix (RFC 7951 6.8)
+-- one of the identities, with the name of its module as prefix
 unfoldable pub identity_text : Tables → List QName → List Bound → List ℕ → Option (List ℕ)
 identity_text tables among bounds text = do
   name ← identity_name bounds text
@@ -121,7 +121,7 @@ canonical_steps tables gives (step ∷ rest) = do
   more ← canonical_steps tables gives rest
   Some (record { node = step.node; keys = keys } ∷ more)
 
--- the text of the path, with canonical keys, that an instance identifier names (RFC 7951 6.11)
+-- the text of the path, with canonical keys, that an instance identifier names
 unfoldable pub instance_text : Tables → (keys : List Bound → Gives) → List Bound → List ℕ → Option (List ℕ)
 instance_text tables keys bounds text = do
   path ← instance_path tables text bounds

@@ -3,7 +3,7 @@
 //! `nc_names`.
 //!
 //! Its specifications hold what every crate above shares: what a path of a schema is, the text of a
-//! path (RFC 7950 9.13, RFC 7951 6.11), document order, and what list of rows is a configuration
+//! path (RFC 7950 9.13), document order, and what list of rows is a configuration
 //! (RFC 7950 7.5 to 7.9).
 #![tactic(auto)]
 

@@ -44,3 +44,4 @@ pub mod PrintedExample
 pub mod RepliesExample
 pub mod FilterExample
 pub mod FilterLemmas
+pub mod SessionExample

@@ -10,7 +10,7 @@ use Rattle.nc_names.specs.Mark.{mark, with_mark}
 use Rattle.nc_names.specs.declared.name.Module.{Module}
 use Rattle.nc_message.specs.declared.tree.Tree.{Tree}
 use Rattle.nc_outside.specs.Causes.{TookPart}
-use Rattle.nc_outside.specs.Streams.{Streams, SameCounts}
+use Rattle.nc_outside.specs.Streams.{Streams}
 use Rattle.nc_outside.proofs.Known.{prepend_twice, prepend_nothing, append_twice, took_more, took_whole, took_nothing}
 use Rattle.nc_session.specs.inner.Waiting.{Waiting}
 use Rattle.nc_session.specs.Reading.{Message, IsReading, IsRead, capped}
@@ -23,7 +23,7 @@ use Rattle.nc_session.specs.declared.ask.Operation.TheVariants.{GetConfig, Close
 use Rattle.nc_session.specs.declared.end.HelloFault.{HelloFault}
 use Rattle.nc_session.specs.Session.{Phase, Greeting, Serving, Over, Progress, session, step, opening, answer_in, greeting_answer, phase_after, serving}
 use Rattle.nc_session.specs.inner.Sending.{IsSendFault}
-use Rattle.nc_session.specs.Served.{framed, GoesOn, Exchanged, Counts}
+use Rattle.nc_session.specs.Served.{framed, GoesOn, Exchanged}
 use Rattle.nc_session.specs.inner.Turn.{Takes, Turns, Answers, Stops, Underway, Responds, answer_for}
 use Rattle.nc_names.specs.Limits.{message_limit, most_requests}
 use Rattle.nc_session.specs.declared.end.SessionEnd.{SessionEnd}

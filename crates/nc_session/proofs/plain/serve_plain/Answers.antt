@@ -1,10 +1,9 @@
 use Rattle.std.proofs.Common.{◌≡◌, ℕ, Some, refl, ap, ◌∙◌, subst, true, false, arith}
 use Rattle.nc_names.specs.Limits.{most_requests}
-use Rattle.nc_outside.specs.Streams.{Streams, streams, SameCounts}
+use Rattle.nc_outside.specs.Streams.{streams}
 use Rattle.nc_session.specs.inner.Waiting.{Waiting}
 use Rattle.nc_session.specs.Session.{Phase, Greeting, Serving, serving}
 use Rattle.nc_session.specs.inner.Turn.{Underway}
-use Rattle.nc_session.specs.declared.end.SessionEnd.TheVariants.{Spent}
 use Rattle.nc_session.proofs.Counting.{same_counts, memory_counts, spent_counts, counts_later, same_later, writes_count, writes_same}
 use Rattle.nc_session.proofs.Turning.{unbegun, ungreeted, underway_start, turned, ended, serving_below, spent}
 use Rattle.nc_session.proofs.plain.serve_plain.Goals as goal
@@ -43,7 +42,7 @@ pub loop-answered-preserved : goal.loop-answered-preserved
 loop-answered-preserved g c =
     let n = c.loop-answered._answered in
     let here = subst (λ (p : Phase). Underway c.args.served_module.now p c.loop-answered.talk.inbox
-    (streams (g.S.Source.left c.args.source.now) (g.S.Source.ends c.args.source.now) (g.S.Source.faults c.args.source.now) (g.K.Sink.taken c.args.sink.now) (g.K.Sink.faults c.args.sink.now)) (streams (g.S.Source.left c.loop-answered.source) (g.S.Source.ends c.loop-answered.source) (g.S.Source.faults c.loop-answered.source) (g.K.Sink.taken c.loop-answered.sink) (g.K.Sink.faults c.loop-answered.sink))) (serving_below n c.loop-answered-test.true) c.loop-answered.invariant.0 in (
+    (streams (g.S.Source.left c.args.source.now) (g.S.Source.ends c.args.source.now) (g.S.Source.faults c.args.source.now) (g.K.Sink.taken c.args.sink.now) (g.K.Sink.faults c.args.sink.now)) (streams (g.S.Source.left c.loop-answered.source) (g.S.Source.ends c.loop-answered.source) (g.S.Source.faults c.loop-answered.source) (g.K.Sink.taken c.loop-answered.sink) (g.K.Sink.faults c.loop-answered.sink))) (serving_below n (omega (arith, c.loop-answered-test.true))) c.loop-answered.invariant.0 in (
       turned c.args.served_module.now false (Serving n) _ _ _ _ _ tt here c.in_default-turn-2.ensures.turn,
       same_later _ _ _ c.loop-answered.invariant.1 c.in_default-turn-2.ensures.counts,
     )
@@ -52,7 +51,7 @@ pub returns-in-Err-turn-2 : goal.returns-in-Err-turn-2
 returns-in-Err-turn-2 g c =
     let n = c.loop-answered._answered in
     let here = subst (λ (p : Phase). Underway c.args.served_module.now p c.loop-answered.talk.inbox
-    (streams (g.S.Source.left c.args.source.now) (g.S.Source.ends c.args.source.now) (g.S.Source.faults c.args.source.now) (g.K.Sink.taken c.args.sink.now) (g.K.Sink.faults c.args.sink.now)) (streams (g.S.Source.left c.loop-answered.source) (g.S.Source.ends c.loop-answered.source) (g.S.Source.faults c.loop-answered.source) (g.K.Sink.taken c.loop-answered.sink) (g.K.Sink.faults c.loop-answered.sink))) (serving_below n c.loop-answered-test.true) c.loop-answered.invariant.0 in
+    (streams (g.S.Source.left c.args.source.now) (g.S.Source.ends c.args.source.now) (g.S.Source.faults c.args.source.now) (g.K.Sink.taken c.args.sink.now) (g.K.Sink.faults c.args.sink.now)) (streams (g.S.Source.left c.loop-answered.source) (g.S.Source.ends c.loop-answered.source) (g.S.Source.faults c.loop-answered.source) (g.K.Sink.taken c.loop-answered.sink) (g.K.Sink.faults c.loop-answered.sink))) (serving_below n (omega (arith, c.loop-answered-test.true))) c.loop-answered.invariant.0 in
     record {
       exchanged = ended c.args.served_module.now false (Serving n) _ _ _ _ _ tt here c.in-Err-turn-2.end c.in-Err-turn-2.ensures.turn;
       counts = counts_later _ _ _ _ c.loop-answered.invariant.1 c.in-Err-turn-2.ensures.counts;

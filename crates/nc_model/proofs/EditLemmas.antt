@@ -46,14 +46,14 @@ use Rattle.nc_model.proofs.WithBlock.{block_keeps_tree}
 use Rattle.nc_schema.proofs.ProperLemmas.{proper_nodes}
 
 -- no cause is the first: the first is none
-no_first : (one : Option Cause) (more : List (Option Cause)) → first_cause (one ∷ more) ≡ None → (one ≡ None) × (first_cause more ≡ None)
+pub no_first : (one : Option Cause) (more : List (Option Cause)) → first_cause (one ∷ more) ≡ None → (one ≡ None) × (first_cause more ≡ None)
 no_first None more e = (refl, e)
 no_first (Some cause) more e = cc
 
 pub ok_same : (rows others : List Row) → unless_refused None rows ≡ Ok others → rows ≡ others
 ok_same rows others e = cc
 
-no_cause : (b : Bool) (cause : Cause) → cause_where b cause ≡ None → b ≡ false
+pub no_cause : (b : Bool) (cause : Cause) → cause_where b cause ≡ None → b ≡ false
 no_cause true cause e = cc
 no_cause false cause e = refl
 

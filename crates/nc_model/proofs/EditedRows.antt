@@ -129,7 +129,7 @@ below_of tables rows path (Replace new) fits = fits.rows.below
 below_of tables rows path Delete fits = λ k d within. absurd (omega (arith, within))
 below_of tables rows path Remove fits = λ k d within. absurd (omega (arith, within))
 
-left_is : (tables : Tables) (rows left : List Row) (edit : Edit) (refused : Option Cause) → unless_refused refused (left_by tables rows edit) ≡ Ok left → left_by tables rows edit ≡ left
+pub left_is : (tables : Tables) (rows left : List Row) (edit : Edit) (refused : Option Cause) → unless_refused refused (left_by tables rows edit) ≡ Ok left → left_by tables rows edit ≡ left
 left_is tables rows left edit (Some cause) is = cc
 left_is tables rows left edit None is = ok_same _ _ is
 

@@ -55,7 +55,7 @@ keys_back (over ∷ above) number keys (step ∷ rest) e = go (is_same_step over
     go false same is back = cc
 
 -- the keys in a row's path, where the path is known
-keys_of_row : (above : List Step) (number : ℕ) (keys : List (List ℕ)) (steps : List Step) → steps ≡ above ++ record { node = number; keys = keys } ∷ [] →
+pub keys_of_row : (above : List Step) (number : ℕ) (keys : List (List ℕ)) (steps : List Step) → steps ≡ above ++ record { node = number; keys = keys } ∷ [] →
     keys_in above number steps ≡ Some keys
 keys_of_row above number keys steps is = ap (keys_in above number) is ∙ keys_there above number keys
 

@@ -45,3 +45,6 @@ pub mod RepliesExample
 pub mod FilterExample
 pub mod FilterLemmas
 pub mod SessionExample
+pub mod EditRights
+pub mod EntryPlace
+pub mod EntryLands

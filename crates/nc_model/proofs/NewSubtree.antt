@@ -61,7 +61,7 @@ one_more [] (m ∷ more) rest k x e = absurd (no_element [] (more ++ rest) m (ta
 one_more (y ∷ xs) more rest k x e = one_more xs more rest k x (tails_same y y _ _ e)
 
 -- a row is among those that were there, or among the new ones
-of_left : (tables : Tables) (rows : List Row) (path : Path) (place : Place) (block : List Row) (row : Row) → Contains (with_block tables rows path place block) row → Contains rows row ⊎ Contains block row
+pub of_left : (tables : Tables) (rows : List Row) (path : Path) (place : Place) (block : List Row) (row : Row) → Contains (with_block tables rows path place block) row → Contains rows row ⊎ Contains block row
 of_left tables rows path place block row has = by (Contains-append_cases (filter before others ++ block) (filter (λ r. not (before r)) others) row has)
   where
     before : Row → Bool

@@ -1,5 +1,5 @@
 -- What follows from the definitions.
-use Rattle.std.specs.Prelude.{◌⊎◌, ◌≡◌, ◌↔◌, ◌+◌, ℕ, Bool, true, false, List, [], ◌∷◌, ◌++◌, length, Ok, Result, map}
+use Rattle.std.specs.Prelude.{Some, IsTrue, ◌⊎◌, ◌≡◌, ◌↔◌, ◌+◌, ℕ, Bool, true, false, List, [], ◌∷◌, ◌++◌, length, Ok, Result, map}
 use Rattle.std.specs.List.{All, AllPairs, Contains, filter, list_any}
 use Rattle.nc_message.specs.declared.tree.Elem.{Elem}
 use Rattle.nc_message.specs.declared.tree.Part.TheVariants.{Child}
@@ -7,8 +7,10 @@ use Rattle.nc_names.specs.declared.path.Path.{Path}
 use Rattle.nc_names.specs.declared.path.Place.{Place}
 use Rattle.nc_names.specs.declared.path.Place.TheVariants.{Kept}
 use Rattle.nc_names.specs.declared.path.Right.{Right}
+use Rattle.nc_names.specs.declared.path.Right.TheVariants.{Create, Update, Delete}
 use Rattle.nc_names.specs.declared.path.Row.{Row}
 use Rattle.nc_names.specs.declared.path.Step.{Step}
+use Rattle.nc_schema.specs.Blocks.{row_at}
 use Rattle.nc_schema.specs.Configuration.{IsAtOrBelow, IsDataTree, IsConfiguration}
 use Rattle.nc_schema.specs.Laws.{IsSystemOrderedPath}
 use Rattle.nc_schema.specs.Order.{IsBefore}
@@ -20,13 +22,14 @@ use Rattle.nc_model.specs.declared.edit.Edit.{Edit}
 use Rattle.nc_model.specs.declared.entry.Entry.{Entry}
 use Rattle.nc_model.specs.declared.position.Position.{Position}
 use Rattle.nc_model.specs.Applied.{applied}
-use Rattle.nc_model.specs.Edited.{edited, new_block}
+use Rattle.nc_model.specs.Changes.{has_moved}
+use Rattle.nc_model.specs.Edited.{edited, new_block, place_by}
 use Rattle.nc_model.specs.Elements.{Reading}
 use Rattle.nc_model.specs.Filter.{is_containment, is_content_match, is_of_node, level_of, selected}
 use Rattle.nc_model.specs.Payload.{part_edits, elem_edits, edits_of, rows_of}
 use Rattle.nc_model.specs.ProperEdit.{IsProperEdit, BringsCanonical, IsReadEdit}
-use Rattle.nc_names.specs.Same.{is_at_or_below}
-use Rattle.nc_schema.specs.Standing.{block_at, steps_before, excludes}
+use Rattle.nc_names.specs.Same.{is_at_or_below, is_same_value}
+use Rattle.nc_schema.specs.Standing.{block_at, entries, excludes, has_row, is_by_user, placed, steps_before}
 use Rattle.nc_model.specs.State.{State, IsGood, opening}
 use Rattle.nc_model.specs.Step.{Fits, has_failed, is_commit, is_done, next}
 use Rattle.nc_model.specs.History.{after, IsLegal, IsMineIn}
@@ -101,6 +104,40 @@ pub record EditLeaves : Type 0 where
       Contains left row ↔
       (Contains rows row × All (λ added. excludes tables added.path.steps row.path.steps ≡ false)
       (new_block tables rows edit.path edit.action))
+
+-- an edit that fits the schema, and is made
+pub record IsMade (tables : Tables) (rights : Path → Right → Decision) (rows left : List Row) (edit : Edit) : Type 0 where
+  pub fits : IsProperEdit tables edit
+  pub is : edited tables rights rows edit ≡ Ok left
+
+-- what it asked for: the right to create each row that is new, to update each whose value is another and each entry
+-- at or below its node that has moved, and to delete each that is gone, unless a row of another case stands now (RFC
+-- 8341 3.4.5; RFC 7950 7.9)
+pub record EditAsks : Type 0 where
+  pub created :
+      (tables : Tables) (rights : Path → Right → Decision) (rows left : List Row) (edit : Edit) → IsMade tables rights rows left edit →
+      (row : Row) → Contains left row → has_row rows row.path.steps ≡ false → (rights row.path Create).permit ≡ true
+  pub changed :
+      (tables : Tables) (rights : Path → Right → Decision) (rows left : List Row) (edit : Edit) → IsMade tables rights rows left edit →
+      (row old : Row) → Contains left row → IsAtOrBelow edit.path.steps row.path → row_at rows row.path.steps ≡ Some old →
+      is_same_value old.value row.value ≡ false → (rights row.path Update).permit ≡ true
+  pub moved :
+      (tables : Tables) (rights : Path → Right → Decision) (rows left : List Row) (edit : Edit) → IsMade tables rights rows left edit →
+      (row old : Row) → Contains left row → IsAtOrBelow edit.path.steps row.path → row_at rows row.path.steps ≡ Some old →
+      has_moved tables rows left row.path.steps ≡ true → (rights row.path Update).permit ≡ true
+  pub dropped :
+      (tables : Tables) (rights : Path → Right → Decision) (rows left : List Row) (edit : Edit) → IsMade tables rights rows left edit →
+      (row : Row) → Contains rows row → has_row left row.path.steps ≡ false →
+      ((rights row.path Delete).permit ≡ true) ⊎ ((other : Row) × Contains left other × (excludes tables other.path.steps row.path.steps ≡ true))
+
+-- where an entry lands that the user orders: the entries of its list stand as its place says (RFC 7950 7.7.9, 7.8.6)
+abbrev pub EntryLands : Type 0
+EntryLands =
+    (tables : Tables) (rights : Path → Right → Decision) (rows left : List Row) (edit : Edit) →
+    IsProperSchema tables → IsDataTree tables rows → IsMade tables rights rows left edit →
+    (above : List Step) (step : Step) → edit.path.steps ≡ above ++ step ∷ [] → is_by_user tables step.node ≡ true →
+    has_row left edit.path.steps ≡ true →
+    entries left above step.node ≡ placed (place_by edit.action edit.place) step.keys (entries rows above step.node)
 
 -- several edits leave a data tree too, under every error-option
 abbrev pub EditsKeepTree : Type 0

@@ -1,6 +1,6 @@
 //! What follows from the definitions in `specs/`, each as the contract of a function that does
 //! nothing. A call of one makes its law known to the caller.
-ghost use Rattle.nc_model.specs.Laws.{HistoriesJoin, LegalHistoriesJoin, OneEntryIsLegal, MineStays, MineGrows, ChildIsElement, BelowIsBelow, PlacesAreInOrder, EditKeepsTree, EditKeepsConfiguration, EditLeaves, EditsKeepTree, RowsStandInOrder, OpeningIsGood, GoodStays, HistoryIsDetermined, DiskFaultHasCause, CommitAloneChangesRunning, IsEndedBetween, PayloadFits, PayloadKeepsConfiguration, InlineIsConfiguration, SelectedIsDataTree, SelectedStandsInRows, EmptyFilterSelectsNothing, SelectionNodeSelectsSubtree};
+ghost use Rattle.nc_model.specs.Laws.{HistoriesJoin, LegalHistoriesJoin, OneEntryIsLegal, MineStays, MineGrows, ChildIsElement, BelowIsBelow, PlacesAreInOrder, EditKeepsTree, EditKeepsConfiguration, EditLeaves, EditsKeepTree, RowsStandInOrder, OpeningIsGood, GoodStays, HistoryIsDetermined, DiskFaultHasCause, CommitAloneChangesRunning, IsEndedBetween, PayloadFits, PayloadKeepsConfiguration, InlineIsConfiguration, SelectedIsDataTree, SelectedStandsInRows, EmptyFilterSelectsNothing, SelectionNodeSelectsSubtree, EditAsks, EntryLands};
 
 /// The state after a history is that after its rest, from the state after its front.
 pub fn histories_join()
@@ -62,6 +62,17 @@ pub fn edit_keeps_configuration()
 /// elsewhere those that are there, but for the rows of other cases.
 pub fn edit_leaves()
     ensures { EditLeaves }
+{}
+
+/// What an edit that fits the schema and is made asked for: the right to create, update or delete each row
+/// that it changed.
+pub fn edit_asks()
+    ensures { EditAsks }
+{}
+
+/// Where an edit puts an entry that the user orders: the entries of its list stand as its place says.
+pub fn entry_lands()
+    ensures { EntryLands }
 {}
 
 /// Several edits that fit the schema leave a data tree, under every error-option.

@@ -11,3 +11,5 @@ pub mod ValidityExamples
 pub mod ProperLemmas
 pub mod ViolationLemmas
 pub mod ChildLemmas
+pub mod ValidityLemmas
+pub mod GivenLemmas

@@ -1,7 +1,7 @@
 -- Values worked by computation: what texts the types admit, and the canonical ones (RFC 7950 9).
 use Rattle.std.proofs.Common.{◌≡◌, ℕ, List, [], ◌∷◌, map, refl}
 use Rattle.std.specs.Prelude.{codes, Option, Some, None}
-use Rattle.std.specs.Fmt.{char_count, digits}
+use Rattle.std.specs.Fmt.{digits}
 use Rattle.base64.specs.Decode.{groups_error, groups_bytes, scan_steps}
 use Rattle.base64.specs.GeneralPurpose.{decoded_of}
 use Rattle.nc_schema.specs.InstancePaths.{instance_path, node_pattern, pattern_step}
@@ -127,7 +127,7 @@ union_rows =
     ∷ []
 
 union_is : AreOf 14 union_rows
-unfolding canonical whole_text digits string_text char_count
+unfolding canonical whole_text digits string_text
 union_is = refl
 
 -- RFC 7950 9.10: the identity `des`, by prefix or in the default namespace
@@ -152,7 +152,7 @@ string_rows =
     ∷ []
 
 string_is : AreOf 1 string_rows
-unfolding canonical string_text char_count
+unfolding canonical string_text
 string_is = refl
 
 -- RFC 7950 9.9: a value of the target's type, a string
@@ -162,7 +162,7 @@ leafref_rows =
     ∷ []
 
 leafref_is : AreOf 5 leafref_rows
-unfolding canonical string_text char_count
+unfolding canonical string_text
 leafref_is = refl
 
 -- a key that holds both marks could not stand in a path
@@ -173,7 +173,7 @@ key_rows =
     ∷ []
 
 key_is : AreOf 3 key_rows
-unfolding canonical string_text char_count
+unfolding canonical string_text
 key_is = refl
 
 -- RFC 7950 9.13: module names as prefixes, and apostrophes round values without one
@@ -186,7 +186,7 @@ instance_rows =
     ∷ []
 
 instance_is : AreOf 16 instance_rows
-unfolding canonical instance_text string_text char_count instance_path pattern_step written_name quoted_string predicate_key predicate written_step
+unfolding canonical instance_text string_text instance_path pattern_step written_name quoted_string predicate_key predicate written_step
 instance_is = refl
 
 -- RFC 8341, `node-instance-identifier`: keys may be left out
@@ -209,5 +209,5 @@ cyclic_rows =
     ∷ []
 
 cyclic_is : AreOf 18 cyclic_rows
-unfolding canonical boolean_text whole_text digits string_text char_count
+unfolding canonical boolean_text whole_text digits string_text
 cyclic_is = refl

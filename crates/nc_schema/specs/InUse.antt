@@ -21,12 +21,15 @@ first_value (row ∷ rows) = row.value
 abbrev pub values_there : Place → ℕ → List (List ℕ)
 values_there place number = filter_map (λ part. first_value part.rows) (parts_of place number)
 
+abbrev pub defaults_of : Tables → ℕ → List (List ℕ)
+defaults_of tables number = option_map_or (λ node. node.defaults) (slice_get tables.nodes number) []
+
 -- the defaults of a leaf or leaf-list that are in use in a place where no value stands: a node of each
 -- case to which it belongs exists there, or the case is chosen by default
 abbrev pub defaults_there : Tables → Place → ℕ → List (List ℕ)
 defaults_there tables place number =
-    if place.defaults && list_all (is_chosen_or_default tables place) (cases_of tables number)
-    then option_map_or (λ node. node.defaults) (slice_get tables.nodes number) [] else []
+    let in_use = place.defaults && list_all (is_chosen_or_default tables place) (cases_of tables number) in
+    if in_use then defaults_of tables number else []
 
 abbrev pub or_else : List (List ℕ) → List (List ℕ) → List (List ℕ)
 or_else [] others = others

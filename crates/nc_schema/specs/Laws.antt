@@ -1,5 +1,5 @@
 -- What follows from the definitions.
-use Rattle.std.specs.Prelude.{◌≡◌, ◌⊎◌, ◌↔◌, List, []}
+use Rattle.std.specs.Prelude.{◌≡◌, ◌⊎◌, ◌↔◌, List, [], false}
 use Rattle.std.specs.List.{All, AllPairs, Contains}
 use Rattle.nc_names.specs.declared.path.Path.{Path}
 use Rattle.nc_names.specs.declared.path.Row.{Row}
@@ -7,6 +7,7 @@ use Rattle.nc_schema.specs.Configuration.{IsDataTree}
 use Rattle.nc_schema.specs.Tables.{Tables}
 use Rattle.nc_schema.specs.Proper.{IsProperSchema}
 use Rattle.nc_schema.specs.PathTexts.{HasQuotableKeys}
+use Rattle.nc_schema.specs.Violations.{IsValid}
 use Rattle.nc_schema.specs.Paths.{NamesNodeOf}
 use Rattle.nc_schema.specs.PathTexts.{path_text_of}
 use Rattle.nc_schema.specs.Order.{IsSystemOrdered, IsBefore}
@@ -51,3 +52,12 @@ RowsAreOneList =
     (tables : Tables) (rows others : List Row) → IsDataTree tables rows → IsDataTree tables others →
     All (λ row. IsSystemOrderedPath tables row.path) rows → All (λ row. IsSystemOrderedPath tables row.path) others →
     ((row : Row) → Contains rows row ↔ Contains others row) → rows ≡ others
+
+-- nothing has to stand in the schema (RFC 7950 7.6.5, 7.7.5, 7.9.4)
+pub record RequiresNothing (tables : Tables) : Type 0 where
+  pub nodes : All (λ node. (node.mandatory ≡ false) × (node.least ≡ 0)) tables.nodes
+  pub choices : All (λ choice. choice.mandatory ≡ false) tables.choices
+
+-- then a configuration without rows is valid
+abbrev pub EmptyIsValid : Type 0
+EmptyIsValid = (tables : Tables) → RequiresNothing tables → IsValid tables []

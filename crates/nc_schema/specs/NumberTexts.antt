@@ -1,10 +1,11 @@
 -- The texts of integers and of decimal64 values (RFC 7950 9.2, 9.3).
-use Rattle.std.specs.Prelude.{ℕ, zero, suc, ◌+◌, ◌-◌, ◌/◌, ◌%◌, ◌^◌, ◌==◌, ◌&&◌, Bool, nat_lt, nat_le, if◌then◌else◌, List, [], ◌∷◌, ◌++◌, length, replicate, ℤ, pos, negsuc, nat_abs, int_le, Option, Some, None, option_map, option_and_then}
+use Rattle.std.specs.Prelude.{ℕ, zero, suc, ◌+◌, ◌-◌, ◌/◌, ◌%◌, ◌^◌, ◌==◌, ◌&&◌, Bool, nat_lt, nat_le, if◌then◌else◌, List, [], ◌∷◌, ◌++◌, length, replicate, ℤ, pos, negsuc, nat_abs, int_le, Option, Some, None, is_some, option_map, option_and_then}
 use Rattle.std.specs.Char.{is_ascii_digit}
 use Rattle.std.specs.Fmt.{decimal, signed_decimal}
 use Rattle.std.specs.List.{list_all, list_any, before_first, after_first}
 use Rattle.std.specs.Str.Parse.{without_leading_sign, signed_digits_value}
 use Rattle.nc_names.specs.Signs.{dot, hyphen}
+use Rattle.nc_schema.specs.PathWords.{without_last}
 use Rattle.nc_schema.specs.declared.value_type.Between.{Between}
 
 -- `0`
@@ -53,7 +54,7 @@ without_point digits text =
 abbrev pub units_of : ℕ → List ℕ → Option ℤ
 units_of digits text =
     let fraction = fraction_of text in
-    if is_numeral (without_leading_sign (before_first (λ c. c == dot) text)) && list_all is_ascii_digit fraction
+    if is_some (number_of (before_first (λ c. c == dot) text)) && list_all is_ascii_digit fraction
     && nat_le (length fraction) digits
     then number_of (without_point digits text) else None
 
@@ -62,15 +63,11 @@ abbrev pub last_digits : ℕ → ℕ → List ℕ
 last_digits zero number = []
 last_digits (suc more) number = (zero_digit + number / 10 ^ more % 10) ∷ last_digits more number
 
--- without the zeros at the end
-abbrev pub without_zeros : List ℕ → List ℕ
-without_zeros [] = []
-without_zeros (c ∷ cs) = if list_all (λ digit. digit == zero_digit) (c ∷ cs) then [] else c ∷ without_zeros cs
-
 -- one digit or more after the point, and no other zero at the end (RFC 7950 9.3.2)
 abbrev pub shortened : List ℕ → List ℕ
-shortened [] = zero_digit ∷ []
-shortened (c ∷ cs) = c ∷ without_zeros cs
+shortened digits =
+    let kept = without_last (λ digit. digit == zero_digit) digits in
+    if length kept == 0 then zero_digit ∷ [] else kept
 
 -- the canonical text of a number in units of the last of so many fraction digits (RFC 7950 9.3.2)
 abbrev pub units_text : ℕ → ℤ → List ℕ

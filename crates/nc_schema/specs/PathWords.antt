@@ -2,6 +2,7 @@
 -- with their prefixes, predicates and steps. Each reading gives what stands first in a text, and the
 -- text after it. What texts spell these words is said in PathGrammar.
 use Rattle.std.specs.Prelude.{ℕ, zero, suc, Bool, false, ◌==◌, ◌||◌, if◌then◌else◌, List, [], ◌∷◌, length, Option, Some, None, option_and_then, option_map}
+use Rattle.std.specs.List.{list_all}
 use Rattle.nc_names.specs.Signs.{begins_identifier, is_in_identifier, is_white, apostrophe, quote, dot, slash, colon, equals, opening_bracket, closing_bracket}
 use Rattle.nc_schema.specs.declared.written.WrittenName.{WrittenName}
 use Rattle.nc_schema.specs.declared.written.WrittenPredicate.{WrittenPredicate}
@@ -19,6 +20,11 @@ leading p (c ∷ cs) = if p c then c ∷ leading p cs else []
 abbrev pub past : (ℕ → Bool) → List ℕ → List ℕ
 past p [] = []
 past p (c ∷ cs) = if p c then past p cs else c ∷ cs
+
+-- the text without the signs at its end that pass
+abbrev pub without_last : (ℕ → Bool) → List ℕ → List ℕ
+without_last p [] = []
+without_last p (c ∷ cs) = if list_all p (c ∷ cs) then [] else c ∷ without_last p cs
 
 abbrev pub after_white : List ℕ → List ℕ
 after_white text = past is_white text

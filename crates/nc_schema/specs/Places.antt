@@ -46,12 +46,12 @@ pub record Place : Type 0 where
   -- the rows at and below it
   pub rows : List Row
   -- what is mandatory in it has to stand (RFC 7950 7.6.5)
-  pub requires : Bool
+  pub required : Bool
   -- defaults are in use in it (RFC 7950 7.6.1)
   pub defaults : Bool
 
 abbrev pub top_place : List Row → Place
-top_place rows = record { steps = []; rows = rows; requires = true; defaults = true }
+top_place rows = record { steps = []; rows = rows; required = true; defaults = true }
 
 -- the data node of a place; none at the top
 abbrev pub node_there : Place → Option ℕ
@@ -95,7 +95,7 @@ abbrev pub place_of : Tables → Place → Node → Part → Place
 place_of tables place node part = record {
   steps = place.steps ++ option_to_list part.step;
   rows = part.rows;
-  requires = stands_for_itself node.kind || (place.requires && list_all (is_chosen tables place) node.cases);
+  required = stands_for_itself node.kind || (place.required && list_all (is_chosen tables place) node.cases);
   defaults = stands_for_itself node.kind || (place.defaults && list_all (is_chosen_or_default tables place) node.cases);
 }
 

@@ -1,7 +1,6 @@
 -- The canonical texts of values (RFC 7950 9.1): what texts a type admits, and the one text that stands
 -- for the value of each.
-use Rattle.std.specs.Prelude.{◌≡◌, ◌==◌, ◌&&◌, ◌||◌, ℕ, zero, suc, Bool, true, false, not, if◌then◌else◌, nat_lt, List, [], ◌∷◌, ◌++◌, length, filter, pos, Option, Some, None, codes, slice_get, option_map, option_and_then}
-use Rattle.std.specs.Fmt.{char_count}
+use Rattle.std.specs.Prelude.{◌≡◌, ◌==◌, ◌&&◌, ◌||◌, ℕ, zero, suc, Bool, true, false, not, if◌then◌else◌, nat_le, nat_lt, List, [], ◌∷◌, ◌++◌, length, count_by, filter, pos, Option, Some, None, codes, slice_get, option_map, option_and_then}
 use Rattle.std.specs.List.{flat_map, join_with_byte, list_all, list_any, slice_split, before_first, after_first, zip}
 use Rattle.std.specs.Option.{option_map_or}
 use Rattle.base64.specs.Engines.{standard}
@@ -17,7 +16,7 @@ use Rattle.nc_schema.specs.Kinds.{has_value}
 use Rattle.nc_schema.specs.NumberTexts.{decimal_text, is_among, whole_text}
 use Rattle.nc_schema.specs.Order.{keys_above}
 use Rattle.nc_schema.specs.PathTexts.{key_predicate, path_text_of, prefixed_name, value_predicate}
-use Rattle.nc_schema.specs.PathWords.{◌>>=◌, after_white, begins_with}
+use Rattle.nc_schema.specs.PathWords.{◌>>=◌, after_white, begins_with, without_last}
 use Rattle.nc_schema.specs.Tables.{Tables}
 use Rattle.nc_schema.specs.declared.pattern.PatternStep.{PatternStep}
 use Rattle.nc_schema.specs.declared.value_type.Between.{Between}
@@ -29,22 +28,25 @@ abbrev pub Gives : Type 0
 Gives = ℕ → List ℕ → Option (List ℕ)
 
 -- the text without white space at its ends
-abbrev pub before_white : List ℕ → List ℕ
-before_white [] = []
-before_white (c ∷ cs) = if list_all is_white (c ∷ cs) then [] else c ∷ before_white cs
-
 abbrev pub trimmed : List ℕ → List ℕ
-trimmed text = before_white (after_white text)
+trimmed text = without_last is_white (after_white text)
+
+-- how many characters a text has: that many of its bytes begin one (RFC 3629 3)
+abbrev pub begins_character : ℕ → Bool
+begins_character byte = nat_lt byte 0x80 || nat_le 0xC0 byte
+
+abbrev pub character_count : List ℕ → ℕ
+character_count text = count_by begins_character text
 
 -- a string has a length in characters (RFC 7950 9.4.4); a group name does not begin with `*`
 -- (RFC 8341, `group-name-type`)
 unfoldable pub string_text : List Between → Bool → List ℕ → Option (List ℕ)
 string_text lengths starless text =
-    if is_among lengths (pos (char_count text)) && not (starless && begins_with asterisk text) then Some text else None
+    if is_among lengths (pos (character_count text)) && not (starless && begins_with asterisk text) then Some text else None
 
 -- the text, where it is one of these (RFC 7950 9.5.1, 9.6.1)
 abbrev pub one_of : List (List ℕ) → List ℕ → Option (List ℕ)
-one_of names text = if list_any (is_same_text text) names then Some text else None
+one_of names text = if list_any (λ name. is_same_text name text) names then Some text else None
 
 unfoldable pub boolean_text : List ℕ → Option (List ℕ)
 boolean_text text = one_of (codes "true" ∷ codes "false" ∷ []) text
@@ -58,7 +60,7 @@ words_of text = filter (λ word. nat_lt 0 (length word)) (slice_split is_white t
 unfoldable pub bits_text : List (List ℕ) → List ℕ → Option (List ℕ)
 bits_text names text =
     let words = words_of text in
-    let set = filter (λ name. list_any (is_same_text name) words) names in
+    let set = filter (λ name. list_any (λ word. is_same_text word name) words) names in
     if length set == length words then Some (join_with_byte blank set) else None
 
 -- base64 (RFC 4648 4) in which white space may stand, with a length in octets (RFC 7950 9.8)
@@ -114,12 +116,16 @@ canonical_keys gives (node ∷ nodes) (key ∷ keys) = do
   Some (first ∷ more)
 canonical_keys gives nodes keys = Some []
 
+abbrev pub canonical_step : Tables → Gives → Step → Option Step
+canonical_step tables gives step =
+    option_map (λ keys. record { node = step.node; keys = keys }) (canonical_keys gives (key_nodes tables step.node) step.keys)
+
 abbrev pub canonical_steps : Tables → Gives → List Step → Option (List Step)
 canonical_steps tables gives [] = Some []
 canonical_steps tables gives (step ∷ rest) = do
-  keys ← canonical_keys gives (key_nodes tables step.node) step.keys
+  first ← canonical_step tables gives step
   more ← canonical_steps tables gives rest
-  Some (record { node = step.node; keys = keys } ∷ more)
+  Some (first ∷ more)
 
 -- the text of the path, with canonical keys, that an instance identifier names
 unfoldable pub instance_text : Tables → (keys : List Bound → Gives) → List Bound → List ℕ → Option (List ℕ)
@@ -137,12 +143,16 @@ canonical_given gives (node ∷ nodes) (Some key ∷ keys) = do
   Some (Some first ∷ more)
 canonical_given gives nodes keys = Some []
 
+abbrev pub canonical_part : Tables → Gives → PatternStep → Option PatternStep
+canonical_part tables gives step =
+    option_map (λ keys. record { node = step.node; keys = keys }) (canonical_given gives (key_nodes tables step.node) step.keys)
+
 abbrev pub canonical_pattern : Tables → Gives → List PatternStep → Option (List PatternStep)
 canonical_pattern tables gives [] = Some []
 canonical_pattern tables gives (step ∷ rest) = do
-  keys ← canonical_given gives (key_nodes tables step.node) step.keys
+  first ← canonical_part tables gives step
   more ← canonical_pattern tables gives rest
-  Some (record { node = step.node; keys = keys } ∷ more)
+  Some (first ∷ more)
 
 -- the text of a pattern: that of a path, without the predicates that are left out
 abbrev pub given_predicate : Tables → ℕ → ℕ → Option (List ℕ) → List ℕ
@@ -156,8 +166,7 @@ pattern_step_text tables step =
     ++ flat_map (λ pair. given_predicate tables step.node pair.0 pair.1) (zip (key_nodes tables step.node) step.keys)
 
 abbrev pub pattern_text : Tables → List PatternStep → List ℕ
-pattern_text tables [] = slash ∷ []
-pattern_text tables (step ∷ rest) = flat_map (pattern_step_text tables) (step ∷ rest)
+pattern_text tables steps = if length steps == 0 then slash ∷ [] else flat_map (pattern_step_text tables) steps
 
 unfoldable pub node_instance_text : Tables → (keys : List Bound → Gives) → List Bound → List ℕ → Option (List ℕ)
 node_instance_text tables keys bounds text = do
@@ -214,8 +223,8 @@ is_quotable value = not (list_any (λ c. c == apostrophe) value && list_any (λ 
 -- the values of the node stand in paths: it is a key or a leaf-list
 abbrev pub stands_in_paths : Tables → ℕ → Bool
 stands_in_paths tables number =
-    option_map_or (λ node. list_any (λ key. key == number) (keys_above tables node.parent ++ key_nodes tables number))
-    (slice_get tables.nodes number) false
+    option_map_or (λ node. list_any (λ key. key == number) (keys_above tables node.parent)) (slice_get tables.nodes number) false
+    || list_any (λ key. key == number) (key_nodes tables number)
 
 abbrev pub fits_paths : Tables → ℕ → List ℕ → Bool
 fits_paths tables number value = not (stands_in_paths tables number) || is_quotable value

@@ -31,7 +31,7 @@ violated broken kind steps = if broken then record { kind = kind; path = record 
 -- nodes of those cases have to stand in a place: a node of each case exists there (RFC 7950 7.6.5,
 -- 7.7.5, 7.9.4)
 abbrev pub is_required : Tables → Place → List Case → Bool
-is_required tables place cases = place.requires && list_all (is_chosen tables place) cases
+is_required tables place cases = place.required && list_all (is_chosen tables place) cases
 
 abbrev pub has_text : List ℕ → List (List ℕ) → Bool
 has_text text texts = list_any (is_same_text text) texts

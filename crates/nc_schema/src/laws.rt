@@ -1,6 +1,6 @@
 //! What follows from the definitions in `specs/`, each as the contract of a function that does
 //! nothing. A call of one makes its law known to the caller.
-ghost use Rattle.nc_schema.specs.Laws.{OrderIsStrict, OrderIsTotal, TextNamesOnePath, EmptyIsDataTree, RowsRise, RowsAreOneList};
+ghost use Rattle.nc_schema.specs.Laws.{OrderIsStrict, OrderIsTotal, TextNamesOnePath, EmptyIsDataTree, RowsRise, RowsAreOneList, EmptyIsValid};
 
 /// Document order is irreflexive and transitive.
 pub fn order_is_strict()
@@ -31,4 +31,9 @@ pub fn rows_rise()
 /// Where the system orders every node, two data trees of the same rows are one list.
 pub fn rows_are_one_list()
     ensures { RowsAreOneList }
+{}
+
+/// Where nothing has to stand in the schema, a configuration without rows is valid.
+pub fn empty_is_valid()
+    ensures { EmptyIsValid }
 {}

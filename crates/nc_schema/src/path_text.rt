@@ -1,10 +1,11 @@
 //! The text of a path (RFC 7950 9.13).
 ghost use Rattle.std.specs.Prelude.{◌≡◌, [], ◌∷◌, ◌++◌, ◌==◌, IsTrue, IfOk, OnOk, OnErr};
-ghost use Rattle.std.specs.List.{flat_map, list_any};
+ghost use Rattle.std.specs.List.{flat_map, list_any, zip};
+ghost use Rattle.nc_schema.specs.Values.{given_predicate, pattern_step_text, pattern_text};
 ghost use Rattle.nc_names.specs.Signs.{apostrophe};
 ghost use Rattle.nc_schema.specs.PathTexts.{prefixed_name, module_name, mark_round, quoted, key_name, key_predicate, key_predicates, value_predicate, step_predicates, step_text, path_text_of};
 
-use crate::{Kind, Schema};
+use crate::{Kind, Pattern, PatternStep, Schema};
 use nc_names::{Memory, Path, Step, Text};
 
 impl Schema {
@@ -17,6 +18,85 @@ impl Schema {
     {
         let text = text_of(self, path, Text::new(out.alloc()))?;
         out.push_str(text.as_str())
+    }
+
+    /// Puts the text of a pattern of this schema at the end of `out`: that of a path, without the
+    /// predicates that the pattern leaves out; `/` where it has no steps (RFC 8341,
+    /// `node-instance-identifier`).
+    pub fn pattern_text(&self, pattern: &Pattern, out: &mut Text) -> Result<(), Memory>
+        ensures { OnOk result (out.new ≡ out.old ++ pattern_text self.now pattern.now.steps) }
+    {
+        if pattern.steps.len() == 0 {
+            return out.push_str("/");
+        }
+        for step in pattern.steps.as_slice() {
+            write_pattern_step(self, step, out)?;
+        }
+        Ok(())
+    }
+}
+
+/// Writes one step of a pattern.
+fn write_pattern_step(schema: &Schema, step: &PatternStep, out: &mut Text) -> Result<(), Memory>
+    ensures { OnOk result (out.new ≡ out.old ++ pattern_step_text schema.now step.now) }
+{
+    out.push_str("/")?;
+    write_name(schema, step.node, out)?;
+    let Some(node) = schema.node(step.node) else {
+        return Ok(());
+    };
+    match node.kind {
+        Kind::List => write_given(
+            schema,
+            step.node,
+            node.keys.as_slice(),
+            step.keys.as_slice(),
+            out,
+        ),
+        Kind::LeafList => write_given(schema, step.node, &[step.node], step.keys.as_slice(), out),
+        Kind::Container { .. } | Kind::Leaf => Ok(()),
+    }
+}
+
+/// Writes the predicates that a pattern gives.
+#[tactic(auto, using(crate::proofs::GivenLemmas::given_next, crate::proofs::GivenLemmas::given_short, crate::proofs::GivenLemmas::given_all))]
+fn write_given(
+    schema: &Schema,
+    number: u32,
+    keys: &[u32],
+    values: &[Option<Text>],
+    out: &mut Text,
+) -> Result<(), Memory>
+    ensures { OnOk result (out.new ≡ out.old ++ flat_map (λ pair. given_predicate schema.now number pair.0 pair.1) (zip keys.now values.now)) }
+{
+    for (place, value) in values.iter().enumerate() {
+        let Some(key) = keys.get(place) else {
+            return Ok(());
+        };
+        write_one_given(schema, number, *key, value, out)?;
+    }
+    Ok(())
+}
+
+/// Writes the predicate of a key, where the pattern gives it.
+fn write_one_given(
+    schema: &Schema,
+    number: u32,
+    key: u32,
+    value: &Option<Text>,
+    out: &mut Text,
+) -> Result<(), Memory>
+    ensures { OnOk result (out.new ≡ out.old ++ given_predicate schema.now number key value.now) }
+{
+    match value {
+        None => Ok(()),
+        Some(text) => {
+            if key == number {
+                write_value(text, out)
+            } else {
+                write_key(schema, key, text, out)
+            }
+        }
     }
 }
 

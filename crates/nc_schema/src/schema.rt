@@ -56,6 +56,13 @@ impl Schema {
         self.modules.as_slice()
     }
 
+    /// The types by their numbers.
+    pub fn types(&self) -> &[ValueType]
+        ensures { result.now ≡ self.now.types }
+    {
+        self.types.as_slice()
+    }
+
     /// The type of a number, or `None` past the last.
     pub fn value_type(&self, number: u32) -> Option<&ValueType>
         ensures { option_copied result ≡ slice_get self.now.types number }

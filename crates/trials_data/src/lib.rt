@@ -3,6 +3,12 @@
 #![tactic(auto)]
 
 #[cfg(test)]
+mod defaults_tests;
+#[cfg(test)]
 mod model_tests;
 #[cfg(test)]
+mod sample;
+#[cfg(test)]
 mod schema_tests;
+#[cfg(test)]
+mod tree_tests;

@@ -1,0 +1,21 @@
+//! Values in use in a configuration (RFC 7950 7.6.1, 7.7.2), and its places: the top, containers and
+//! list entries, with what stands in each. It stands on `nc_schema` and on the rows of a `Config` of
+//! `nc_tree`.
+//!
+//! `in_use` gives the value in use at a leaf or leaf-list entry: the one that stands, or the default
+//! where none stands and it is in use. It takes no memory. `places_from` lists a place and all below it.
+#![tactic(auto)]
+
+mod cases;
+mod here;
+mod parts;
+mod spots;
+mod value;
+mod values;
+
+pub use cases::{is_chosen, is_made};
+pub use here::{Here, place_of, top};
+pub use parts::{count_parts, row_of, run_end};
+pub use spots::{Spot, is_same_number, node_there, places_from};
+pub use value::in_use;
+pub use values::values_in_use;

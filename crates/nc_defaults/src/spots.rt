@@ -1,0 +1,226 @@
+//! All places of a configuration, in document order.
+ghost use Rattle.std.specs.Prelude.{◌≡◌, ◌+◌, ◌^◌, ◌<◌, ◌≤◌, ◌++◌, ◌∷◌, [], None, length, option_map, IfOk, OnOk};
+ghost use Rattle.std.specs.List.{last_or};
+ghost use Rattle.nc_schema.specs.Children.{is_same_number};
+ghost use Rattle.nc_schema.specs.Kinds as kinds;
+ghost use Rattle.nc_schema.specs.Places as places;
+ghost use Rattle.nc_defaults.specs.Within.{AreWithin, IsWithin, place_here, places_in};
+ghost use Rattle.nc_defaults.specs.inner.Walks.{places_under, places_with};
+
+use crate::here::{Here, place_of};
+use crate::parts::{count_parts, next_of, run_end};
+use nc_names::{Copies, Many, Memory, Step};
+use nc_schema::{Kind, Node, Schema};
+use nc_tree::Config;
+use std::alloc::Global;
+
+/// A place with the steps to it.
+#[derive(Debug, Drop)]
+pub struct Spot {
+    /// The steps to it; none at the top.
+    pub steps: Many<Step>,
+    /// The place.
+    pub here: Here,
+}
+
+/// The data node to an instance of which steps lead; none at the top.
+pub fn node_there(steps: &[Step]) -> Option<u32>
+    ensures { result ≡ option_map (λ step. step.node) (last_or None steps.now) }
+{
+    let mut last: Option<&Step> = None;
+    for step in steps {
+        last = Some(step);
+    }
+    Some(last?.node)
+}
+
+/// Whether the two are the same number, or both none.
+pub fn is_same_number(number: Option<u32>, other: Option<u32>) -> bool
+    ensures { result ≡ is_same_number number other }
+{
+    match (number, other) {
+        (None, None) => true,
+        (Some(number), Some(other)) => number == other,
+        _ => false,
+    }
+}
+
+fn steps_below(steps: &[Step], alloc: Global, step: Step) -> Result<Many<Step>, Memory>
+    ensures { IfOk result (λ it. it ≡ steps.now ++ step ∷ []) }
+{
+    let mut below = Many::new(alloc);
+    for above in steps {
+        below.push(above.copy()?)?;
+    }
+    below.push(step)?;
+    Ok(below)
+}
+
+fn has_places(kind: Kind) -> bool
+    ensures { result ≡ kinds.holds_nodes kind }
+{
+    match kind {
+        Kind::Container { .. } | Kind::List => true,
+        Kind::Leaf | Kind::LeafList => false,
+    }
+}
+
+fn is_plain(kind: Kind) -> bool
+    ensures { result ≡ kinds.is_plain_container kind }
+{
+    match kind {
+        Kind::Container { presence } => !presence,
+        _ => false,
+    }
+}
+
+/// Adds an instance of a data node, whose number is `number - 1`, and all places below it.
+#[cycle(spots)]
+fn add_place(
+    out: &mut Many<Spot>,
+    schema: &Schema,
+    config: &Config,
+    spot: Spot,
+    number: u32,
+) -> Result<(), Memory>
+    requires within { IsWithin config.now spot.here }
+    requires known { number ≤ length schema.now.nodes }
+    ensures places { OnOk result (places_in config.now out.new ≡ places_in config.now out.old
+        ++ place_here config.now spot.steps spot.here
+        ∷ places_under schema.now (place_here config.now spot.steps spot.here) number) }
+    ensures within { AreWithin config.now out.old → AreWithin config.now out.new }
+{
+    let steps = spot.steps.copy()?;
+    let here = spot.here;
+    out.push(spot)?;
+    add_below(out, schema, config, steps.as_slice(), here, number)?;
+    Ok(())
+}
+
+/// Adds the places below one of the data nodes from a number on.
+#[cycle(spots)]
+fn add_below(
+    out: &mut Many<Spot>,
+    schema: &Schema,
+    config: &Config,
+    steps: &[Step],
+    here: Here,
+    number: u32,
+) -> Result<(), Memory>
+    requires within { IsWithin config.now here }
+    requires known { number ≤ length schema.now.nodes }
+    ensures places { OnOk result (places_in config.now out.new ≡ places_in config.now out.old
+        ++ places_under schema.now (place_here config.now steps.now here) number) }
+    ensures within { AreWithin config.now out.old → AreWithin config.now out.new }
+{
+    for at in number..schema.nodes() {
+        add_child(out, schema, config, steps, here, at)?;
+    }
+    Ok(())
+}
+
+/// Adds the places of a data node, with those below them, where it stands in the place.
+#[cycle(spots)]
+fn add_child(
+    out: &mut Many<Spot>,
+    schema: &Schema,
+    config: &Config,
+    steps: &[Step],
+    here: Here,
+    number: u32,
+) -> Result<(), Memory>
+    requires within { IsWithin config.now here }
+    requires known { number < length schema.now.nodes }
+    requires few { number + 1 < 2 ^ 32 }
+    ensures places { OnOk result (places_in config.now out.new
+        ++ places_under schema.now (place_here config.now steps.now here) (number + 1)
+        ≡ places_in config.now out.old
+        ++ places_under schema.now (place_here config.now steps.now here) number) }
+    ensures within { AreWithin config.now out.old → AreWithin config.now out.new }
+{
+    let Some(node) = schema.node(number) else {
+        return Ok(());
+    };
+    if !is_same_number(node.parent, node_there(steps)) {
+        return Ok(());
+    }
+    add_parts(out, schema, config, steps, here, (number, node))?;
+    Ok(())
+}
+
+/// Adds the instances of a data node that are places, with the places below them.
+#[cycle(spots)]
+fn add_parts(
+    out: &mut Many<Spot>,
+    schema: &Schema,
+    config: &Config,
+    steps: &[Step],
+    here: Here,
+    child: (u32, &Node),
+) -> Result<(), Memory>
+    requires within { IsWithin config.now here }
+    requires known { child.0 < length schema.now.nodes }
+    requires few { child.0 + 1 < 2 ^ 32 }
+    ensures places { OnOk result (places_in config.now out.new ≡ places_in config.now out.old
+        ++ places_with schema.now (place_here config.now steps.now here) child.entry.0 child.entry.1.now
+        (places.place_parts (place_here config.now steps.now here) child.entry.0 child.entry.1.now.kind)) }
+    ensures within { AreWithin config.now out.old → AreWithin config.now out.new }
+{
+    let alloc = out.alloc();
+    let (number, node) = child;
+    if !has_places(node.kind) {
+        return Ok(());
+    }
+    if is_plain(node.kind) && count_parts(config, steps.len(), here.from, here.to, number) == 0 {
+        let step = Step {
+            node: number,
+            keys: Many::new(alloc),
+        };
+        let below = place_of(schema, config, steps, here, node, (here.from, here.from));
+        let spot = Spot {
+            steps: steps_below(steps, alloc, step)?,
+            here: below,
+        };
+        add_place(out, schema, config, spot, number + 1)?;
+        return Ok(());
+    }
+    let depth = steps.len();
+    let mut at = here.from;
+    'part: while at < here.to {
+        let end = run_end(config, depth, at, here.to);
+        if let Some(step) = next_of(config, depth, at) {
+            if step.node == number {
+                let below = place_of(schema, config, steps, here, node, (at, end));
+                let spot = Spot {
+                    steps: steps_below(steps, alloc, step.copy()?)?,
+                    here: below,
+                };
+                add_place(out, schema, config, spot, number + 1)?;
+            }
+        }
+        at = end;
+    }
+    Ok(())
+}
+
+/// A place and all below it, in document order.
+pub fn places_from(
+    alloc: Global,
+    schema: &Schema,
+    config: &Config,
+    steps: &[Step],
+    here: Here,
+) -> Result<Many<Spot>, Memory>
+    requires { IsWithin config.now here }
+    ensures places { IfOk result (λ it. places_in config.now it
+        ≡ places.places_from schema.now (place_here config.now steps.now here)) }
+    ensures within { IfOk result (AreWithin config.now) }
+{
+    let mut own = Many::new(alloc);
+    for step in steps {
+        own.push(step.copy()?)?;
+    }
+    let mut out = Many::new(alloc);
+    add_place(&mut out, schema, config, Spot { steps: own, here }, 0)?;
+    Ok(out)
+}

@@ -1,0 +1,20 @@
+//! A configuration as the list of its rows (RFC 7950 7.5 to 7.9), and the keeper of the running
+//! configuration. It stands on the plain types of `nc_names` and on the schema of `nc_schema`.
+//!
+//! A `Config` is seen as its list of rows: `put`, `set_block` and `remove` give exactly the rows that
+//! `with_row`, `with_block` and the rows outside a subtree are, and leave the list as it was where
+//! memory ends. A `Keeper` keeps one configuration, its base: `keep` makes what was prepared the base,
+//! or fails with a fault that is counted and leaves the base as it was.
+#![tactic(auto)]
+
+mod block;
+mod config;
+mod keeper;
+mod look;
+mod mem_keeper;
+mod standing;
+
+pub use block::{node_of, rows_of_node};
+pub use config::Config;
+pub use keeper::{Doubt, Keeper, Kept};
+pub use mem_keeper::MemKeeper;

@@ -69,12 +69,15 @@ shortened digits =
     let kept = without_last (λ digit. digit == zero_digit) digits in
     if length kept == 0 then zero_digit ∷ [] else kept
 
+-- a number below 0 has a sign
+abbrev pub sign_of : ℤ → List ℕ
+sign_of number = if int_le (pos 0) number then [] else hyphen ∷ []
+
 -- the canonical text of a number in units of the last of so many fraction digits (RFC 7950 9.3.2)
 abbrev pub units_text : ℕ → ℤ → List ℕ
 units_text digits units =
     let size = nat_abs units in
-    (if int_le (pos 0) units then [] else hyphen ∷ [])
-    ++ decimal (size / 10 ^ digits) ++ dot ∷ shortened (last_digits digits size)
+    sign_of units ++ decimal (size / 10 ^ digits) ++ dot ∷ shortened (last_digits digits size)
 
 -- the canonical text of a decimal64, which has from 1 to 18 fraction digits (RFC 7950 9.3.4)
 unfoldable pub decimal_text : ℕ → List Between → List ℕ → Option (List ℕ)

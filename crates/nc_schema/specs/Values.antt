@@ -220,11 +220,15 @@ type_text tables keys (suc most) chain bounds number text =
 abbrev pub is_quotable : List ℕ → Bool
 is_quotable value = not (list_any (λ c. c == apostrophe) value && list_any (λ c. c == quote) value)
 
+-- the node is a key of the list in which it stands
+abbrev pub is_key_above : Tables → ℕ → Bool
+is_key_above tables number =
+    option_map_or (λ node. list_any (λ key. key == number) (keys_above tables node.parent)) (slice_get tables.nodes number)
+    false
+
 -- the values of the node stand in paths: it is a key or a leaf-list
 abbrev pub stands_in_paths : Tables → ℕ → Bool
-stands_in_paths tables number =
-    option_map_or (λ node. list_any (λ key. key == number) (keys_above tables node.parent)) (slice_get tables.nodes number) false
-    || list_any (λ key. key == number) (key_nodes tables number)
+stands_in_paths tables number = is_key_above tables number || list_any (λ key. key == number) (key_nodes tables number)
 
 abbrev pub fits_paths : Tables → ℕ → List ℕ → Bool
 fits_paths tables number value = not (stands_in_paths tables number) || is_quotable value

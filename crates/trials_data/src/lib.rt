@@ -12,3 +12,5 @@ mod sample;
 mod schema_tests;
 #[cfg(test)]
 mod tree_tests;
+#[cfg(test)]
+mod types_tests;

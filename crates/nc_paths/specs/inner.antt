@@ -1,0 +1,3 @@
+pub mod Prepend
+pub mod Stops
+pub mod Written

@@ -1,0 +1,18 @@
+//! Path texts and what they name in a schema: instance identifiers (RFC 7950 9.13), node-instance
+//! identifiers (RFC 8341 3.5.2), the keys of an anchor (RFC 7950 7.8.6) and the paths of leafrefs
+//! (RFC 7950 9.9.2). It stands on the plain types of `nc_names` and on the schema.
+//!
+//! Each call answers exactly what the definitions of `nc_schema` say; keys are as they are written. What
+//! is not of the grammar, or names nothing in the schema, is refused.
+#![tactic(auto)]
+
+mod cut;
+mod instance;
+mod resolve;
+mod steps;
+mod stop;
+mod words;
+
+pub use cut::after_white;
+pub use instance::{entry_keys, instance_path, node_pattern};
+pub use resolve::{key_nodes, module_of, space_of};

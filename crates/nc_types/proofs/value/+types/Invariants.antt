@@ -1,0 +1,28 @@
+-- How many types may still be asked, and how far the members are looked at.
+use Rattle.std.proofs.Common.{◌≡◌, ◌+◌, ◌*◌, ℕ, [], take, drop}
+use Rattle.std.specs.List.{list_all}
+use Rattle.nc_schema.specs.Bindings.{module_bounds}
+use Rattle.nc_schema.specs.Values.{agrees, type_text, union_text}
+use Rattle.nc_types.proofs.value.+types.Given as goal
+
+abbrev pub decreases-type_text : goal.decreases-type_text
+decreases-type_text g l = 4 * l.most
+
+abbrev pub decreases-text_in_type : goal.decreases-text_in_type
+decreases-text_in_type g l = 4 * l.most + 3
+
+abbrev pub decreases-union_text : goal.decreases-union_text
+decreases-union_text g l = 4 * l.most + 2
+
+abbrev pub decreases-agree : goal.decreases-agree
+decreases-agree g l = 4 * l.most + 1
+
+abbrev pub invariant-agree-loop-other : goal.invariant-agree-loop-other
+invariant-agree-loop-other g l =
+    list_all (λ (one : ℕ). agrees l.found (type_text l.schema (g.K.Gives.gives l.schema) l.most l.chain (module_bounds l.schema) one l.found)) l.earlier
+    ≡ list_all (λ (one : ℕ). agrees l.found (type_text l.schema (g.K.Gives.gives l.schema) l.most l.chain (module_bounds l.schema) one l.found)) (drop l.other-index l.earlier)
+
+abbrev pub invariant-union_text-loop-place : goal.invariant-union_text-loop-place
+invariant-union_text-loop-place g l =
+    union_text (type_text l.schema (g.K.Gives.gives l.schema) l.most l.chain) (module_bounds l.schema) l.bounds [] l.members l.text
+    ≡ union_text (type_text l.schema (g.K.Gives.gives l.schema) l.most l.chain) (module_bounds l.schema) l.bounds (take l.place l.members) (drop l.place l.members) l.text

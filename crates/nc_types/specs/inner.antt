@@ -1,0 +1,4 @@
+pub mod Asked
+pub mod Cuts
+pub mod Ends
+pub mod Faults

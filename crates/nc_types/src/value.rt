@@ -1,0 +1,240 @@
+//! Values by their types: unions, leafrefs and all others (RFC 7950 9), and the text at a data node.
+ghost use Rattle.std.specs.Prelude.{◌≡◌, ◌∷◌, [], Some, None, IfOk, IfErr, length};
+ghost use Rattle.std.specs.List.{list_all, list_any};
+ghost use Rattle.nc_schema.specs.Bindings as bindings;
+ghost use Rattle.nc_schema.specs.Values as values;
+ghost use Rattle.nc_types.specs.inner.Asked.{givers};
+ghost use Rattle.nc_types.specs.inner.Faults.{OnNotInType};
+
+use crate::bits::bits_text;
+use crate::decimal::decimal_text;
+use crate::fault::TypeFault;
+use crate::gives::Gives;
+use crate::identity::identity_text;
+use crate::number::whole_text;
+use crate::paths::{instance_text, node_instance_text};
+use crate::simple::{binary_text, boolean_text, empty_text, one_of, string_text};
+use crate::trim::trimmed;
+use nc_names::{Bound, Copies, Many, Memory, Text};
+use nc_schema::{Kind, Schema, ValueType};
+use std::alloc::Global;
+
+// The bindings of canonical texts.
+fn module_bounds(alloc: Global, schema: &Schema) -> Result<Many<Bound>, Memory>
+    ensures { IfOk result (λ it. it ≡ bindings.module_bounds schema.now) }
+{
+    let mut out = Many::new(alloc);
+    for found in schema.modules() {
+        out.push(Bound {
+            prefix: found.name.copy()?,
+            space: found.space.copy()?,
+        })?;
+    }
+    Ok(out)
+}
+
+// The numbers with one before them.
+fn longer(alloc: Global, number: u32, chain: &[u32]) -> Result<Many<u32>, Memory>
+    ensures { IfOk result (λ it. it ≡ number ∷ chain.now) }
+{
+    let mut out = Many::new(alloc);
+    out.push(number)?;
+    for one in chain {
+        out.push(*one)?;
+    }
+    Ok(out)
+}
+
+/// The number of the type of a leaf or leaf-list.
+pub(crate) fn type_of(schema: &Schema, number: u32) -> Option<u32>
+    ensures { result ≡ values.type_of schema.now number }
+{
+    let node = schema.node(number)?;
+    match node.kind {
+        Kind::Leaf | Kind::LeafList => Some(node.kind_of_value),
+        Kind::Container { .. } | Kind::List => None,
+    }
+}
+
+#[tactic(auto, using(crate::proofs::UnionLemmas::type_unknown, crate::proofs::UnionLemmas::type_spent, crate::proofs::UnionLemmas::type_again))]
+/// The canonical text of a value of the type of that number.
+#[cycle(types)]
+pub(crate) fn type_text<K: Gives>(
+    keys: &K,
+    alloc: Global,
+    schema: &Schema,
+    most: usize,
+    chain: &[u32],
+    bounds: &[Bound],
+    number: u32,
+    text: &str,
+) -> Result<Text, TypeFault>
+    ensures ok { IfOk result (λ it. values.type_text schema.now (K.gives schema.now) most chain.now bounds.now number text.now ≡ Some it) }
+    ensures refused { IfErr result (λ fault. OnNotInType fault (values.type_text schema.now (K.gives schema.now) most chain.now bounds.now number text.now ≡ None)) }
+{
+    if most == 0 || chain.contains(&number) {
+        return Err(TypeFault::NotInType);
+    }
+    let Some(found) = schema.value_type(number) else {
+        return Err(TypeFault::NotInType);
+    };
+    text_in_type(
+        keys,
+        alloc,
+        schema,
+        most - 1,
+        number,
+        chain,
+        bounds,
+        found,
+        text,
+    )
+}
+
+// The canonical text of a value of a type.
+#[cycle(types)]
+fn text_in_type<K: Gives>(
+    keys: &K,
+    alloc: Global,
+    schema: &Schema,
+    most: usize,
+    number: u32,
+    chain: &[u32],
+    bounds: &[Bound],
+    found: &ValueType,
+    text: &str,
+) -> Result<Text, TypeFault>
+    ensures ok { IfOk result (λ it. values.text_in_type schema.now (givers schema.now (K.gives schema.now) most (number ∷ chain.now)) found.now bounds.now text.now ≡ Some it) }
+    ensures refused { IfErr result (λ fault. OnNotInType fault (values.text_in_type schema.now (givers schema.now (K.gives schema.now) most (number ∷ chain.now)) found.now bounds.now text.now ≡ None)) }
+{
+    match found {
+        ValueType::Whole { among } => whole_text(alloc, among.as_slice(), trimmed(text)),
+        ValueType::Decimal { digits, among } => decimal_text(
+            alloc,
+            *digits,
+            among.as_slice(),
+            trimmed(text),
+        ),
+        ValueType::Chars { lengths, starless } => string_text(
+            alloc,
+            lengths.as_slice(),
+            *starless,
+            text,
+        ),
+        ValueType::Boolean => boolean_text(alloc, trimmed(text)),
+        ValueType::Enumeration { names } => one_of(alloc, names.as_slice(), trimmed(text)),
+        ValueType::Bits { names } => bits_text(alloc, names.as_slice(), trimmed(text)),
+        ValueType::Binary { lengths } => binary_text(alloc, lengths.as_slice(), trimmed(text)),
+        ValueType::Empty => empty_text(alloc, trimmed(text)),
+        ValueType::Union { members } => {
+            let asked = longer(alloc, number, chain)?;
+            union_text(
+                keys,
+                alloc,
+                schema,
+                most,
+                asked.as_slice(),
+                bounds,
+                members.as_slice(),
+                text,
+            )
+        }
+        ValueType::Identity { among } => identity_text(
+            alloc,
+            schema,
+            among.as_slice(),
+            bounds,
+            trimmed(text),
+        ),
+        ValueType::Leafref { target, .. } => {
+            let Some(of_target) = type_of(schema, *target) else {
+                return Err(TypeFault::NotInType);
+            };
+            let asked = longer(alloc, number, chain)?;
+            type_text(
+                keys,
+                alloc,
+                schema,
+                most,
+                asked.as_slice(),
+                bounds,
+                of_target,
+                text,
+            )
+        }
+        ValueType::Instance { .. } => instance_text(keys, alloc, schema, bounds, trimmed(text)),
+        ValueType::NodeInstance => node_instance_text(keys, alloc, schema, bounds, trimmed(text)),
+    }
+}
+
+#[tactic(auto, using(crate::proofs::UnionLemmas::union_next, crate::proofs::UnionLemmas::union_found, crate::proofs::UnionLemmas::union_other, crate::proofs::UnionLemmas::union_none))]
+// The canonical text by the first member of a union that admits the text.
+#[cycle(types)]
+fn union_text<K: Gives>(
+    keys: &K,
+    alloc: Global,
+    schema: &Schema,
+    most: usize,
+    chain: &[u32],
+    bounds: &[Bound],
+    members: &[u32],
+    text: &str,
+) -> Result<Text, TypeFault>
+    ensures ok { IfOk result (λ it. values.union_text (values.type_text schema.now (K.gives schema.now) most chain.now) (bindings.module_bounds schema.now) bounds.now [] members.now text.now ≡ Some it) }
+    ensures refused { IfErr result (λ fault. OnNotInType fault (values.union_text (values.type_text schema.now (K.gives schema.now) most chain.now) (bindings.module_bounds schema.now) bounds.now [] members.now text.now ≡ None)) }
+{
+    for (place, member) in members.iter().enumerate() {
+        match type_text(keys, alloc, schema, most, chain, bounds, *member, text) {
+            Ok(found) => {
+                if agree(keys, alloc, schema, most, chain, &members[..place], &found)? {
+                    return Ok(found);
+                }
+                return Err(TypeFault::NotInType);
+            }
+            Err(TypeFault::NotInType) => {}
+            Err(TypeFault::Memory) => return Err(TypeFault::Memory),
+        }
+    }
+    Err(TypeFault::NotInType)
+}
+
+#[tactic(auto, using(crate::proofs::UnionLemmas::agree_none, crate::proofs::UnionLemmas::agree_same, crate::proofs::UnionLemmas::agree_other, crate::proofs::UnionLemmas::agree_all))]
+// Whether each of the types gives this canonical text too, or none.
+#[cycle(types)]
+fn agree<K: Gives>(
+    keys: &K,
+    alloc: Global,
+    schema: &Schema,
+    most: usize,
+    chain: &[u32],
+    earlier: &[u32],
+    found: &Text,
+) -> Result<bool, Memory>
+    ensures { IfOk result (λ it. it ≡ list_all (λ other. values.agrees found.now (values.type_text schema.now (K.gives schema.now) most chain.now (bindings.module_bounds schema.now) other found.now)) earlier.now) }
+{
+    if earlier.is_empty() {
+        return Ok(true);
+    }
+    let names = module_bounds(alloc, schema)?;
+    for other in earlier {
+        match type_text(
+            keys,
+            alloc,
+            schema,
+            most,
+            chain,
+            names.as_slice(),
+            *other,
+            found.as_str(),
+        ) {
+            Ok(text) => {
+                if *found != text {
+                    return Ok(false);
+                }
+            }
+            Err(TypeFault::NotInType) => {}
+            Err(TypeFault::Memory) => return Err(Memory),
+        }
+    }
+    Ok(true)
+}

@@ -260,8 +260,7 @@ fn is_as_wanted(
 }
 
 /// Each text at a node, and its canonical one or `(none)`.
-fn holds(rt: &impl Abort, rows: &[(u32, &str, &str)]) {
-    let alloc = Global;
+fn holds(rt: &impl Abort, alloc: Global, rows: &[(u32, &str, &str)]) {
     let schema = example(rt, alloc);
     let bounds = bindings(rt, alloc);
     for row in rows {
@@ -274,6 +273,7 @@ fn holds(rt: &impl Abort, rows: &[(u32, &str, &str)]) {
 fn integers_and_decimals(rt: HostRuntime) {
     holds(
         &rt,
+        rt.alloc(),
         &[
             (7, "+007", "7"),
             (7, "-0", "0"),
@@ -314,6 +314,7 @@ fn integers_and_decimals(rt: HostRuntime) {
 fn strings_and_names(rt: HostRuntime) {
     holds(
         &rt,
+        rt.alloc(),
         &[
             (1, "", ""),
             (1, " x ", " x "),
@@ -351,6 +352,7 @@ fn strings_and_names(rt: HostRuntime) {
 fn bits_binary_and_empty(rt: HostRuntime) {
     holds(
         &rt,
+        rt.alloc(),
         &[
             (11, "c  a", "a c"),
             (11, "\n b\ta ", "a b"),
@@ -376,6 +378,7 @@ fn bits_binary_and_empty(rt: HostRuntime) {
 fn unions_and_identities(rt: HostRuntime) {
     holds(
         &rt,
+        rt.alloc(),
         &[
             (14, "07", "7"),
             (14, "seven", "seven"),
@@ -400,6 +403,7 @@ fn unions_and_identities(rt: HostRuntime) {
 fn paths(rt: HostRuntime) {
     holds(
         &rt,
+        rt.alloc(),
         &[
             (
                 16,

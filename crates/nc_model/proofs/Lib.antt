@@ -48,3 +48,5 @@ pub mod SessionExample
 pub mod EditRights
 pub mod EntryPlace
 pub mod EntryLands
+pub mod ContentLemmas
+pub mod DecodedLemmas

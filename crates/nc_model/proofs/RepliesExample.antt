@@ -52,7 +52,7 @@ done_and_empty = refl
 -- a locked node's path has the names of its modules bound
 locked_nodes :
     map (λ part. written (record { root = record { name = record { space = []; name = [] }; bounds = []; attrs = []; parts = part ∷ [] } }))
-    (drop 1 (answer_parts tables sees sees (request None) (Locked 12 (port (codes "a") ∷ []))))
+    (drop 1 (answer_parts tables sees sees None (Locked 12 (port (codes "a") ∷ []))))
     ≡ codes "<><locked-node xmlns=\"urn:ietf:params:xml:ns:netconf:partial-lock:1.0\" xmlns:ex=\"urn:ex\">/ex:top/ex:port[ex:name='a']</locked-node></>" ∷ []
 unfolding node tables key_word value_word rule_word default_word read_word write_word exec_word operation_word deny_all_word deny_write_word default_operation_word running_word candidate_word startup_word url_word base_namespace yang_namespace merge_word replace_word create_word delete_word remove_word insert_word first_word last_word before_word after_word partial_lock_namespace cause_namespace rpc_word message_id_word get_word get_config_word edit_config_word copy_config_word delete_config_word lock_word unlock_word close_session_word kill_session_word commit_word discard_changes_word cancel_commit_word validate_word partial_lock_word partial_unlock_word target_word source_word config_word filter_word test_option_word error_option_word confirmed_word confirm_timeout_word session_id_word lock_id_word persist_word persist_id_word select_word none_word test_then_set_word set_word test_only_word stop_on_error_word continue_on_error_word rollback_on_error_word type_word subtree_word rpc_reply_word ok_word data_word locked_node_word rpc_error_word error_type_word error_tag_word error_severity_word error_app_tag_word error_path_word error_info_word bad_attribute_word bad_element_word bad_namespace_word no_session_word cause_word kind_word name_word protocol_word application_word error_word malformed_message_word missing_attribute_word missing_element_word unknown_element_word operation_not_supported_word access_denied_word invalid_value_word lock_denied_word operation_failed_word in_use_word resource_denied_word unknown_namespace_word unknown_attribute_word data_exists_word data_missing_word outstanding_confirmed_commit_word locked_word invalid_lock_specification_word no_matches_word missing_instance_word missing_choice_word too_few_elements_word too_many_elements_word data_not_unique_word instance_required_word parameter_word datastore_word global_lock_word candidate_modified_word confirmed_commit_word no_lock_word no_confirmed_commit_word limit_word constraint_word mandatory_word mandatory_choice_word min_elements_word max_elements_word unique_word leafref_word instance_word disk_fault_word ampersand less_than greater_than quotation_mark carriage_return tab line_feed default_namespace prefixed_namespace value_start empty_end end_tag xml_prefix hidden-the_row-Part-0 hidden-the_row-Elem-1 hidden
 locked_nodes = refl

@@ -83,9 +83,12 @@ abbrev pub datastore_in : Elem → Option Datastore
 datastore_in elem = option_and_then datastore_named (only_child elem)
 
 -- a datastore, or the configuration in `config`
+abbrev pub is_config : Elem → Bool
+is_config child = is_same_name child.name (base_name w.config_word)
+
 abbrev pub origin_named : Elem → Option Origin
 origin_named child =
-    if is_same_name child.name (base_name w.config_word) then Some (Inline child)
+    if is_config child then Some (Inline child)
     else option_map Store (datastore_named child)
 
 abbrev pub origin_in : Elem → Option Origin
@@ -95,10 +98,11 @@ origin_in elem = option_and_then origin_named (only_child elem)
 abbrev pub is_type : Attr → Bool
 is_type attr = is_same_name attr.name (record { space = []; name = w.type_word })
 
+abbrev pub is_filter : Elem → Bool
+is_filter elem = list_all (λ attr. not (is_type attr) || is_same_text attr.value w.subtree_word) elem.attrs
+
 abbrev pub filter_in : Elem → Option Elem
-filter_in elem =
-    if list_all (λ attr. not (is_type attr) || is_same_text attr.value w.subtree_word) elem.attrs then Some elem
-    else None
+filter_in elem = if is_filter elem then Some elem else None
 
 -- an empty element
 abbrev pub presence_in : Elem → Option Bool
@@ -151,14 +155,18 @@ abbrev pub read_or : {A : Type 0} → Result A Cause → Cause → (Elem → Opt
 read_or absent refused read None = absent
 read_or absent refused read (Some elem) = or_cause refused (read elem)
 
+-- one that is not repeated
+abbrev pub single : {A : Type 0} → QName → Cause → (Elem → Option A) → Parameter
+single name refused read = record {
+  name = name;
+  repeats = false;
+  admits = λ elems elem. is_some (read elem);
+  refused = refused;
+}
+
 abbrev pub one_parameter : {A : Type 0} → QName → Cause → (Elem → Option A) → Result A Cause → Asking A
 one_parameter name refused read absent = record {
-  parameters = record {
-    name = name;
-    repeats = false;
-    admits = λ elems elem. is_some (read elem);
-    refused = refused;
-  } ∷ [];
+  parameters = single name refused read ∷ [];
   reading = λ elems. read_or absent refused read (element_named name elems);
 }
 
@@ -178,9 +186,11 @@ abbrev pub filter_parameter : Asking (Option Elem)
 filter_parameter = one_parameter (base_name w.filter_word) (plain_cause BadFilterType []) (some_in filter_in) (Ok None)
 
 -- parameters that have no reading without `confirmed` (RFC 6241 8.4.5.1)
+abbrev pub is_confirmed : List Elem → Bool
+is_confirmed elems = is_some (element_named (base_name w.confirmed_word) elems)
+
 abbrev pub admits_where_confirmed : Parameter → List Elem → Elem → Bool
-admits_where_confirmed parameter elems elem =
-    parameter.admits elems elem && is_some (element_named (base_name w.confirmed_word) elems)
+admits_where_confirmed parameter elems elem = parameter.admits elems elem && is_confirmed elems
 
 abbrev pub beside_confirmed : Parameter → Parameter
 beside_confirmed parameter = record parameter { admits = admits_where_confirmed parameter }
@@ -196,14 +206,17 @@ one_or_more [] = Err (missing_parameter (partial_lock_name w.select_word))
 one_or_more (select ∷ more) = Ok (select ∷ more)
 
 -- `select`, one or more (RFC 5717 2.4.1)
+abbrev pub select_parameter : Parameter
+select_parameter = record {
+  name = partial_lock_name w.select_word;
+  repeats = true;
+  admits = λ elems elem. is_some (select_in elem);
+  refused = bad_parameter (partial_lock_name w.select_word);
+}
+
 abbrev pub selects : Asking (List Select)
 selects = record {
-  parameters = record {
-    name = partial_lock_name w.select_word;
-    repeats = true;
-    admits = λ elems elem. is_some (select_in elem);
-    refused = bad_parameter (partial_lock_name w.select_word);
-  } ∷ [];
+  parameters = select_parameter ∷ [];
   reading = λ elems. one_or_more (filter_map select_in (filter is_select elems));
 }
 

@@ -18,22 +18,37 @@ use Rattle.nc_model.specs.Asking.{Asking, Parameter, asking, plain_cause}
 use Rattle.nc_model.specs.Content.{base_name, children, partial_lock_name}
 use Rattle.nc_model.specs.Words as w
 
--- the operations by their names
-abbrev pub operations : List (QName × Operation)
+-- the names of the operations
+abbrev pub operation_name : Operation → QName
+operation_name Get = base_name w.get_word
+operation_name GetConfig = base_name w.get_config_word
+operation_name EditConfig = base_name w.edit_config_word
+operation_name CopyConfig = base_name w.copy_config_word
+operation_name DeleteConfig = base_name w.delete_config_word
+operation_name Lock = base_name w.lock_word
+operation_name Unlock = base_name w.unlock_word
+operation_name CloseSession = base_name w.close_session_word
+operation_name KillSession = base_name w.kill_session_word
+operation_name Commit = base_name w.commit_word
+operation_name DiscardChanges = base_name w.discard_changes_word
+operation_name CancelCommit = base_name w.cancel_commit_word
+operation_name Validate = base_name w.validate_word
+operation_name PartialLock = partial_lock_name w.partial_lock_word
+operation_name PartialUnlock = partial_lock_name w.partial_unlock_word
+
+abbrev pub operations : List Operation
 operations =
-    (base_name w.get_word, Get) ∷ (base_name w.get_config_word, GetConfig) ∷ (base_name w.edit_config_word, EditConfig)
-    ∷ (base_name w.copy_config_word, CopyConfig) ∷ (base_name w.delete_config_word, DeleteConfig)
-    ∷ (base_name w.lock_word, Lock) ∷ (base_name w.unlock_word, Unlock) ∷ (base_name w.close_session_word, CloseSession)
-    ∷ (base_name w.kill_session_word, KillSession) ∷ (base_name w.commit_word, Commit)
-    ∷ (base_name w.discard_changes_word, DiscardChanges) ∷ (base_name w.cancel_commit_word, CancelCommit)
-    ∷ (base_name w.validate_word, Validate) ∷ (partial_lock_name w.partial_lock_word, PartialLock)
-    ∷ (partial_lock_name w.partial_unlock_word, PartialUnlock) ∷ []
+    Get ∷ GetConfig ∷ EditConfig ∷ CopyConfig ∷ DeleteConfig ∷ Lock ∷ Unlock ∷ CloseSession ∷ KillSession ∷ Commit
+    ∷ DiscardChanges ∷ CancelCommit ∷ Validate ∷ PartialLock ∷ PartialUnlock ∷ []
+
+abbrev pub operation_among : List Operation → QName → Option Operation
+operation_among operations name = find (λ operation. is_same_name name (operation_name operation)) operations
 
 abbrev pub operation_named : QName → Option Operation
-operation_named name = option_map (λ entry. entry.1) (find (λ entry. is_same_name entry.0 name) operations)
+operation_named name = operation_among operations name
 
 abbrev pub parameter_named : List Parameter → QName → Option Parameter
-parameter_named parameters name = find (λ parameter. is_same_name parameter.name name) parameters
+parameter_named parameters name = find (λ parameter. is_same_name name parameter.name) parameters
 
 abbrev pub has_name : QName → List Elem → Bool
 has_name name elems = list_any (λ elem. is_same_name elem.name name) elems

@@ -1,7 +1,7 @@
 -- The errors of the causes: type, tag and app-tag, and what error-info holds (RFC 6241 4.3 and appendix A; RFC 7950
 -- 15; RFC 5717 2.4.1; RFC 8341 3.4.5).
-use Rattle.std.specs.Prelude.{ℕ, List, [], ◌∷◌, Option, Some, None}
-use Rattle.std.specs.List.{last_or, zip}
+use Rattle.std.specs.Prelude.{◌-◌, ℕ, List, [], ◌∷◌, Option, Some, None, length, slice_get}
+use Rattle.std.specs.List.{zip}
 use Rattle.std.specs.Option.{option_map_or}
 use Rattle.nc_names.specs.declared.cause.CauseKind.{CauseKind}
 use Rattle.nc_names.specs.declared.cause.CauseKind.TheVariants.{Malformed, NoMessageId, NoOperation, TwoOperations, UnknownOperation, ExecDenied, UnknownParameter, RepeatedParameter, MissingParameter, BadParameter, BadFilterType, UnsupportedTarget, LockHeld, LockModified, LockPending, LockPartial, NotHeld, InUseGlobal, InUsePartial, InUsePending, NoPending, BadToken, NotLiveTarget, BadSelect, NoMatch, Limit, UnknownElement, UnknownNamespace, UnknownAttribute, BadAttribute, MissingKey, BadElement, BadValue, Exists, Absent, MissingInstance, DataDenied, Mandatory, MandatoryChoice, TooFew, TooMany, NotUnique, DeadLeafref, DeadInstance, DiskFault}
@@ -86,7 +86,7 @@ Info = List ℕ × List ℕ
 
 -- who holds what is in the way: the last name of the cause
 abbrev pub holder : List (List ℕ) → List Info
-holder names = option_map_or (λ name. (w.session_id_word, name) ∷ []) (last_or None names) []
+holder names = option_map_or (λ name. (w.session_id_word, name) ∷ []) (slice_get names (length names - 1)) []
 
 -- the elements of error-info that RFC 6241 has for the tags (appendix A), by the names of the cause. A lock that no
 -- session holds has 0 (`lock-denied`)

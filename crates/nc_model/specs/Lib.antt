@@ -23,3 +23,4 @@ pub mod ModuleNames
 pub mod Printed
 pub mod ErrorRows
 pub mod Reply
+pub mod RequestLaws

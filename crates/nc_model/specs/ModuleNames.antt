@@ -1,8 +1,9 @@
 -- The names of modules that stand as prefixes in canonical texts, and their namespaces.
-use Rattle.std.specs.Prelude.{◌==◌, ◌||◌, ℕ, zero, suc, Bool, true, false, not, if◌then◌else◌, List, [], ◌∷◌, ◌++◌, length, fold, Option, Some, None, slice_get, option_map}
-use Rattle.std.specs.List.{before_first, filter_map, find, list_any, slice_split}
+use Rattle.std.specs.Prelude.{◌==◌, ◌||◌, ℕ, zero, suc, Bool, true, false, not, if◌then◌else◌, List, [], ◌∷◌, ◌++◌, length, fold, Option, Some, None, slice_get}
+use Rattle.std.specs.List.{before_first, find, list_any, slice_split}
 use Rattle.std.specs.Option.{option_map_or}
 use Rattle.nc_names.specs.declared.name.Bound.{Bound}
+use Rattle.nc_names.specs.declared.name.Module.{Module}
 use Rattle.nc_names.specs.Same.{is_same_text}
 use Rattle.nc_names.specs.Signs.{colon, is_in_identifier}
 use Rattle.nc_schema.specs.Tables.{Tables}
@@ -10,32 +11,37 @@ use Rattle.nc_schema.specs.Values.{type_of}
 use Rattle.nc_schema.specs.declared.value_type.ValueType.{ValueType}
 use Rattle.nc_schema.specs.declared.value_type.ValueType.TheVariants.{Union, Identity, Leafref, Instance, NodeInstance}
 
+-- a sign that stands between names: none of an identifier (RFC 7950 6.2), and no colon
 abbrev pub is_colon : ℕ → Bool
 is_colon sign = sign == colon
 
--- what a piece of a text has before its first colon
-abbrev pub prefix_in : List ℕ → Option (List ℕ)
-prefix_in piece = if list_any is_colon piece then Some (before_first is_colon piece) else None
+abbrev pub is_apart : ℕ → Bool
+is_apart sign = not (is_in_identifier sign || is_colon sign)
 
--- the identifiers that stand before a colon in a text, in its order
-abbrev pub prefixes_in : List ℕ → List (List ℕ)
-prefixes_in text = filter_map prefix_in (slice_split (λ sign. not (is_in_identifier sign || is_colon sign)) text)
+abbrev pub is_bound : List Bound → List ℕ → Bool
+is_bound bounds name = list_any (λ bound. is_same_text bound.prefix name) bounds
 
--- the module of a name, as a binding
-abbrev pub module_bound : Tables → List ℕ → Option Bound
-module_bound tables name =
-    option_map (λ found. record { prefix = found.name; space = found.space })
-    (find (λ found. is_same_text found.name name) tables.modules)
+-- bindings with that of a module's name, unless it is there or no module has the name
+abbrev pub with_module : List Bound → Option Module → List Bound
+with_module bounds None = bounds
+with_module bounds (Some found) = bounds ++ record { prefix = found.name; space = found.space } ∷ []
 
-abbrev pub is_bound : List Bound → Bound → Bool
-is_bound bounds bound = list_any (λ one. is_same_text one.prefix bound.prefix) bounds
+abbrev pub with_name : Tables → List Bound → List ℕ → List Bound
+with_name tables bounds name =
+    if is_bound bounds name then bounds else with_module bounds (find (λ found. is_same_text found.name name) tables.modules)
 
-abbrev pub with_bound : List Bound → Bound → List Bound
-with_bound bounds bound = if is_bound bounds bound then bounds else bounds ++ bound ∷ []
+-- with that of the name that a piece of a text has before its first colon
+abbrev pub with_piece : Tables → List Bound → List ℕ → List Bound
+with_piece tables bounds piece =
+    if list_any is_colon piece then with_name tables bounds (before_first is_colon piece) else bounds
+
+-- with those of all pieces of a text, which stand between other signs
+abbrev pub with_names : Tables → List Bound → List ℕ → List Bound
+with_names tables bounds text = fold (with_piece tables) bounds (slice_split is_apart text)
 
 -- the bindings of the module names that a text has before colons, each once, in the order of first use
 abbrev pub names_bound : Tables → List ℕ → List Bound
-names_bound tables text = fold with_bound [] (filter_map (module_bound tables) (prefixes_in text))
+names_bound tables text = with_names tables [] text
 
 -- a value of the type may have a module's name as a prefix: one of an identity or of a path, also as a member of a
 -- union or as the target of a leafref. `holds` is this of the types by which it is given

@@ -12,6 +12,7 @@ use Rattle.nc_message.specs.declared.tree.Tree.{Tree}
 use Rattle.nc_schema.specs.PathTexts.{path_text_of}
 use Rattle.nc_schema.specs.Tables.{Tables}
 use Rattle.nc_model.specs.declared.asked.Asked.{Asked}
+use Rattle.nc_model.specs.declared.asked.Operation.{Operation}
 use Rattle.nc_model.specs.declared.request.Cause.{Cause}
 use Rattle.nc_model.specs.declared.request.Request.{Request}
 use Rattle.nc_model.specs.declared.verdict.Verdict.{Verdict}
@@ -106,21 +107,21 @@ error_part row rest = base_part w.rpc_error_word (
     ∷ text_part (base_name w.error_severity_word) w.error_word ∷ app_tag_parts row.app_tag ++ rest)
 
 -- the error of a cause. `sees` is what the session may see; `named` says which paths its request names itself
-abbrev pub cause_part : Tables → (sees named : Path → Bool) → Request → Cause → Part
-cause_part tables sees named request cause =
-    error_part (error_of request.operation cause.kind) (
+abbrev pub cause_part : Tables → (sees named : Path → Bool) → Option Operation → Cause → Part
+cause_part tables sees named operation cause =
+    error_part (error_of operation cause.kind) (
     error_path tables (λ path. sees path || named path) cause.path ++ info_parts cause.kind (names_shown sees cause))
 
 -- ---- replies
 
 -- what a reply says (RFC 6241 4.3, 4.4, 7.1; RFC 5717 2.4.1)
-abbrev pub answer_parts : Tables → (sees named : Path → Bool) → Request → Verdict → List Part
-answer_parts tables sees named request Done = base_part w.ok_word [] ∷ []
-answer_parts tables sees named request (Selected rows) = base_part w.data_word (printed tables rows) ∷ []
-answer_parts tables sees named request (Locked lock nodes) =
+abbrev pub answer_parts : Tables → (sees named : Path → Bool) → Option Operation → Verdict → List Part
+answer_parts tables sees named operation Done = base_part w.ok_word [] ∷ []
+answer_parts tables sees named operation (Selected rows) = base_part w.data_word (printed tables rows) ∷ []
+answer_parts tables sees named operation (Locked lock nodes) =
     text_part (partial_lock_name w.lock_id_word) (decimal lock)
     ∷ map (path_part tables (partial_lock_name w.locked_node_word)) nodes
-answer_parts tables sees named request (Refused causes) = map (cause_part tables sees named request) causes
+answer_parts tables sees named operation (Refused causes) = map (cause_part tables sees named operation) causes
 
 -- the reply with the attributes of the `rpc`, as they are written there (RFC 6241 4.2)
 abbrev pub reply_tree : List Part → Request → Tree
@@ -132,7 +133,11 @@ abbrev pub named_by : Tables → Result Asked Cause → Path → Bool
 named_by tables (Ok asked) path = names_path tables asked path
 named_by tables (Err cause) path = false
 
+-- the reply to a request with its verdict, for a session that sees these paths, where its payload names those
+abbrev pub reply_naming : Tables → (sees named : Path → Bool) → Request → Verdict → Tree
+reply_naming tables sees named request verdict =
+    reply_tree (answer_parts tables sees named request.operation verdict) request
+
 -- the reply to a request with its verdict, for a session that sees these paths
 abbrev pub reply_of : Tables → (sees : Path → Bool) → Request → Verdict → Tree
-reply_of tables sees request verdict =
-    reply_tree (answer_parts tables sees (named_by tables request.asked) request verdict) request
+reply_of tables sees request verdict = reply_naming tables sees (named_by tables request.asked) request verdict

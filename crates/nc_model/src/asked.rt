@@ -1,7 +1,7 @@
 //! What a request asks for: an operation with its parameters.
 use crate::{Datastore, Origin};
-use nc_message::Elem;
-use nc_names::{Bound, Many, Text};
+use nc_message::{Bounds, Elem};
+use nc_names::{Many, Text};
 
 /// A protocol operation (RFC 6241 7, 8.3.4, 8.4.4 and 8.6.4; RFC 5717 2.4).
 #[derive(Clone, Copy, PartialEq, Eq, Debug)]
@@ -78,7 +78,7 @@ pub struct Select {
     /// The expression.
     pub text: Text,
     /// The prefix bindings that are in force in the element.
-    pub bounds: Many<Bound>,
+    pub bounds: Bounds,
 }
 
 /// An operation with its parameters, where an absent one has its default.

@@ -1,6 +1,7 @@
 //! What follows from the definitions in `specs/`, each as the contract of a function that does
 //! nothing. A call of one makes its law known to the caller.
 ghost use Rattle.nc_model.specs.Laws.{HistoriesJoin, LegalHistoriesJoin, OneEntryIsLegal, MineStays, MineGrows, ChildIsElement, BelowIsBelow, PlacesAreInOrder, EditKeepsTree, EditKeepsConfiguration, EditLeaves, EditsKeepTree, RowsStandInOrder, OpeningIsGood, GoodStays, HistoryIsDetermined, DiskFaultHasCause, CommitAloneChangesRunning, IsEndedBetween, PayloadFits, PayloadKeepsConfiguration, InlineIsConfiguration, SelectedIsDataTree, SelectedStandsInRows, EmptyFilterSelectsNothing, SelectionNodeSelectsSubtree, EditAsks, EntryLands};
+ghost use Rattle.nc_model.specs.RequestLaws.{DecodedIsProper, CauseHasItsNames, ReplyRepeatsRequest};
 
 /// The state after a history is that after its rest, from the state after its front.
 pub fn histories_join()
@@ -145,4 +146,19 @@ pub fn selection_node_selects_subtree()
 /// What a filter keeps of a data tree is a data tree.
 pub fn selected_is_data_tree()
     ensures { SelectedIsDataTree }
+{}
+
+/// What a message asks for is a proper request.
+pub fn decoded_is_proper()
+    ensures { DecodedIsProper }
+{}
+
+/// The cause for which a proper request asks for nothing has the names that its reply needs.
+pub fn cause_has_its_names()
+    ensures { CauseHasItsNames }
+{}
+
+/// A reply is an `rpc-reply` with the attributes of the `rpc`, and `data` holds the selected rows alone.
+pub fn reply_repeats_request()
+    ensures { ReplyRepeatsRequest }
 {}

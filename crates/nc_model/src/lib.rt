@@ -8,6 +8,7 @@
 
 mod access;
 mod asked;
+pub mod cause_words;
 mod changes;
 mod datastore;
 mod desk;
@@ -17,7 +18,9 @@ mod event;
 mod laws;
 mod peer;
 mod position;
+pub mod reply_words;
 mod request;
+pub mod request_words;
 mod session;
 mod verdict;
 
@@ -30,12 +33,13 @@ pub use edit::{Action, Edit};
 pub use entry::{Bears, Entry};
 pub use event::{Event, Outcome};
 pub use laws::{
-    below_is_below, child_is_element, commit_alone_changes_running, disk_fault_has_cause,
-    edit_asks, edit_keeps_configuration, edit_keeps_tree, edit_leaves, edits_keep_tree,
-    empty_filter_selects_nothing, entry_lands, good_stays, histories_join, history_is_determined,
-    inline_is_configuration, is_ended_between, legal_histories_join, mine_grows, mine_stays,
-    one_entry_is_legal, opening_is_good, payload_fits, payload_keeps_configuration,
-    places_are_in_order, rows_stand_in_order, selected_is_data_tree, selected_stands_in_rows,
+    below_is_below, cause_has_its_names, child_is_element, commit_alone_changes_running,
+    decoded_is_proper, disk_fault_has_cause, edit_asks, edit_keeps_configuration, edit_keeps_tree,
+    edit_leaves, edits_keep_tree, empty_filter_selects_nothing, entry_lands, good_stays,
+    histories_join, history_is_determined, inline_is_configuration, is_ended_between,
+    legal_histories_join, mine_grows, mine_stays, one_entry_is_legal, opening_is_good,
+    payload_fits, payload_keeps_configuration, places_are_in_order, reply_repeats_request,
+    rows_stand_in_order, selected_is_data_tree, selected_stands_in_rows,
     selection_node_selects_subtree,
 };
 pub use peer::Peer;

@@ -5,4 +5,6 @@
 #[cfg(test)]
 mod narrow_tests;
 #[cfg(test)]
+mod requests_tests;
+#[cfg(test)]
 mod session_tests;

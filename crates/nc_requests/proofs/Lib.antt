@@ -1,0 +1,3 @@
+pub mod WhiteLemmas
+pub mod NumberLemmas
+pub mod ContentLemmas

@@ -30,6 +30,7 @@ impl Model for Config {
 }
 
 impl Config {
+    /// The rows, as the list that keeps them.
     pub(crate) fn list(&self) -> &Many<Row>
         ensures { result.now ≡ self.now }
     {

@@ -341,6 +341,7 @@ fn order_there(
     placed(alloc, place, &step.keys, order)
 }
 
+/// The first `at` of the steps.
 pub(crate) fn head(steps: &Many<Step>, at: usize) -> &[Step]
     requires { at ≤ length steps.now }
     ensures { result.now ≡ take at steps.now }

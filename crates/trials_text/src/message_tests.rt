@@ -126,7 +126,8 @@ fn tree(alloc: Global) -> Result<Tree, Memory> {
 fn a_tree_is_written(rt: HostRuntime) -> Result<(), Fail> {
     let mut out = Bytes::new(rt.alloc());
     write(&tree(rt.alloc())?, &mut out)?;
-    let wanted = "<a xmlns=\"u\" xmlns:p=\"z\" p:k=\"1&quot;\"><b xmlns:q=\"w\" xmlns:p=\"x\" xmlns:r=\"y\">a&lt;b</b></a>";
+    let wanted =
+        "<a xmlns=\"u\" xmlns:p=\"z\" p:k=\"1&quot;\"><b xmlns:q=\"w\" xmlns:p=\"x\" xmlns:r=\"y\">a&lt;b</b></a>";
     assert_eq!(rt; out.as_slice(), wanted.as_bytes());
     Ok(())
 }

@@ -3,8 +3,8 @@ ghost use Rattle.std.specs.Prelude.{◌≡◌, [], ◌∷◌, IfOk};
 
 use nc_names::{Bytes, Many, Memory, Text};
 use nc_outside::{
-    Clock, Failed, FileFault, Files, MemClock, MemFiles, MemSink, MemSource, MonotonicClock, NamedFile,
-    ReaderSource, Sink, Source, WriterSink, write_all,
+    Clock, Failed, FileFault, Files, MemClock, MemFiles, MemSink, MemSource, MonotonicClock,
+    NamedFile, ReaderSource, Sink, Source, WriterSink, write_all,
 };
 use std::alloc::Global;
 use std::cell::Cell;
@@ -245,7 +245,13 @@ fn a_clock_that_goes_back_or_fails_gives_its_last_answer_again(rt: HostRuntime) 
         milliseconds: Cell::new(0),
     };
     let mut clock = MonotonicClock::new(&shown);
-    for (milliseconds, want) in [(0, 0), (5000, 5000), (4000, 5000), (0, 5000), (u64::MAX, 1 << 62)] {
+    for (milliseconds, want) in [
+        (0, 0),
+        (5000, 5000),
+        (4000, 5000),
+        (0, 5000),
+        (u64::MAX, 1 << 62),
+    ] {
         shown.milliseconds.set(milliseconds);
         assert_eq!(rt; clock.now(), want, "at {milliseconds}");
     }

@@ -3,14 +3,6 @@
 #![tactic(auto)]
 
 #[cfg(test)]
-mod defaults_tests;
-#[cfg(test)]
 mod model_tests;
 #[cfg(test)]
-mod sample;
-#[cfg(test)]
 mod schema_tests;
-#[cfg(test)]
-mod tree_tests;
-#[cfg(test)]
-mod types_tests;

@@ -5,6 +5,4 @@
 #[cfg(test)]
 mod narrow_tests;
 #[cfg(test)]
-mod requests_tests;
-#[cfg(test)]
 mod session_tests;

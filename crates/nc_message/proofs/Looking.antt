@@ -8,7 +8,8 @@ use Rattle.std.proofs.Math.Seq.{take-suc}
 use Rattle.std.proofs.lemmas.List.Sums.{fold-append}
 use Rattle.nc_names.specs.Same.{is_same_text}
 use Rattle.nc_names.specs.declared.name.Bound.{Bound}
-use Rattle.nc_message.specs.Bindings.{Declared, declares, inside, space_of, is_empty}
+use Rattle.nc_names.specs.Bindings.{space_of}
+use Rattle.nc_message.specs.Bindings.{Declared, declares, inside, is_empty}
 use Rattle.nc_message.specs.inner.Levels.{in_force}
 
 same_to : (a b : List ℕ) → is_same_text a b ≡ true → a ≡ b

@@ -1,5 +1,5 @@
 -- The namespace bindings in force (Namespaces in XML 1.0, 3 and 6).
-use Rattle.std.specs.Prelude.{ℕ, Bool, true, false, not, ◌||◌, ◌&&◌, List, [], ◌∷◌, ◌++◌, Option, Some, None, filter, if◌then◌else◌}
+use Rattle.std.specs.Prelude.{ℕ, Bool, true, false, not, ◌||◌, ◌&&◌, List, [], ◌∷◌, ◌++◌, filter}
 use Rattle.std.specs.List.{list_any}
 use Rattle.nc_names.specs.Same.{is_same_text}
 use Rattle.nc_names.specs.declared.name.Bound.{Bound}
@@ -22,11 +22,6 @@ declares d prefix = list_any (λ b. is_same_text prefix b.prefix) d.own || (d.un
 -- then its own (6.1, 6.2)
 abbrev pub inside : List Bound → Declared → List Bound
 inside outer d = filter (λ b. not (declares d b.prefix)) outer ++ d.own
-
--- what a prefix is bound to
-abbrev pub space_of : (prefix : List ℕ) → List Bound → Option (List ℕ)
-space_of prefix [] = None
-space_of prefix (b ∷ more) = if is_same_text prefix b.prefix then Some b.space else space_of prefix more
 
 -- the same prefix bound to the same namespace
 abbrev pub is_same_bound : Bound → Bound → Bool

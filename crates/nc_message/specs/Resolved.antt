@@ -6,7 +6,8 @@ use Rattle.nc_names.specs.declared.name.Bound.{Bound}
 use Rattle.nc_names.specs.declared.name.QName.{QName}
 use Rattle.nc_message.specs.declared.tree.Attr.{Attr}
 use Rattle.nc_names.specs.Same.{is_same_text, is_same_name}
-use Rattle.nc_message.specs.Bindings.{Declared, declares, inside, space_of, is_empty}
+use Rattle.nc_names.specs.Bindings.{space_of}
+use Rattle.nc_message.specs.Bindings.{Declared, declares, inside, is_empty}
 use Rattle.nc_message.specs.Tokens.{Name, Attribute, Tag}
 use Rattle.nc_message.specs.Texts.{value_of, is_char, onto}
 

@@ -4,10 +4,11 @@ ghost use Rattle.std.specs.Prelude.{◌≡◌, List, ◌∷◌, ◌++◌, [], Bo
 ghost use Rattle.std.specs.Option.{option_copied};
 ghost use Rattle.std.specs.Cmp.Lexicographic.{pointwise};
 ghost use Rattle.nc_names.specs.declared.name.Bound.{Bound};
-ghost use Rattle.nc_message.specs.Bindings.{Declared, declares, inside, space_of, is_empty, is_same_bound};
+ghost use Rattle.nc_names.specs.Bindings.{space_of};
+ghost use Rattle.nc_message.specs.Bindings.{Declared, declares, inside, is_empty, is_same_bound};
 ghost use Rattle.nc_message.specs.inner.Levels.{IsTable, in_force, is_replaced};
 
-use nc_names::{Bound, Copies, Many, Memory, Shared, Text};
+use nc_names::{Binds, Bound, Copies, Many, Memory, Shared, Text};
 use std::alloc::Global;
 use std::collections::BTreeMap;
 use std::marker::Model;
@@ -234,6 +235,18 @@ impl Bounds {
             bounds.push(bound.copy()?)?;
         }
         Ok(bounds)
+    }
+}
+
+impl Binds for Bounds {
+    ghost bound = { λ bounds. bounds };
+
+    fn space_of(&self, prefix: &Text) -> Option<&Text> {
+        self.find(prefix)
+    }
+
+    fn to_many(&self, alloc: Global) -> Result<Many<Bound>, Memory> {
+        Bounds::to_many(self, alloc)
     }
 }
 

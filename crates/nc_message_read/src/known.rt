@@ -1,5 +1,6 @@
 //! The names that were read.
 ghost use Rattle.std.specs.Prelude.{◌≡◌, IfOk};
+ghost use Rattle.std.specs.BTreeSet.{btree_set_len};
 
 use nc_names::{Copies, Memory, Text};
 use std::alloc::Global;
@@ -13,7 +14,10 @@ pub(crate) struct Known {
 }
 
 impl Known {
-    pub(crate) fn new(alloc: Global) -> Known {
+    /// No names; it takes no memory until it grows.
+    pub(crate) fn new(alloc: Global) -> Known
+        ensures { btree_set_len result.names ≡ 0 }
+    {
         Known {
             alloc,
             names: BTreeSet::new(alloc),

@@ -6,30 +6,35 @@ ghost use Rattle.nc_message.specs.Names as names;
 
 use nc_names::{begins_identifier, is_in_identifier, is_white};
 
+/// Whether a part of a name may begin with the byte.
 pub(crate) fn begins_name(byte: u8) -> bool
     ensures { result ≡ names.begins_name byte }
 {
     begins_identifier(byte) || byte >= 128
 }
 
+/// Whether a part of a name may hold the byte.
 pub(crate) fn is_in_name(byte: u8) -> bool
     ensures { result ≡ names.is_in_name byte }
 {
     is_in_identifier(byte) || byte >= 128
 }
 
+/// Whether a value between these quotation marks may hold the byte.
 fn is_in_value(mark: u8, byte: u8) -> bool
     ensures { result ≡ names.is_in_value mark byte }
 {
     byte != b'<' && byte != mark
 }
 
+/// Whether a run of text may hold the byte.
 fn is_in_run(byte: u8) -> bool
     ensures { result ≡ names.is_in_run byte }
 {
     byte != b'<'
 }
 
+/// Whether the byte is a quotation mark.
 pub(crate) fn is_quote(byte: u8) -> bool
     ensures { result ≡ names.is_quote byte }
 {

@@ -27,6 +27,7 @@ pub(crate) struct Stack {
 }
 
 impl Stack {
+    /// Before the first token.
     pub(crate) fn new(alloc: Global) -> Stack
         ensures { state_of result ≡ reads.begin }
     {

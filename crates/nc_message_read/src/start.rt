@@ -4,6 +4,7 @@ ghost use Rattle.std.specs.Prelude.{◌≡◌, ◌++◌, ◌∷◌, [], not, ◌
 ghost use Rattle.std.specs.Option.{option_copied};
 ghost use Rattle.std.specs.List.{list_any, list_all};
 ghost use Rattle.nc_names.specs.Same.{is_same_text};
+ghost use Rattle.nc_names.specs.Bindings.{space_of};
 ghost use Rattle.nc_message.specs.Bindings as bindings;
 ghost use Rattle.nc_message_read.specs.inner.Opened.{open_of};
 ghost use Rattle.nc_message_read.specs.inner.Sets.{DeclaredPrefixes, IsDeclaredToo, IsNameAdded};
@@ -177,7 +178,7 @@ fn is_declared_by(
 
 /// Whether a prefix is bound outside of an element.
 fn is_bound(alloc: Global, outer: &Bounds, prefix: &Word<'_>) -> Result<bool, Memory>
-    ensures { IfOk result (λ it. it ≡ is_some (bindings.space_of prefix.now outer.now)) }
+    ensures { IfOk result (λ it. it ≡ is_some (space_of prefix.now outer.now)) }
 {
     let prefix = text_of_word(alloc, prefix)?;
     Ok(outer.find(&prefix).is_some())
@@ -231,6 +232,7 @@ fn is_unbound_attribute(
     is_unbound(alloc, outer, attributes, prefixes, &name.prefix)
 }
 
+/// Whether one of the attributes has a prefix without a binding.
 fn has_unbound_attribute(
     alloc: Global,
     outer: &Bounds,
@@ -273,6 +275,7 @@ fn space_for(bounds: &Bounds, prefix: &Text) -> Result<Option<Text>, Memory>
     }
 }
 
+/// What the prefix of an attribute's name is bound to; without a prefix it has no namespace.
 fn attr_space(bounds: &Bounds, prefix: &Text) -> Result<Option<Text>, Memory>
     ensures { IfOk result (λ it. it ≡ resolved.attr_space bounds.now prefix.now) }
 {
@@ -282,8 +285,9 @@ fn attr_space(bounds: &Bounds, prefix: &Text) -> Result<Option<Text>, Memory>
     space_for(bounds, prefix)
 }
 
+/// The default namespace, or an empty text where there is none.
 fn default_space(alloc: Global, bounds: &Bounds) -> Result<Text, Memory>
-    ensures { IfOk result (λ it. it ≡ resolved.default_space (bindings.space_of [] bounds.now)) }
+    ensures { IfOk result (λ it. it ≡ resolved.default_space (space_of [] bounds.now)) }
 {
     match bounds.find(&Text::new(alloc)) {
         Some(space) => space.copy(),
@@ -291,6 +295,7 @@ fn default_space(alloc: Global, bounds: &Bounds) -> Result<Text, Memory>
     }
 }
 
+/// What the prefix of an element's name is bound to.
 fn elem_space(bounds: &Bounds, prefix: &Text) -> Result<Option<Text>, Memory>
     ensures { IfOk result (λ it. it ≡ resolved.elem_space bounds.now prefix.now) }
 {

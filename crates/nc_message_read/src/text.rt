@@ -10,6 +10,7 @@ use crate::reader::{chars_of, count_before};
 use nc_names::{Bytes, Memory, Text, tail};
 use std::alloc::Global;
 
+/// Whether the character may stand in a message (XML 1.0, 2.2).
 pub(crate) fn is_char(c: char) -> bool
     ensures { result ≡ texts.is_char c }
 {
@@ -27,6 +28,7 @@ fn allowed(bytes: Bytes) -> Option<Text>
     Some(text)
 }
 
+/// Whether each character may stand in a message.
 pub(crate) fn all_chars(text: &str) -> bool
     ensures { result ≡ list_all texts.is_char (chars_in text.now) }
 {

@@ -10,6 +10,7 @@
 //! The crate trials_text tests it.
 #![tactic(auto)]
 
+mod bindings;
 mod boxed;
 mod bytes;
 mod cause;
@@ -27,6 +28,7 @@ mod signs;
 mod slices;
 mod text;
 
+pub use bindings::Binds;
 pub use boxed::Boxed;
 pub use bytes::Bytes;
 pub use cause::CauseKind;

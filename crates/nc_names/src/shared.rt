@@ -11,7 +11,6 @@ use std::sync::Arc;
 #[derive(Debug, Drop)]
 pub struct Shared<T> {
     inner: Arc<T, Global>,
-    alloc: Global,
 }
 
 impl<T> Model for Shared<T> {
@@ -29,7 +28,6 @@ impl<T: Drop> Shared<T> {
     {
         Ok(Shared {
             inner: Arc::new(alloc, value)?,
-            alloc,
         })
     }
 }
@@ -41,18 +39,12 @@ impl<T> Shared<T> {
     {
         &self.inner
     }
-
-    /// The allocator that holds it.
-    pub fn alloc(&self) -> Global {
-        self.alloc
-    }
 }
 
 impl<T: Drop> Copies for Shared<T> {
     fn copy(&self) -> Result<Shared<T>, Memory> {
         Ok(Shared {
             inner: Arc::try_clone(&self.inner)?,
-            alloc: self.alloc,
         })
     }
 }

@@ -1,3 +1,4 @@
+pub mod Parts
 pub mod Prepend
 pub mod Stops
 pub mod Written

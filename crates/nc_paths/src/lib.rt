@@ -8,11 +8,12 @@
 
 mod cut;
 mod instance;
+mod leafref;
 mod resolve;
 mod steps;
 mod stop;
 mod words;
 
 pub use cut::after_white;
-pub use instance::{entry_keys, instance_path, node_pattern};
-pub use resolve::{key_nodes, module_of, space_of};
+pub use instance::{entry_keys, instance_path, leafref_end, node_pattern};
+pub use resolve::{key_nodes, module_of};

@@ -2,29 +2,17 @@
 ghost use Rattle.std.specs.Prelude.{◌≡◌, false, None, Some, IfOk, IfErr, count_by, is_some, option_copied};
 ghost use Rattle.std.specs.Option.{option_map_or};
 ghost use Rattle.nc_paths.specs.inner.Stops.{OnRefused};
-ghost use Rattle.nc_schema.specs.Bindings as bindings;
+ghost use Rattle.nc_schema.specs.Bindings as modules;
 ghost use Rattle.nc_schema.specs.InstancePaths as paths;
 
 use crate::stop::Stop;
-use nc_names::{Bound, Copies, Many, Memory, Module, QName, Step, Text};
+use nc_names::{Binds, Copies, Many, Memory, Module, QName, Step, Text};
 use nc_schema::{Kind, PatternStep, Schema, WrittenName, WrittenPredicate, WrittenStep};
 use std::alloc::Global;
 
-/// The namespace for which a prefix stands.
-pub fn space_of<'a>(bounds: &'a [Bound], prefix: &Text) -> Option<&'a Text>
-    ensures { option_copied result ≡ bindings.space_of bounds.now prefix.now }
-{
-    for bound in bounds {
-        if bound.prefix == *prefix {
-            return Some(&bound.space);
-        }
-    }
-    None
-}
-
 /// The module of a namespace.
 pub fn module_of<'a>(schema: &'a Schema, space: &Text) -> Option<&'a Module>
-    ensures { option_copied result ≡ bindings.module_of schema.now space.now }
+    ensures { option_copied result ≡ modules.module_of schema.now space.now }
 {
     for found in schema.modules() {
         if found.space == *space {
@@ -35,25 +23,25 @@ pub fn module_of<'a>(schema: &'a Schema, space: &Text) -> Option<&'a Module>
 }
 
 /// The module for whose namespace the prefix of a name stands.
-fn module_named<'a>(
+fn module_named<'a, B: Binds>(
     schema: &'a Schema,
-    bounds: &[Bound],
+    bounds: &B,
     written: &WrittenName,
 ) -> Option<&'a Module>
-    ensures { option_copied result ≡ paths.module_named schema.now bounds.now written.now }
+    ensures { option_copied result ≡ paths.module_named schema.now (B.bound bounds.now) written.now }
 {
-    let space = space_of(bounds, &written.prefix)?;
+    let space = bounds.space_of(&written.prefix)?;
     module_of(schema, space)
 }
 
 /// The qualified name for which a written one stands.
-pub(crate) fn qualified(
+pub(crate) fn qualified<B: Binds>(
     schema: &Schema,
-    bounds: &[Bound],
+    bounds: &B,
     written: &WrittenName,
 ) -> Result<QName, Stop>
-    ensures ok { IfOk result (λ it. paths.qualified schema.now bounds.now written.now ≡ Some it) }
-    ensures refused { IfErr result (λ stop. OnRefused stop (paths.qualified schema.now bounds.now written.now ≡ None)) }
+    ensures ok { IfOk result (λ it. paths.qualified schema.now (B.bound bounds.now) written.now ≡ Some it) }
+    ensures refused { IfErr result (λ stop. OnRefused stop (paths.qualified schema.now (B.bound bounds.now) written.now ≡ None)) }
 {
     let Some(found) = module_named(schema, bounds, written) else {
         return Err(Stop::Refused);
@@ -65,8 +53,8 @@ pub(crate) fn qualified(
 }
 
 // Whether the data node has the name for which a written one stands.
-fn is_named(schema: &Schema, bounds: &[Bound], key: u32, written: &WrittenName) -> bool
-    ensures { result ≡ option_map_or (paths.has_name schema.now key) (paths.qualified schema.now bounds.now written.now) false }
+fn is_named<B: Binds>(schema: &Schema, bounds: &B, key: u32, written: &WrittenName) -> bool
+    ensures { result ≡ option_map_or (paths.has_name schema.now key) (paths.qualified schema.now (B.bound bounds.now) written.now) false }
 {
     let Some(found) = module_named(schema, bounds, written) else {
         return false;
@@ -78,14 +66,14 @@ fn is_named(schema: &Schema, bounds: &[Bound], key: u32, written: &WrittenName) 
 }
 
 // Whether the predicate of an entry of the node is that of the key.
-fn is_of_key(
+fn is_of_key<B: Binds>(
     schema: &Schema,
-    bounds: &[Bound],
+    bounds: &B,
     number: u32,
     key: u32,
     written: &Option<WrittenName>,
 ) -> bool
-    ensures { result ≡ paths.is_of_key schema.now bounds.now number key written.now }
+    ensures { result ≡ paths.is_of_key schema.now (B.bound bounds.now) number key written.now }
 {
     match written {
         None => key == number,
@@ -94,14 +82,14 @@ fn is_of_key(
 }
 
 // The value of a key, where a predicate gives it.
-fn key_given<'a>(
+fn key_given<'a, B: Binds>(
     schema: &Schema,
-    bounds: &[Bound],
+    bounds: &B,
     number: u32,
     written: &'a [WrittenPredicate],
     key: u32,
 ) -> Option<&'a Text>
-    ensures { option_copied result ≡ paths.key_given schema.now bounds.now number written.now key }
+    ensures { option_copied result ≡ paths.key_given schema.now (B.bound bounds.now) number written.now key }
 {
     for one in written {
         if is_of_key(schema, bounds, number, key, &one.key) {
@@ -141,14 +129,14 @@ fn copy_numbers(alloc: Global, numbers: &[u32]) -> Result<Many<u32>, Memory>
 }
 
 // The values of the keys.
-fn values_given(
+fn values_given<B: Binds>(
     alloc: Global,
     schema: &Schema,
-    bounds: &[Bound],
+    bounds: &B,
     number: u32,
     written: &[WrittenPredicate],
 ) -> Result<Many<Option<Text>>, Memory>
-    ensures { IfOk result (λ it. it ≡ paths.values_given schema.now bounds.now number written.now) }
+    ensures { IfOk result (λ it. it ≡ paths.values_given schema.now (B.bound bounds.now) number written.now) }
 {
     let nodes = key_nodes(alloc, schema, number)?;
     let mut values = Many::new(alloc);
@@ -169,15 +157,15 @@ fn copy_given(given: Option<&Text>) -> Result<Option<Text>, Memory>
 }
 
 /// The values that predicates give to the keys of an entry of a node.
-pub(crate) fn keys_given(
+pub(crate) fn keys_given<B: Binds>(
     alloc: Global,
     schema: &Schema,
-    bounds: &[Bound],
+    bounds: &B,
     number: u32,
     written: &[WrittenPredicate],
 ) -> Result<Many<Option<Text>>, Stop>
-    ensures ok { IfOk result (λ it. paths.keys_given schema.now bounds.now number written.now ≡ Some it) }
-    ensures refused { IfErr result (λ stop. OnRefused stop (paths.keys_given schema.now bounds.now number written.now ≡ None)) }
+    ensures ok { IfOk result (λ it. paths.keys_given schema.now (B.bound bounds.now) number written.now ≡ Some it) }
+    ensures refused { IfErr result (λ stop. OnRefused stop (paths.keys_given schema.now (B.bound bounds.now) number written.now ≡ None)) }
 {
     let values = values_given(alloc, schema, bounds, number, written)?;
     if count_some(values.as_slice()) == written.len() {
@@ -202,15 +190,15 @@ fn count_some(values: &[Option<Text>]) -> usize
 
 #[tactic(auto, unfolding(nc_schema::specs::InstancePaths::pattern_step))]
 // The step of a pattern that a written step is, below that node or at the top.
-fn pattern_step(
+fn pattern_step<B: Binds>(
     alloc: Global,
     schema: &Schema,
-    bounds: &[Bound],
+    bounds: &B,
     above: Option<u32>,
     written: &WrittenStep,
 ) -> Result<PatternStep, Stop>
-    ensures ok { IfOk result (λ it. paths.pattern_step schema.now bounds.now above written.now ≡ Some it) }
-    ensures refused { IfErr result (λ stop. OnRefused stop (paths.pattern_step schema.now bounds.now above written.now ≡ None)) }
+    ensures ok { IfOk result (λ it. paths.pattern_step schema.now (B.bound bounds.now) above written.now ≡ Some it) }
+    ensures refused { IfErr result (λ stop. OnRefused stop (paths.pattern_step schema.now (B.bound bounds.now) above written.now ≡ None)) }
 {
     let name = qualified(schema, bounds, &written.name)?;
     let Some(number) = schema.child(above, &name) else {
@@ -222,14 +210,14 @@ fn pattern_step(
 
 /// The pattern to which written steps lead from the top.
 #[tactic(auto, using(crate::proofs::PatternLemmas::next_pattern, crate::proofs::PatternLemmas::bad_pattern, crate::proofs::PatternLemmas::whole_pattern))]
-pub(crate) fn pattern_steps(
+pub(crate) fn pattern_steps<B: Binds>(
     alloc: Global,
     schema: &Schema,
-    bounds: &[Bound],
+    bounds: &B,
     written: &[WrittenStep],
 ) -> Result<Many<PatternStep>, Stop>
-    ensures ok { IfOk result (λ it. paths.pattern_steps schema.now bounds.now None written.now ≡ Some it) }
-    ensures refused { IfErr result (λ stop. OnRefused stop (paths.pattern_steps schema.now bounds.now None written.now ≡ None)) }
+    ensures ok { IfOk result (λ it. paths.pattern_steps schema.now (B.bound bounds.now) None written.now ≡ Some it) }
+    ensures refused { IfErr result (λ stop. OnRefused stop (paths.pattern_steps schema.now (B.bound bounds.now) None written.now ≡ None)) }
 {
     let mut above = None;
     let mut steps = Many::new(alloc);

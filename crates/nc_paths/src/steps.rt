@@ -12,8 +12,8 @@ use nc_names::{Many, Memory, Text};
 use nc_schema::{WrittenName, WrittenPredicate, WrittenStep};
 use std::alloc::Global;
 
-// A name with memory of its own.
-fn own_name(alloc: Global, written: Name<'_>) -> Result<WrittenName, Memory>
+/// A name with memory of its own.
+pub(crate) fn own_name(alloc: Global, written: Name<'_>) -> Result<WrittenName, Memory>
     ensures { IfOk result (λ it. it ≡ name_of written.entry) }
 {
     Ok(WrittenName {

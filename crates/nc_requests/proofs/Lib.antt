@@ -1,3 +1,2 @@
 pub mod WhiteLemmas
-pub mod NumberLemmas
 pub mod ContentLemmas

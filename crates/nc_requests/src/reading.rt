@@ -11,6 +11,7 @@ use nc_model::{
     Datastore, Default3, ErrorOption, Origin, Select, TestOption, request_words as words,
 };
 use nc_names::{Copies, Memory, Text};
+use nc_schema::read_number;
 
 /// The text of an element without child elements.
 pub(crate) fn whole_text_in(elem: &Elem) -> Result<Option<Text>, Memory>
@@ -214,13 +215,6 @@ pub(crate) fn presence_in(elem: &Elem) -> Result<Option<bool>, Memory>
         None => Ok(None),
         Some(text) => Ok(if text.len() == 0 { Some(true) } else { None }),
     }
-}
-
-// The number of an optional sign and digits.
-fn read_number(text: &str) -> Option<i128>
-    ensures { result ≡ number_of text.now }
-{
-    i128::from_str_radix(text, 10).ok()
 }
 
 // The number, where it is from 1 to 2 ^ 32 - 1.

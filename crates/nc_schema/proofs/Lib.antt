@@ -13,3 +13,4 @@ pub mod ViolationLemmas
 pub mod ChildLemmas
 pub mod ValidityLemmas
 pub mod GivenLemmas
+pub mod NumberLemmas

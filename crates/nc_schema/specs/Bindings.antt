@@ -1,14 +1,10 @@
--- What prefixes stand for (Namespaces in XML 1.0, 3; RFC 7950 7.1.4).
-use Rattle.std.specs.Prelude.{ℕ, List, Option, map, option_map}
+-- The names of modules as prefixes, and the modules of namespaces (RFC 7950 7.1.3, 7.1.4).
+use Rattle.std.specs.Prelude.{ℕ, List, Option, map}
 use Rattle.std.specs.List.{find}
 use Rattle.nc_names.specs.declared.name.Bound.{Bound}
 use Rattle.nc_names.specs.declared.name.Module.{Module}
 use Rattle.nc_names.specs.Same.{is_same_text}
 use Rattle.nc_schema.specs.Tables.{Tables}
-
--- the namespace for which a prefix stands; the empty prefix is the default namespace
-abbrev pub space_of : List Bound → List ℕ → Option (List ℕ)
-space_of bounds prefix = option_map (λ bound. bound.space) (find (λ bound. is_same_text bound.prefix prefix) bounds)
 
 -- the bindings of canonical texts: the name of each module stands for its namespace
 abbrev pub module_bounds : Tables → List Bound

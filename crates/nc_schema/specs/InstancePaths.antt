@@ -10,9 +10,10 @@ use Rattle.nc_names.specs.declared.name.QName.{QName}
 use Rattle.nc_names.specs.declared.path.Path.{Path}
 use Rattle.nc_names.specs.declared.path.Step.{Step}
 use Rattle.nc_names.specs.Same.{is_same_name, is_same_text}
+use Rattle.nc_names.specs.Bindings.{space_of}
 use Rattle.nc_names.specs.Signs.{dot, slash}
 use Rattle.nc_names.specs.Identifiers.{is_identifier}
-use Rattle.nc_schema.specs.Bindings.{module_of, space_of}
+use Rattle.nc_schema.specs.Bindings.{module_of}
 use Rattle.nc_schema.specs.Children.{child_number}
 use Rattle.nc_schema.specs.Kinds.{has_value, is_list}
 use Rattle.nc_schema.specs.PathWords.{◌>>=◌, written_name, written_steps, only_predicates}
@@ -28,7 +29,7 @@ use Rattle.nc_schema.specs.declared.written.WrittenStep.{WrittenStep}
 
 -- the module for whose namespace the prefix of a name stands
 abbrev pub module_named : Tables → List Bound → WrittenName → Option Module
-module_named tables bounds written = space_of bounds written.prefix >>= module_of tables
+module_named tables bounds written = space_of written.prefix bounds >>= module_of tables
 
 -- the qualified name for which a written one stands
 abbrev pub qualified : Tables → List Bound → WrittenName → Option QName

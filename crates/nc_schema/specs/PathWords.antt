@@ -1,6 +1,6 @@
 -- The words of an instance identifier (RFC 7950 9.13, 14) before a schema gives them a meaning: names
 -- with their prefixes, predicates and steps. Each reading gives what stands first in a text, and the
--- text after it. What texts spell these words is said in PathGrammar.
+-- text after it.
 use Rattle.std.specs.Prelude.{ℕ, zero, suc, Bool, false, ◌==◌, ◌||◌, if◌then◌else◌, List, [], ◌∷◌, length, Option, Some, None, option_and_then, option_map}
 use Rattle.std.specs.List.{list_all}
 use Rattle.nc_names.specs.Signs.{begins_identifier, is_in_identifier, is_white, apostrophe, quote, dot, slash, colon, equals, opening_bracket, closing_bracket}

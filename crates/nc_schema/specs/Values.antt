@@ -8,9 +8,10 @@ use Rattle.base64.specs.GeneralPurpose.{decoded_of}
 use Rattle.nc_names.specs.declared.name.Bound.{Bound}
 use Rattle.nc_names.specs.declared.name.QName.{QName}
 use Rattle.nc_names.specs.declared.path.Step.{Step}
+use Rattle.nc_names.specs.Bindings.{space_of}
 use Rattle.nc_names.specs.Same.{is_same_name, is_same_text}
 use Rattle.nc_names.specs.Signs.{is_white, apostrophe, asterisk, blank, colon, quote, slash}
-use Rattle.nc_schema.specs.Bindings.{space_of, module_bounds, module_of}
+use Rattle.nc_schema.specs.Bindings.{module_bounds, module_of}
 use Rattle.nc_schema.specs.InstancePaths.{instance_path, key_nodes, node_pattern}
 use Rattle.nc_schema.specs.Kinds.{has_value}
 use Rattle.nc_schema.specs.NumberTexts.{decimal_text, is_among, whole_text}
@@ -81,8 +82,8 @@ abbrev pub identity_name : List Bound → List ℕ → Option QName
 identity_name bounds text =
     if list_any (λ c. c == colon) text
     then (let prefix = before_first (λ c. c == colon) text in
-    if length prefix == 0 then None else name_in (space_of bounds prefix) (after_first (λ c. c == colon) text))
-    else name_in (space_of bounds []) text
+    if length prefix == 0 then None else name_in (space_of prefix bounds) (after_first (λ c. c == colon) text))
+    else name_in (space_of [] bounds) text
 
 -- one of the identities, with the name of its module as prefix
 unfoldable pub identity_text : Tables → List QName → List Bound → List ℕ → Option (List ℕ)

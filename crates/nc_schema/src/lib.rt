@@ -9,8 +9,10 @@
 
 mod index;
 mod laws;
+mod modules;
 mod node;
 mod nodes;
+mod number;
 mod path_text;
 mod pattern;
 mod schema;
@@ -24,6 +26,7 @@ pub use laws::{
 };
 pub use nc_names::Module;
 pub use node::{Case, Choice, Deny, Kind, Node};
+pub use number::read_number;
 pub use pattern::{LeafrefEnd, Pattern, PatternStep};
 pub use schema::Schema;
 pub use value_type::{Between, ValueType};

@@ -1,12 +1,17 @@
 -- Words between white space, and names with spaces between.
 use Rattle.std.proofs.Common.{◌≡◌, ◌<◌, ◌≤◌, ◌+◌, not, ℕ, zero, suc, Bool, true, false, cond, List, [], ◌∷◌, ◌++◌, length, take, drop, get_or, refl, sym, ap, ◌∙◌, append-nil, append_assoc, arith}
 use Rattle.std.specs.List.{filter, join_with_byte, onto_first, position_or_len, slice_split}
-use Rattle.std.specs.Prelude.{nat_lt}
+use Rattle.std.specs.Prelude.{nat_lt, ◌||◌}
+use Rattle.std.specs.BTreeSet.{BTreeSet}
+use Rattle.std.specs.Cmp.Lexicographic.{slice_cmp}
+use Rattle.std.specs.Ordering.{nat_cmp, is_eq}
+use Rattle.std.proofs.lemmas.Map.Text.{is_eq-slice_cmp}
 use Rattle.std.proofs.Math.Seq.{take-suc}
 use Rattle.nc_names.specs.Signs.{blank, is_white}
 use Rattle.nc_schema.specs.Values.{words_of}
 use Rattle.nc_schema.proofs.GivenLemmas.{item_there, nothing_left}
-use Rattle.nc_types.specs.inner.Asked.{is_word}
+use Rattle.nc_names.specs.Same.{is_same_text}
+use Rattle.nc_types.specs.inner.Asked.{IsSetOf, has, is_word}
 
 split_step : (b : Bool) (c : ℕ) (cs : List ℕ) (n : ℕ) (parts : List (List ℕ)) (p : ℕ → Bool) → (n < length cs → parts ≡ take n cs ∷ slice_split p (drop (n + 1) cs)) → cond (not b) (1 + n) 0 < length (c ∷ cs) → slice_split p cs ≡ parts → cond b ([] ∷ parts) (onto_first c parts) ≡ take (cond (not b) (1 + n) 0) (c ∷ cs) ∷ slice_split p (drop (cond (not b) (1 + n) 0 + 1) (c ∷ cs))
 split_step true c cs n parts p further within whole = ap (λ x. [] ∷ x) (sym whole)
@@ -94,12 +99,42 @@ filter_one f name rest = by (f name)
     by true = refl
     by false = refl
 
-pub next_name : (whole : List (List ℕ)) (words names : List (List ℕ)) (i : ℕ) (name : List ℕ) (set more : List (List ℕ)) → whole ≡ set ++ filter (is_word words) (drop i names) → i < length names → name ≡ get_or names i name → more ≡ set ++ filter (is_word words) (name ∷ []) → whole ≡ more ++ filter (is_word words) (drop (i + 1) names)
+pub next_name : (whole : List (List ℕ)) (words : BTreeSet (List ℕ)) (names : List (List ℕ)) (i : ℕ) (name : List ℕ) (set more : List (List ℕ)) → whole ≡ set ++ filter (has words) (drop i names) → i < length names → name ≡ get_or names i name → more ≡ set ++ filter (has words) (name ∷ []) → whole ≡ more ++ filter (has words) (drop (i + 1) names)
 next_name whole words names i name set more e less here is =
-    let rest = filter (is_word words) (drop (i + 1) names) in
-    e ∙ ap (λ xs. set ++ filter (is_word words) xs) (item_there names i name less here) ∙ ap (λ x. set ++ x) (filter_one (is_word words) name (drop (i + 1) names))
-    ∙ sym (append_assoc set (filter (is_word words) (name ∷ [])) rest) ∙ ap (λ x. x ++ rest) (sym is)
+    let rest = filter (has words) (drop (i + 1) names) in
+    e ∙ ap (λ xs. set ++ filter (has words) xs) (item_there names i name less here) ∙ ap (λ x. set ++ x) (filter_one (has words) name (drop (i + 1) names))
+    ∙ sym (append_assoc set (filter (has words) (name ∷ [])) rest) ∙ ap (λ x. x ++ rest) (sym is)
 
-pub every_name : (whole : List (List ℕ)) (words names : List (List ℕ)) (i : ℕ) (set : List (List ℕ)) → whole ≡ set ++ filter (is_word words) (drop i names) → length names ≤ i → set ≡ whole
+pub every_name : (whole : List (List ℕ)) (words : BTreeSet (List ℕ)) (names : List (List ℕ)) (i : ℕ) (set : List (List ℕ)) → whole ≡ set ++ filter (has words) (drop i names) → length names ≤ i → set ≡ whole
 every_name whole words names i set e past =
-    sym (e ∙ ap (λ xs. set ++ filter (is_word words) xs) (nothing_left names i past) ∙ append-nil set)
+    sym (e ∙ ap (λ xs. set ++ filter (has words) xs) (nothing_left names i past) ∙ append-nil set)
+
+-- ---- words in a set
+word_first : (seen same rest : Bool) → (seen || (same || rest)) ≡ (cond same true seen || rest)
+word_first true true rest = refl
+word_first true false rest = refl
+word_first false true rest = refl
+word_first false false rest = refl
+
+pub one_word_more : (words : List (List ℕ)) (i : ℕ) (word : List ℕ) (before after : BTreeSet (List ℕ)) → ((name : List ℕ) → is_word words name ≡ (has before name || is_word (drop i words) name)) → i < length words → word ≡ get_or words i word → ((other : List ℕ) → has after other ≡ cond (is_eq (slice_cmp nat_cmp word other)) true (has before other)) → (name : List ℕ) → is_word words name ≡ (has after name || is_word (drop (i + 1) words) name)
+one_word_more words i word before after e less here put name =
+    let rest = is_word (drop (i + 1) words) name in
+    e name ∙ ap (λ ws. has before name || is_word ws name) (item_there words i word less here)
+    ∙ word_first (has before name) (is_same_text word name) rest
+    ∙ ap (λ b. cond b true (has before name) || rest) (sym (is_eq-slice_cmp word name))
+    ∙ ap (λ b. b || rest) (sym (put name))
+
+or_nothing : (b : Bool) → (b || false) ≡ b
+or_nothing true = refl
+or_nothing false = refl
+
+pub every_word : (words : List (List ℕ)) (i : ℕ) (set : BTreeSet (List ℕ)) → ((name : List ℕ) → is_word words name ≡ (has set name || is_word (drop i words) name)) → length words ≤ i → IsSetOf set words
+every_word words i set e past name =
+    sym (e name ∙ ap (λ ws. has set name || is_word ws name) (nothing_left words i past) ∙ or_nothing (has set name))
+
+pub same_names : (set : BTreeSet (List ℕ)) (words names out : List (List ℕ)) → IsSetOf set words → out ≡ filter (has set) names → out ≡ filter (is_word words) names
+same_names set words names out e is = is ∙ every names
+  where
+    every : (xs : List (List ℕ)) → filter (has set) xs ≡ filter (is_word words) xs
+    every [] = refl
+    every (x ∷ xs) = (λ i. cond (e x i) (x ∷ filter (has set) xs) (filter (has set) xs)) ∙ (λ i. cond (is_word words x) (x ∷ every xs i) (every xs i))

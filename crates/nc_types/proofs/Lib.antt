@@ -2,6 +2,5 @@ pub mod BitLemmas
 pub mod DecimalLemmas
 pub mod IdentityLemmas
 pub mod KeyLemmas
-pub mod NumberLemmas
 pub mod TrimLemmas
 pub mod UnionLemmas

@@ -2,6 +2,7 @@
 use Rattle.std.proofs.Common.{◌≡◌, ◌<◌, ◌≤◌, ◌+◌, ◌-◌, ◌&&◌, ℕ, zero, suc, Bool, true, false, cond, eqb, List, [], ◌∷◌, ◌++◌, Option, Some, None, length, take, drop, get_or, slice_get, refl, sym, ap, subst, ◌∙◌, arith}
 use Rattle.std.specs.List.{list_all, list_any}
 use Rattle.std.specs.Prelude.{Result, Ok, Err, IfOk, IfErr}
+use Rattle.std.specs.Option.{is_none}
 use Rattle.std.proofs.Math.Seq.{take-suc}
 use Rattle.nc_names.specs.Same.{is_same_text}
 use Rattle.nc_names.specs.declared.name.Bound.{Bound}
@@ -15,6 +16,7 @@ use Rattle.nc_types.specs.declared.fault.TypeFault.{TypeFault}
 use Rattle.nc_types.specs.declared.fault.TypeFault.TheVariants.{NotInType, Memory}
 use Rattle.nc_types.specs.inner.Asked.{givers}
 use Rattle.nc_types.specs.inner.Faults.{OnNotInType}
+use Rattle.nc_types.specs.inner.Scopes.{under}
 
 -- ---- unions
 one_more : (members : List ℕ) (i member : ℕ) → i < length members → member ≡ get_or members i member → take (i + 1) members ≡ take i members ++ member ∷ []
@@ -49,6 +51,40 @@ union_other whole gives names bounds members text i member found e less here is 
 pub union_none : (whole : Option (List ℕ)) (gives : List Bound → Gives) (names bounds : List Bound) (members text : List ℕ) (i : ℕ) → whole ≡ union_text gives names bounds (take i members) (drop i members) text → length members ≤ i → whole ≡ None
 union_none whole gives names bounds members text i e past =
     e ∙ ap (λ ms. union_text gives names bounds (take i members) ms text) (nothing_left members i past)
+
+-- members that do not admit the text
+pub none_at_start : (p : ℕ → Bool) (members : List ℕ) → list_all p (take 0 members) ≡ true
+none_at_start p [] = refl
+none_at_start p (member ∷ members) = refl
+
+all_step : (b r s : Bool) → (r ≡ true → s ≡ true) → (b && r) ≡ true → (b && s) ≡ true
+all_step true r s go e = go e
+all_step false r s go e = e
+
+all_more : (p : ℕ → Bool) (xs : List ℕ) (x : ℕ) → list_all p xs ≡ true → p x ≡ true → list_all p (xs ++ x ∷ []) ≡ true
+all_more p [] x e f = ap (λ b. b && true) f
+all_more p (y ∷ ys) x e f = all_step (p y) (list_all p ys) (list_all p (ys ++ x ∷ [])) (λ rest. all_more p ys x rest f) e
+
+pub none_more : (gives : Gives) (members text : List ℕ) (i member : ℕ) → list_all (λ one. is_none (gives one text)) (take i members) ≡ true → i < length members → member ≡ get_or members i member → gives member text ≡ None → list_all (λ one. is_none (gives one text)) (take (i + 1) members) ≡ true
+none_more gives members text i member e less here none =
+    ap (list_all (λ one. is_none (gives one text))) (one_more members i member less here)
+    ∙ all_more (λ one. is_none (gives one text)) (take i members) member e (ap is_none none)
+
+agree_step : (text : List ℕ) (o : Option (List ℕ)) (r s : Bool) → (r ≡ true → s ≡ true) → (is_none o && r) ≡ true → (agrees text o && s) ≡ true
+agree_step text None r s go e = go e
+agree_step text (Some other) r s go e = cc
+
+none_agree : (gives : Gives) (text : List ℕ) (members : List ℕ) → list_all (λ one. is_none (gives one text)) members ≡ true → list_all (λ one. agrees text (gives one text)) members ≡ true
+none_agree gives text [] e = refl
+none_agree gives text (member ∷ members) e =
+    agree_step text (gives member text) (list_all (λ one. is_none (gives one text)) members) (list_all (λ one. agrees text (gives one text)) members)
+    (none_agree gives text members) e
+
+pub union_settled : (whole : Option (List ℕ)) (gives : List Bound → Gives) (names given : List Bound) (by_names : Bool) (members text : List ℕ) (i member : ℕ) (found : List ℕ) → by_names ≡ true → found ≡ text → whole ≡ union_text gives names (under by_names names given) (take i members) (drop i members) text → i < length members → member ≡ get_or members i member → gives (under by_names names given) member text ≡ Some found → list_all (λ one. is_none (gives (under by_names names given) one text)) (take i members) ≡ true → whole ≡ Some found
+union_settled whole gives names given false members text i member found b same e less here is none = absurd (cc b)
+union_settled whole gives names given true members text i member found b same e less here is none =
+    union_found whole gives names names members text i member found e less here is
+    (subst (λ (x : List ℕ). list_all (λ other. agrees x (gives names other x)) (take i members) ≡ true) (sym same) (none_agree (gives names) text (take i members) none))
 
 -- ---- agreement
 pub agree_none : (whole : Bool) (gives : Gives) (found earlier : List ℕ) (i other : ℕ) → whole ≡ list_all (λ one. agrees found (gives one found)) (drop i earlier) → i < length earlier → other ≡ get_or earlier i other → gives other found ≡ None → whole ≡ list_all (λ one. agrees found (gives one found)) (drop (i + 1) earlier)

@@ -1,15 +1,15 @@
 //! Sets of bits (RFC 7950 9.7).
 ghost use Rattle.std.specs.Prelude.{◌≡◌, ◌++◌, ◌∷◌, ◌<◌, [], filter, length, nat_lt, Some, None, IfOk, IfErr, OnOk};
-ghost use Rattle.std.specs.List.{join_with_byte, list_any, position_or_len};
-ghost use Rattle.nc_names.specs.Same.{is_same_text};
+ghost use Rattle.std.specs.List.{join_with_byte, position_or_len};
 ghost use Rattle.nc_names.specs.Signs as signs;
 ghost use Rattle.nc_schema.specs.Values as values;
-ghost use Rattle.nc_types.specs.inner.Asked.{is_word};
+ghost use Rattle.nc_types.specs.inner.Asked.{IsSetOf, has, is_word};
 ghost use Rattle.nc_types.specs.inner.Faults.{OnNotInType};
 
 use crate::fault::TypeFault;
 use nc_names::{Bytes, Copies, Many, Memory, Text, is_white, tail};
 use std::alloc::Global;
+use std::collections::BTreeSet;
 
 // How many bytes stand before white space.
 fn count_black(text: &[u8]) -> usize
@@ -50,19 +50,38 @@ fn words_of(alloc: Global, text: &[u8]) -> Result<Many<Bytes>, Memory>
     }
 }
 
-// Whether the name is one of the words.
-fn has_word(words: &[Bytes], name: &[u8]) -> bool
-    ensures { result ≡ list_any (λ word. is_same_text word name.now) words.now }
+// A word with memory of its own, in the order of its bytes.
+fn own_word(alloc: Global, word: &[u8]) -> Result<Many<u8>, Memory>
+    ensures { IfOk result (λ it. it ≡ word.now) }
 {
-    words.iter().any(|word| word.as_slice() == name)
+    let mut own = Bytes::new(alloc);
+    own.push_slice(word)?;
+    Ok(Many::from_vec(own.into_vec()))
+}
+
+// The words as a set.
+#[tactic(auto, using(crate::proofs::BitLemmas::one_word_more, crate::proofs::BitLemmas::every_word))]
+fn set_of(alloc: Global, words: &[Bytes]) -> Result<BTreeSet<Many<u8>>, Memory>
+    ensures { IfOk result (λ it. IsSetOf it words.now) }
+{
+    let mut set = BTreeSet::new(alloc);
+    for word in words {
+        set.insert(own_word(alloc, word.as_slice())?)?;
+    }
+    Ok(set)
 }
 
 // Puts the name at the end, where it is one of the words.
-fn push_named(set: &mut Many<Text>, name: &Text, words: &[Bytes]) -> Result<(), Memory>
-    ensures { OnOk result (set.new ≡ set.old ++ filter (is_word words.now) (name.now ∷ [])) }
+fn push_named(
+    alloc: Global,
+    out: &mut Many<Text>,
+    name: &Text,
+    words: &BTreeSet<Many<u8>>,
+) -> Result<(), Memory>
+    ensures { OnOk result (out.new ≡ out.old ++ filter (has words.now) (name.now ∷ [])) }
 {
-    if has_word(words, name.as_str().as_bytes()) {
-        set.push(name.copy()?)
+    if words.contains(&own_word(alloc, name.as_str().as_bytes())?) {
+        out.push(name.copy()?)
     } else {
         Ok(())
     }
@@ -70,14 +89,27 @@ fn push_named(set: &mut Many<Text>, name: &Text, words: &[Bytes]) -> Result<(), 
 
 // The names that are among the words.
 #[tactic(auto, using(crate::proofs::BitLemmas::next_name, crate::proofs::BitLemmas::every_name))]
-fn names_set(alloc: Global, names: &[Text], words: &[Bytes]) -> Result<Many<Text>, Memory>
+fn names_among(
+    alloc: Global,
+    names: &[Text],
+    words: &BTreeSet<Many<u8>>,
+) -> Result<Many<Text>, Memory>
+    ensures { IfOk result (λ it. it ≡ filter (has words.now) names.now) }
+{
+    let mut out = Many::new(alloc);
+    for name in names {
+        push_named(alloc, &mut out, name, words)?;
+    }
+    Ok(out)
+}
+
+// The bits that the words name, in the order of their positions.
+#[tactic(auto, using(crate::proofs::BitLemmas::same_names))]
+fn named_bits(alloc: Global, names: &[Text], words: &[Bytes]) -> Result<Many<Text>, Memory>
     ensures { IfOk result (λ it. it ≡ filter (is_word words.now) names.now) }
 {
-    let mut set = Many::new(alloc);
-    for name in names {
-        push_named(&mut set, name, words)?;
-    }
-    Ok(set)
+    let set = set_of(alloc, words)?;
+    names_among(alloc, names, &set)
 }
 
 // The names with single spaces between.
@@ -102,7 +134,7 @@ pub(crate) fn bits_text(alloc: Global, names: &[Text], text: &str) -> Result<Tex
     ensures refused { IfErr result (λ fault. OnNotInType fault (values.bits_text names.now text.now ≡ None)) }
 {
     let words = words_of(alloc, text.as_bytes())?;
-    let set = names_set(alloc, names, words.as_slice())?;
+    let set = named_bits(alloc, names, words.as_slice())?;
     if set.len() == words.len() {
         Ok(joined(alloc, set.as_slice())?)
     } else {

@@ -8,10 +8,10 @@ ghost use Rattle.nc_types.specs.inner.Cuts.{SplitsAtDot};
 ghost use Rattle.nc_types.specs.inner.Faults.{OnNotInType};
 
 use crate::fault::TypeFault;
-use crate::number::{is_among, print_size, read_number};
+use crate::number::{is_among, print_size};
 use crate::trim::without_zeros;
 use nc_names::{Memory, Text};
-use nc_schema::Between;
+use nc_schema::{Between, read_number};
 use std::alloc::Global;
 
 // What stands before the first point, and after it; nothing where there is none.

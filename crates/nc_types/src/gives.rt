@@ -3,7 +3,7 @@ ghost use Rattle.std.specs.Prelude.{◌≡◌, Some, None, IfOk, IfErr};
 ghost use Rattle.nc_types.specs.inner.Faults.{OnNotInType};
 
 use crate::fault::TypeFault;
-use nc_names::{Bound, Text};
+use nc_names::{Binds, Text};
 use nc_schema::Schema;
 use std::alloc::Global;
 
@@ -16,16 +16,16 @@ pub(crate) trait Gives {
     ghost gives: { Tables → List Bound → ℕ → List ℕ → Option (List ℕ) };
 
     /// The canonical text of a text at the data node of that number.
-    fn give(
+    fn give<B: Binds>(
         &self,
         alloc: Global,
         schema: &Schema,
-        bounds: &[Bound],
+        bounds: &B,
         number: u32,
         text: &str,
     ) -> Result<Text, TypeFault>
-        ensures ok { IfOk result (λ it. gives schema.now bounds.now number text.now ≡ Some it) }
-        ensures refused { IfErr result (λ fault. OnNotInType fault (gives schema.now bounds.now number text.now ≡ None)) };
+        ensures ok { IfOk result (λ it. gives schema.now (B.bound bounds.now) number text.now ≡ Some it) }
+        ensures refused { IfErr result (λ fault. OnNotInType fault (gives schema.now (B.bound bounds.now) number text.now ≡ None)) };
 }
 
 /// Gives none.
@@ -35,11 +35,11 @@ pub(crate) struct Nothing;
 impl Gives for Nothing {
     ghost gives = { λ tables bounds number text. None };
 
-    fn give(
+    fn give<B: Binds>(
         &self,
         alloc: Global,
         schema: &Schema,
-        bounds: &[Bound],
+        bounds: &B,
         number: u32,
         text: &str,
     ) -> Result<Text, TypeFault> {

@@ -3,14 +3,14 @@ ghost use Rattle.std.specs.Prelude.{◌≡◌, ◌++◌, ◌==◌, ◌≤◌, fa
 ghost use Rattle.std.specs.List.{list_any, before_first, after_first, position_or_len};
 ghost use Rattle.nc_names.specs.Same.{is_same_name};
 ghost use Rattle.nc_names.specs.Signs.{colon};
-ghost use Rattle.nc_schema.specs.Bindings as bindings;
+ghost use Rattle.nc_names.specs.Bindings as bindings;
 ghost use Rattle.nc_schema.specs.Values as values;
 ghost use Rattle.nc_types.specs.inner.Faults.{OnNotInType};
 ghost use Rattle.nc_types.specs.inner.Cuts.{SplitsAtColon};
 
 use crate::fault::TypeFault;
-use nc_names::{Bound, Copies, QName, Text};
-use nc_paths::{module_of, space_of};
+use nc_names::{Binds, Copies, QName, Text};
+use nc_paths::module_of;
 use nc_schema::Schema;
 use std::alloc::Global;
 
@@ -23,9 +23,9 @@ fn split_colon(text: &str) -> Option<(&str, &str)>
 
 #[tactic(auto, using(crate::proofs::IdentityLemmas::colon_name, crate::proofs::IdentityLemmas::colon_empty, crate::proofs::IdentityLemmas::plain_name))]
 // The name of an identity: with a prefix, or in the default namespace.
-fn identity_name(alloc: Global, bounds: &[Bound], text: &str) -> Result<QName, TypeFault>
-    ensures ok { IfOk result (λ it. values.identity_name bounds.now text.now ≡ Some it) }
-    ensures refused { IfErr result (λ fault. OnNotInType fault (values.identity_name bounds.now text.now ≡ None)) }
+fn identity_name<B: Binds>(alloc: Global, bounds: &B, text: &str) -> Result<QName, TypeFault>
+    ensures ok { IfOk result (λ it. values.identity_name (B.bound bounds.now) text.now ≡ Some it) }
+    ensures refused { IfErr result (λ fault. OnNotInType fault (values.identity_name (B.bound bounds.now) text.now ≡ None)) }
 {
     match split_colon(text) {
         Some((prefix, name)) => {
@@ -39,12 +39,17 @@ fn identity_name(alloc: Global, bounds: &[Bound], text: &str) -> Result<QName, T
 }
 
 // The name in the namespace for which the prefix stands.
-fn name_in(alloc: Global, bounds: &[Bound], prefix: &str, name: &str) -> Result<QName, TypeFault>
-    ensures ok { IfOk result (λ it. values.name_in (bindings.space_of bounds.now prefix.now) name.now ≡ Some it) }
-    ensures refused { IfErr result (λ fault. OnNotInType fault (values.name_in (bindings.space_of bounds.now prefix.now) name.now ≡ None)) }
+fn name_in<B: Binds>(
+    alloc: Global,
+    bounds: &B,
+    prefix: &str,
+    name: &str,
+) -> Result<QName, TypeFault>
+    ensures ok { IfOk result (λ it. values.name_in (bindings.space_of prefix.now (B.bound bounds.now)) name.now ≡ Some it) }
+    ensures refused { IfErr result (λ fault. OnNotInType fault (values.name_in (bindings.space_of prefix.now (B.bound bounds.now)) name.now ≡ None)) }
 {
     let own = Text::from_text(alloc, prefix)?;
-    let Some(space) = space_of(bounds, &own) else {
+    let Some(space) = bounds.space_of(&own) else {
         return Err(TypeFault::NotInType);
     };
     Ok(QName {
@@ -62,15 +67,15 @@ fn is_named(among: &[QName], name: &QName) -> bool
 
 /// The text of an identity, with the name of its module as prefix.
 #[tactic(auto, unfolding(nc_schema::specs::Values::identity_text))]
-pub(crate) fn identity_text(
+pub(crate) fn identity_text<B: Binds>(
     alloc: Global,
     schema: &Schema,
     among: &[QName],
-    bounds: &[Bound],
+    bounds: &B,
     text: &str,
 ) -> Result<Text, TypeFault>
-    ensures ok { IfOk result (λ it. values.identity_text schema.now among.now bounds.now text.now ≡ Some it) }
-    ensures refused { IfErr result (λ fault. OnNotInType fault (values.identity_text schema.now among.now bounds.now text.now ≡ None)) }
+    ensures ok { IfOk result (λ it. values.identity_text schema.now among.now (B.bound bounds.now) text.now ≡ Some it) }
+    ensures refused { IfErr result (λ fault. OnNotInType fault (values.identity_text schema.now among.now (B.bound bounds.now) text.now ≡ None)) }
 {
     let name = identity_name(alloc, bounds, text)?;
     let Some(found) = module_of(schema, &name.space) else {

@@ -12,6 +12,7 @@ mod identity;
 mod node;
 mod number;
 mod paths;
+mod scope;
 mod simple;
 mod trim;
 mod value;

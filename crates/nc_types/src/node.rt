@@ -8,7 +8,7 @@ ghost use Rattle.nc_types.specs.inner.Faults.{OnNotInType};
 use crate::fault::TypeFault;
 use crate::gives::{Gives, Nothing};
 use crate::value::{type_of, type_text};
-use nc_names::{Bound, Text};
+use nc_names::{Binds, Text};
 use nc_schema::{Kind, Schema};
 use std::alloc::Global;
 
@@ -50,16 +50,16 @@ fn is_key_above(schema: &Schema, number: u32) -> bool
 }
 
 /// The canonical text at a data node, where `keys` gives those of the keys within it.
-pub(crate) fn node_text<K: Gives>(
+pub(crate) fn node_text<K: Gives, B: Binds>(
     keys: &K,
     alloc: Global,
     schema: &Schema,
-    bounds: &[Bound],
+    bounds: &B,
     number: u32,
     text: &str,
 ) -> Result<Text, TypeFault>
-    ensures ok { IfOk result (λ it. values.node_text schema.now (K.gives schema.now) bounds.now number text.now ≡ Some it) }
-    ensures refused { IfErr result (λ fault. OnNotInType fault (values.node_text schema.now (K.gives schema.now) bounds.now number text.now ≡ None)) }
+    ensures ok { IfOk result (λ it. values.node_text schema.now (K.gives schema.now) (B.bound bounds.now) number text.now ≡ Some it) }
+    ensures refused { IfErr result (λ fault. OnNotInType fault (values.node_text schema.now (K.gives schema.now) (B.bound bounds.now) number text.now ≡ None)) }
 {
     let Some(found) = type_of(schema, number) else {
         return Err(TypeFault::NotInType);
@@ -71,6 +71,7 @@ pub(crate) fn node_text<K: Gives>(
         schema.types().len(),
         &[],
         bounds,
+        false,
         found,
         text,
     )?;
@@ -93,11 +94,11 @@ impl<K: Gives> Gives for Within<K> {
 
     ghost gives = { λ tables bounds number text. node_text tables (K.gives tables) bounds number text };
 
-    fn give(
+    fn give<B: Binds>(
         &self,
         alloc: Global,
         schema: &Schema,
-        bounds: &[Bound],
+        bounds: &B,
         number: u32,
         text: &str,
     ) -> Result<Text, TypeFault> {
@@ -108,15 +109,15 @@ impl<K: Gives> Gives for Within<K> {
 /// The canonical text of the value that a text has at the data node of that number (RFC 7950 9.1). `bounds`
 /// are the prefixes in force where the text stands; of two of one prefix the first counts.
 #[tactic(auto, unfolding(nc_schema::specs::Values::canonical))]
-pub fn canonical(
+pub fn canonical<B: Binds>(
     alloc: Global,
     schema: &Schema,
     node: u32,
     text: &str,
-    bounds: &[Bound],
+    bounds: &B,
 ) -> Result<Text, TypeFault>
-    ensures ok { IfOk result (λ it. values.canonical schema.now node text.now bounds.now ≡ Some it) }
-    ensures refused { IfErr result (λ fault. OnNotInType fault (values.canonical schema.now node text.now bounds.now ≡ None)) }
+    ensures ok { IfOk result (λ it. values.canonical schema.now node text.now (B.bound bounds.now) ≡ Some it) }
+    ensures refused { IfErr result (λ fault. OnNotInType fault (values.canonical schema.now node text.now (B.bound bounds.now) ≡ None)) }
 {
     let gives = Within {
         keys: Within {

@@ -11,15 +11,8 @@ use crate::fault::TypeFault;
 use crate::trim::without_zeros;
 use itoa::Buffer;
 use nc_names::{Memory, Text};
-use nc_schema::Between;
+use nc_schema::{Between, read_number};
 use std::alloc::Global;
-
-/// The number of an optional sign and digits.
-pub(crate) fn read_number(text: &str) -> Option<i128>
-    ensures { result ≡ numbers.number_of text.now }
-{
-    i128::from_str_radix(text, 10).ok()
-}
 
 /// Whether the number is in one of the ranges.
 pub(crate) fn is_among(ranges: &[Between], number: i128) -> bool

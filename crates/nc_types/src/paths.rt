@@ -5,23 +5,23 @@ ghost use Rattle.nc_types.specs.inner.Faults.{OnNotInType};
 
 use crate::fault::TypeFault;
 use crate::gives::Gives;
-use nc_names::{Bound, Many, Path, Step, Text};
+use nc_names::{Binds, Many, Path, Step, Text};
 use nc_paths::{instance_path, key_nodes, node_pattern};
 use nc_schema::{Pattern, PatternStep, Schema};
 use std::alloc::Global;
 
 #[tactic(auto, using(crate::proofs::KeyLemmas::next_key, crate::proofs::KeyLemmas::bad_key, crate::proofs::KeyLemmas::few_nodes, crate::proofs::KeyLemmas::every_key))]
 // The canonical texts of keys.
-fn canonical_keys<K: Gives>(
+fn canonical_keys<K: Gives, B: Binds>(
     gives: &K,
     alloc: Global,
     schema: &Schema,
-    bounds: &[Bound],
+    bounds: &B,
     nodes: &[u32],
     keys: &[Text],
 ) -> Result<Many<Text>, TypeFault>
-    ensures ok { IfOk result (λ it. values.canonical_keys (K.gives schema.now bounds.now) nodes.now keys.now ≡ Some it) }
-    ensures refused { IfErr result (λ fault. OnNotInType fault (values.canonical_keys (K.gives schema.now bounds.now) nodes.now keys.now ≡ None)) }
+    ensures ok { IfOk result (λ it. values.canonical_keys (K.gives schema.now (B.bound bounds.now)) nodes.now keys.now ≡ Some it) }
+    ensures refused { IfErr result (λ fault. OnNotInType fault (values.canonical_keys (K.gives schema.now (B.bound bounds.now)) nodes.now keys.now ≡ None)) }
 {
     let mut out = Many::new(alloc);
     for (place, key) in keys.iter().enumerate() {
@@ -34,15 +34,15 @@ fn canonical_keys<K: Gives>(
 }
 
 // A step with canonical keys.
-fn canonical_step<K: Gives>(
+fn canonical_step<K: Gives, B: Binds>(
     gives: &K,
     alloc: Global,
     schema: &Schema,
-    bounds: &[Bound],
+    bounds: &B,
     step: &Step,
 ) -> Result<Step, TypeFault>
-    ensures ok { IfOk result (λ it. values.canonical_step schema.now (K.gives schema.now bounds.now) step.now ≡ Some it) }
-    ensures refused { IfErr result (λ fault. OnNotInType fault (values.canonical_step schema.now (K.gives schema.now bounds.now) step.now ≡ None)) }
+    ensures ok { IfOk result (λ it. values.canonical_step schema.now (K.gives schema.now (B.bound bounds.now)) step.now ≡ Some it) }
+    ensures refused { IfErr result (λ fault. OnNotInType fault (values.canonical_step schema.now (K.gives schema.now (B.bound bounds.now)) step.now ≡ None)) }
 {
     let nodes = key_nodes(alloc, schema, step.node)?;
     let keys = canonical_keys(
@@ -61,15 +61,15 @@ fn canonical_step<K: Gives>(
 
 #[tactic(auto, using(crate::proofs::KeyLemmas::next_step, crate::proofs::KeyLemmas::bad_step, crate::proofs::KeyLemmas::every_step))]
 // Steps with canonical keys.
-fn canonical_steps<K: Gives>(
+fn canonical_steps<K: Gives, B: Binds>(
     gives: &K,
     alloc: Global,
     schema: &Schema,
-    bounds: &[Bound],
+    bounds: &B,
     steps: &[Step],
 ) -> Result<Many<Step>, TypeFault>
-    ensures ok { IfOk result (λ it. values.canonical_steps schema.now (K.gives schema.now bounds.now) steps.now ≡ Some it) }
-    ensures refused { IfErr result (λ fault. OnNotInType fault (values.canonical_steps schema.now (K.gives schema.now bounds.now) steps.now ≡ None)) }
+    ensures ok { IfOk result (λ it. values.canonical_steps schema.now (K.gives schema.now (B.bound bounds.now)) steps.now ≡ Some it) }
+    ensures refused { IfErr result (λ fault. OnNotInType fault (values.canonical_steps schema.now (K.gives schema.now (B.bound bounds.now)) steps.now ≡ None)) }
 {
     let mut out = Many::new(alloc);
     for one in steps {
@@ -81,15 +81,15 @@ fn canonical_steps<K: Gives>(
 
 /// The text of an instance identifier.
 #[tactic(auto, unfolding(nc_schema::specs::Values::instance_text))]
-pub(crate) fn instance_text<K: Gives>(
+pub(crate) fn instance_text<K: Gives, B: Binds>(
     gives: &K,
     alloc: Global,
     schema: &Schema,
-    bounds: &[Bound],
+    bounds: &B,
     text: &str,
 ) -> Result<Text, TypeFault>
-    ensures ok { IfOk result (λ it. values.instance_text schema.now (K.gives schema.now) bounds.now text.now ≡ Some it) }
-    ensures refused { IfErr result (λ fault. OnNotInType fault (values.instance_text schema.now (K.gives schema.now) bounds.now text.now ≡ None)) }
+    ensures ok { IfOk result (λ it. values.instance_text schema.now (K.gives schema.now) (B.bound bounds.now) text.now ≡ Some it) }
+    ensures refused { IfErr result (λ fault. OnNotInType fault (values.instance_text schema.now (K.gives schema.now) (B.bound bounds.now) text.now ≡ None)) }
 {
     let Some(path) = instance_path(alloc, schema, text, bounds)? else {
         return Err(TypeFault::NotInType);
@@ -102,16 +102,16 @@ pub(crate) fn instance_text<K: Gives>(
 
 #[tactic(auto, using(crate::proofs::KeyLemmas::next_given, crate::proofs::KeyLemmas::bad_given, crate::proofs::KeyLemmas::left_out, crate::proofs::KeyLemmas::few_given, crate::proofs::KeyLemmas::every_given))]
 // The canonical texts of keys that may be left out.
-fn canonical_given<K: Gives>(
+fn canonical_given<K: Gives, B: Binds>(
     gives: &K,
     alloc: Global,
     schema: &Schema,
-    bounds: &[Bound],
+    bounds: &B,
     nodes: &[u32],
     keys: &[Option<Text>],
 ) -> Result<Many<Option<Text>>, TypeFault>
-    ensures ok { IfOk result (λ it. values.canonical_given (K.gives schema.now bounds.now) nodes.now keys.now ≡ Some it) }
-    ensures refused { IfErr result (λ fault. OnNotInType fault (values.canonical_given (K.gives schema.now bounds.now) nodes.now keys.now ≡ None)) }
+    ensures ok { IfOk result (λ it. values.canonical_given (K.gives schema.now (B.bound bounds.now)) nodes.now keys.now ≡ Some it) }
+    ensures refused { IfErr result (λ fault. OnNotInType fault (values.canonical_given (K.gives schema.now (B.bound bounds.now)) nodes.now keys.now ≡ None)) }
 {
     let mut out = Many::new(alloc);
     for (place, key) in keys.iter().enumerate() {
@@ -127,15 +127,15 @@ fn canonical_given<K: Gives>(
 }
 
 // A step with canonical keys, where they are given.
-fn canonical_part<K: Gives>(
+fn canonical_part<K: Gives, B: Binds>(
     gives: &K,
     alloc: Global,
     schema: &Schema,
-    bounds: &[Bound],
+    bounds: &B,
     step: &PatternStep,
 ) -> Result<PatternStep, TypeFault>
-    ensures ok { IfOk result (λ it. values.canonical_part schema.now (K.gives schema.now bounds.now) step.now ≡ Some it) }
-    ensures refused { IfErr result (λ fault. OnNotInType fault (values.canonical_part schema.now (K.gives schema.now bounds.now) step.now ≡ None)) }
+    ensures ok { IfOk result (λ it. values.canonical_part schema.now (K.gives schema.now (B.bound bounds.now)) step.now ≡ Some it) }
+    ensures refused { IfErr result (λ fault. OnNotInType fault (values.canonical_part schema.now (K.gives schema.now (B.bound bounds.now)) step.now ≡ None)) }
 {
     let nodes = key_nodes(alloc, schema, step.node)?;
     let keys = canonical_given(
@@ -154,15 +154,15 @@ fn canonical_part<K: Gives>(
 
 #[tactic(auto, using(crate::proofs::KeyLemmas::next_part, crate::proofs::KeyLemmas::bad_part, crate::proofs::KeyLemmas::every_part))]
 // Steps of a pattern with canonical keys.
-fn canonical_pattern<K: Gives>(
+fn canonical_pattern<K: Gives, B: Binds>(
     gives: &K,
     alloc: Global,
     schema: &Schema,
-    bounds: &[Bound],
+    bounds: &B,
     steps: &[PatternStep],
 ) -> Result<Many<PatternStep>, TypeFault>
-    ensures ok { IfOk result (λ it. values.canonical_pattern schema.now (K.gives schema.now bounds.now) steps.now ≡ Some it) }
-    ensures refused { IfErr result (λ fault. OnNotInType fault (values.canonical_pattern schema.now (K.gives schema.now bounds.now) steps.now ≡ None)) }
+    ensures ok { IfOk result (λ it. values.canonical_pattern schema.now (K.gives schema.now (B.bound bounds.now)) steps.now ≡ Some it) }
+    ensures refused { IfErr result (λ fault. OnNotInType fault (values.canonical_pattern schema.now (K.gives schema.now (B.bound bounds.now)) steps.now ≡ None)) }
 {
     let mut out = Many::new(alloc);
     for one in steps {
@@ -174,15 +174,15 @@ fn canonical_pattern<K: Gives>(
 
 /// The text of a node-instance identifier.
 #[tactic(auto, unfolding(nc_schema::specs::Values::node_instance_text))]
-pub(crate) fn node_instance_text<K: Gives>(
+pub(crate) fn node_instance_text<K: Gives, B: Binds>(
     gives: &K,
     alloc: Global,
     schema: &Schema,
-    bounds: &[Bound],
+    bounds: &B,
     text: &str,
 ) -> Result<Text, TypeFault>
-    ensures ok { IfOk result (λ it. values.node_instance_text schema.now (K.gives schema.now) bounds.now text.now ≡ Some it) }
-    ensures refused { IfErr result (λ fault. OnNotInType fault (values.node_instance_text schema.now (K.gives schema.now) bounds.now text.now ≡ None)) }
+    ensures ok { IfOk result (λ it. values.node_instance_text schema.now (K.gives schema.now) (B.bound bounds.now) text.now ≡ Some it) }
+    ensures refused { IfErr result (λ fault. OnNotInType fault (values.node_instance_text schema.now (K.gives schema.now) (B.bound bounds.now) text.now ≡ None)) }
 {
     let Some(pattern) = node_pattern(alloc, schema, text, bounds)? else {
         return Err(TypeFault::NotInType);

@@ -1,10 +1,11 @@
 //! Values by their types: unions, leafrefs and all others (RFC 7950 9), and the text at a data node.
-ghost use Rattle.std.specs.Prelude.{◌≡◌, ◌∷◌, [], Some, None, IfOk, IfErr, length};
+ghost use Rattle.std.specs.Prelude.{◌≡◌, ◌∷◌, [], true, Some, None, IfOk, IfErr, length};
 ghost use Rattle.std.specs.List.{list_all, list_any};
 ghost use Rattle.nc_schema.specs.Bindings as bindings;
 ghost use Rattle.nc_schema.specs.Values as values;
 ghost use Rattle.nc_types.specs.inner.Asked.{givers};
 ghost use Rattle.nc_types.specs.inner.Faults.{OnNotInType};
+ghost use Rattle.nc_types.specs.inner.Scopes.{under};
 
 use crate::bits::bits_text;
 use crate::decimal::decimal_text;
@@ -13,25 +14,12 @@ use crate::gives::Gives;
 use crate::identity::identity_text;
 use crate::number::whole_text;
 use crate::paths::{instance_text, node_instance_text};
+use crate::scope::scope_of;
 use crate::simple::{binary_text, boolean_text, empty_text, one_of, string_text};
 use crate::trim::trimmed;
-use nc_names::{Bound, Copies, Many, Memory, Text};
+use nc_names::{Binds, Many, Memory, Text};
 use nc_schema::{Kind, Schema, ValueType};
 use std::alloc::Global;
-
-// The bindings of canonical texts.
-fn module_bounds(alloc: Global, schema: &Schema) -> Result<Many<Bound>, Memory>
-    ensures { IfOk result (λ it. it ≡ bindings.module_bounds schema.now) }
-{
-    let mut out = Many::new(alloc);
-    for found in schema.modules() {
-        out.push(Bound {
-            prefix: found.name.copy()?,
-            space: found.space.copy()?,
-        })?;
-    }
-    Ok(out)
-}
 
 // The numbers with one before them.
 fn longer(alloc: Global, number: u32, chain: &[u32]) -> Result<Many<u32>, Memory>
@@ -59,18 +47,19 @@ pub(crate) fn type_of(schema: &Schema, number: u32) -> Option<u32>
 #[tactic(auto, using(crate::proofs::UnionLemmas::type_unknown, crate::proofs::UnionLemmas::type_spent, crate::proofs::UnionLemmas::type_again))]
 /// The canonical text of a value of the type of that number.
 #[cycle(types)]
-pub(crate) fn type_text<K: Gives>(
+pub(crate) fn type_text<K: Gives, B: Binds>(
     keys: &K,
     alloc: Global,
     schema: &Schema,
     most: usize,
     chain: &[u32],
-    bounds: &[Bound],
+    bounds: &B,
+    by_names: bool,
     number: u32,
     text: &str,
 ) -> Result<Text, TypeFault>
-    ensures ok { IfOk result (λ it. values.type_text schema.now (K.gives schema.now) most chain.now bounds.now number text.now ≡ Some it) }
-    ensures refused { IfErr result (λ fault. OnNotInType fault (values.type_text schema.now (K.gives schema.now) most chain.now bounds.now number text.now ≡ None)) }
+    ensures ok { IfOk result (λ it. values.type_text schema.now (K.gives schema.now) most chain.now (under by_names (bindings.module_bounds schema.now) (B.bound bounds.now)) number text.now ≡ Some it) }
+    ensures refused { IfErr result (λ fault. OnNotInType fault (values.type_text schema.now (K.gives schema.now) most chain.now (under by_names (bindings.module_bounds schema.now) (B.bound bounds.now)) number text.now ≡ None)) }
 {
     if most == 0 || chain.contains(&number) {
         return Err(TypeFault::NotInType);
@@ -86,6 +75,7 @@ pub(crate) fn type_text<K: Gives>(
         number,
         chain,
         bounds,
+        by_names,
         found,
         text,
     )
@@ -93,19 +83,20 @@ pub(crate) fn type_text<K: Gives>(
 
 // The canonical text of a value of a type.
 #[cycle(types)]
-fn text_in_type<K: Gives>(
+fn text_in_type<K: Gives, B: Binds>(
     keys: &K,
     alloc: Global,
     schema: &Schema,
     most: usize,
     number: u32,
     chain: &[u32],
-    bounds: &[Bound],
+    bounds: &B,
+    by_names: bool,
     found: &ValueType,
     text: &str,
 ) -> Result<Text, TypeFault>
-    ensures ok { IfOk result (λ it. values.text_in_type schema.now (givers schema.now (K.gives schema.now) most (number ∷ chain.now)) found.now bounds.now text.now ≡ Some it) }
-    ensures refused { IfErr result (λ fault. OnNotInType fault (values.text_in_type schema.now (givers schema.now (K.gives schema.now) most (number ∷ chain.now)) found.now bounds.now text.now ≡ None)) }
+    ensures ok { IfOk result (λ it. values.text_in_type schema.now (givers schema.now (K.gives schema.now) most (number ∷ chain.now)) found.now (under by_names (bindings.module_bounds schema.now) (B.bound bounds.now)) text.now ≡ Some it) }
+    ensures refused { IfErr result (λ fault. OnNotInType fault (values.text_in_type schema.now (givers schema.now (K.gives schema.now) most (number ∷ chain.now)) found.now (under by_names (bindings.module_bounds schema.now) (B.bound bounds.now)) text.now ≡ None)) }
 {
     match found {
         ValueType::Whole { among } => whole_text(alloc, among.as_slice(), trimmed(text)),
@@ -135,6 +126,7 @@ fn text_in_type<K: Gives>(
                 most,
                 asked.as_slice(),
                 bounds,
+                by_names,
                 members.as_slice(),
                 text,
             )
@@ -143,7 +135,7 @@ fn text_in_type<K: Gives>(
             alloc,
             schema,
             among.as_slice(),
-            bounds,
+            &scope_of(by_names, schema, bounds),
             trimmed(text),
         ),
         ValueType::Leafref { target, .. } => {
@@ -158,35 +150,66 @@ fn text_in_type<K: Gives>(
                 most,
                 asked.as_slice(),
                 bounds,
+                by_names,
                 of_target,
                 text,
             )
         }
-        ValueType::Instance { .. } => instance_text(keys, alloc, schema, bounds, trimmed(text)),
-        ValueType::NodeInstance => node_instance_text(keys, alloc, schema, bounds, trimmed(text)),
+        ValueType::Instance { .. } => {
+            let scope = scope_of(by_names, schema, bounds);
+            instance_text(keys, alloc, schema, &scope, trimmed(text))
+        }
+        ValueType::NodeInstance => {
+            let scope = scope_of(by_names, schema, bounds);
+            node_instance_text(keys, alloc, schema, &scope, trimmed(text))
+        }
     }
 }
 
-#[tactic(auto, using(crate::proofs::UnionLemmas::union_next, crate::proofs::UnionLemmas::union_found, crate::proofs::UnionLemmas::union_other, crate::proofs::UnionLemmas::union_none))]
+// Whether a text that was read by the names of modules is its own canonical text. Earlier members, which do not
+// admit it, then need not be asked again: in unions within unions each level would else ask twice.
+fn is_settled(by_names: bool, found: &Text, text: &str) -> bool
+    ensures names { result ≡ true → by_names ≡ true }
+    ensures same { result ≡ true → found.now ≡ text.now }
+{
+    by_names && found.as_str() == text
+}
+
+#[tactic(auto, using(crate::proofs::UnionLemmas::union_next, crate::proofs::UnionLemmas::none_more, crate::proofs::UnionLemmas::union_settled, crate::proofs::UnionLemmas::union_found, crate::proofs::UnionLemmas::union_other, crate::proofs::UnionLemmas::union_none))]
 // The canonical text by the first member of a union that admits the text.
 #[cycle(types)]
-fn union_text<K: Gives>(
+fn union_text<K: Gives, B: Binds>(
     keys: &K,
     alloc: Global,
     schema: &Schema,
     most: usize,
     chain: &[u32],
-    bounds: &[Bound],
+    bounds: &B,
+    by_names: bool,
     members: &[u32],
     text: &str,
 ) -> Result<Text, TypeFault>
-    ensures ok { IfOk result (λ it. values.union_text (values.type_text schema.now (K.gives schema.now) most chain.now) (bindings.module_bounds schema.now) bounds.now [] members.now text.now ≡ Some it) }
-    ensures refused { IfErr result (λ fault. OnNotInType fault (values.union_text (values.type_text schema.now (K.gives schema.now) most chain.now) (bindings.module_bounds schema.now) bounds.now [] members.now text.now ≡ None)) }
+    ensures ok { IfOk result (λ it. values.union_text (values.type_text schema.now (K.gives schema.now) most chain.now) (bindings.module_bounds schema.now) (under by_names (bindings.module_bounds schema.now) (B.bound bounds.now)) [] members.now text.now ≡ Some it) }
+    ensures refused { IfErr result (λ fault. OnNotInType fault (values.union_text (values.type_text schema.now (K.gives schema.now) most chain.now) (bindings.module_bounds schema.now) (under by_names (bindings.module_bounds schema.now) (B.bound bounds.now)) [] members.now text.now ≡ None)) }
 {
     for (place, member) in members.iter().enumerate() {
-        match type_text(keys, alloc, schema, most, chain, bounds, *member, text) {
+        match type_text(
+            keys, alloc, schema, most, chain, bounds, by_names, *member, text,
+        ) {
             Ok(found) => {
-                if agree(keys, alloc, schema, most, chain, &members[..place], &found)? {
+                if is_settled(by_names, &found, text) {
+                    return Ok(found);
+                }
+                if agree(
+                    keys,
+                    alloc,
+                    schema,
+                    most,
+                    chain,
+                    bounds,
+                    &members[..place],
+                    &found,
+                )? {
                     return Ok(found);
                 }
                 return Err(TypeFault::NotInType);
@@ -201,21 +224,18 @@ fn union_text<K: Gives>(
 #[tactic(auto, using(crate::proofs::UnionLemmas::agree_none, crate::proofs::UnionLemmas::agree_same, crate::proofs::UnionLemmas::agree_other, crate::proofs::UnionLemmas::agree_all))]
 // Whether each of the types gives this canonical text too, or none.
 #[cycle(types)]
-fn agree<K: Gives>(
+fn agree<K: Gives, B: Binds>(
     keys: &K,
     alloc: Global,
     schema: &Schema,
     most: usize,
     chain: &[u32],
+    bounds: &B,
     earlier: &[u32],
     found: &Text,
 ) -> Result<bool, Memory>
     ensures { IfOk result (λ it. it ≡ list_all (λ other. values.agrees found.now (values.type_text schema.now (K.gives schema.now) most chain.now (bindings.module_bounds schema.now) other found.now)) earlier.now) }
 {
-    if earlier.is_empty() {
-        return Ok(true);
-    }
-    let names = module_bounds(alloc, schema)?;
     for other in earlier {
         match type_text(
             keys,
@@ -223,7 +243,8 @@ fn agree<K: Gives>(
             schema,
             most,
             chain,
-            names.as_slice(),
+            bounds,
+            true,
             *other,
             found.as_str(),
         ) {

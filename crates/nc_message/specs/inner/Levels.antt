@@ -5,7 +5,8 @@ use Rattle.std.specs.BTreeMap.{BTreeMap, get}
 use Rattle.std.specs.Ordering.{nat_cmp}
 use Rattle.std.specs.Cmp.Lexicographic.{slice_cmp}
 use Rattle.nc_names.specs.declared.name.Bound.{Bound}
-use Rattle.nc_message.specs.Bindings.{Declared, declares, inside, space_of}
+use Rattle.nc_names.specs.Bindings.{space_of}
+use Rattle.nc_message.specs.Bindings.{Declared, declares, inside}
 
 -- the bindings in force under start tags, the outermost first
 abbrev pub in_force : List Declared → List Bound

@@ -4,7 +4,7 @@ use Rattle.std.specs.Ordering.{nat_cmp}
 use Rattle.std.specs.Cmp.Lexicographic.{slice_cmp}
 use Rattle.std.proofs.lemmas.Map.Text.{is_eq-slice_cmp}
 use Rattle.nc_names.specs.Same.{is_same_text}
-use Rattle.nc_message.specs.Bindings.{space_of}
+use Rattle.nc_names.specs.Bindings.{space_of}
 use Rattle.nc_message.proofs.Looking.{bound_before, bound_now, none_of}
 use Rattle.nc_message.proofs.bounds.with_space.Goals as goal
 

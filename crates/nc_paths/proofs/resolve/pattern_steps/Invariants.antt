@@ -5,5 +5,5 @@ use Rattle.nc_paths.specs.inner.Prepend.{before}
 use Rattle.nc_paths.proofs.resolve.pattern_steps.Given as goal
 
 abbrev pub invariant-loop-one : goal.invariant-loop-one
-invariant-loop-one l =
-    pattern_steps l.schema l.bounds None l.written ≡ before l.steps (pattern_steps l.schema l.bounds l.above (drop l.one-index l.written))
+invariant-loop-one g l =
+    pattern_steps l.schema (g.B.Binds.bound l.bounds) None l.written ≡ before l.steps (pattern_steps l.schema (g.B.Binds.bound l.bounds) l.above (drop l.one-index l.written))

@@ -5,4 +5,4 @@ use Rattle.nc_paths.specs.inner.Prepend.{before}
 use Rattle.nc_types.proofs.paths.canonical_given.Given as goal
 
 abbrev pub invariant-loop-place : goal.invariant-loop-place
-invariant-loop-place g l = canonical_given (g.K.Gives.gives l.schema l.bounds) l.nodes l.keys ≡ before l.out (canonical_given (g.K.Gives.gives l.schema l.bounds) (drop l.place l.nodes) (drop l.place l.keys))
+invariant-loop-place g l = canonical_given (g.K.Gives.gives l.schema (g.B.Binds.bound l.bounds)) l.nodes l.keys ≡ before l.out (canonical_given (g.K.Gives.gives l.schema (g.B.Binds.bound l.bounds)) (drop l.place l.nodes) (drop l.place l.keys))

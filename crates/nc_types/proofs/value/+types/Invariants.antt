@@ -1,8 +1,10 @@
 -- How many types may still be asked, and how far the members are looked at.
-use Rattle.std.proofs.Common.{◌≡◌, ◌+◌, ◌*◌, ℕ, [], take, drop}
+use Rattle.std.proofs.Common.{◌≡◌, ◌+◌, ◌*◌, ℕ, true, [], take, drop}
+use Rattle.std.specs.Option.{is_none}
 use Rattle.std.specs.List.{list_all}
 use Rattle.nc_schema.specs.Bindings.{module_bounds}
 use Rattle.nc_schema.specs.Values.{agrees, type_text, union_text}
+use Rattle.nc_types.specs.inner.Scopes.{under}
 use Rattle.nc_types.proofs.value.+types.Given as goal
 
 abbrev pub decreases-type_text : goal.decreases-type_text
@@ -23,6 +25,8 @@ invariant-agree-loop-other g l =
     ≡ list_all (λ (one : ℕ). agrees l.found (type_text l.schema (g.K.Gives.gives l.schema) l.most l.chain (module_bounds l.schema) one l.found)) (drop l.other-index l.earlier)
 
 abbrev pub invariant-union_text-loop-place : goal.invariant-union_text-loop-place
-invariant-union_text-loop-place g l =
-    union_text (type_text l.schema (g.K.Gives.gives l.schema) l.most l.chain) (module_bounds l.schema) l.bounds [] l.members l.text
-    ≡ union_text (type_text l.schema (g.K.Gives.gives l.schema) l.most l.chain) (module_bounds l.schema) l.bounds (take l.place l.members) (drop l.place l.members) l.text
+invariant-union_text-loop-place g l = record {
+  same : union_text (type_text l.schema (g.K.Gives.gives l.schema) l.most l.chain) (module_bounds l.schema) (under l.by_names (module_bounds l.schema) (g.B.Binds.bound l.bounds)) [] l.members l.text
+      ≡ union_text (type_text l.schema (g.K.Gives.gives l.schema) l.most l.chain) (module_bounds l.schema) (under l.by_names (module_bounds l.schema) (g.B.Binds.bound l.bounds)) (take l.place l.members) (drop l.place l.members) l.text;
+  none : list_all (λ (one : ℕ). is_none (type_text l.schema (g.K.Gives.gives l.schema) l.most l.chain (under l.by_names (module_bounds l.schema) (g.B.Binds.bound l.bounds)) one l.text)) (take l.place l.members) ≡ true;
+}

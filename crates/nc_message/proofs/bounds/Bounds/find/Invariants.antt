@@ -1,5 +1,5 @@
 use Rattle.std.proofs.Common.{◌≡◌, ◌≤◌, take, length}
-use Rattle.nc_message.specs.Bindings.{space_of}
+use Rattle.nc_names.specs.Bindings.{space_of}
 use Rattle.nc_message.specs.inner.Levels.{in_force}
 use Rattle.nc_message.proofs.bounds.Bounds.find.Given as goal
 

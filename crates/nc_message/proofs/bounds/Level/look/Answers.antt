@@ -1,6 +1,6 @@
 use Rattle.std.proofs.Common.{◌≡◌, ◌∙◌, sym, None}
 use Rattle.std.specs.Option.{option_copied}
-use Rattle.nc_message.specs.Bindings.{space_of}
+use Rattle.nc_names.specs.Bindings.{space_of}
 use Rattle.nc_message.proofs.Looking.{looked, taken_away, left_alone, mapped_some, mapped_none}
 use Rattle.nc_message.proofs.bounds.Level.look.Goals as goal
 

@@ -1,6 +1,0 @@
-use Rattle.std.proofs.Common.{◌∙◌}
-use Rattle.nc_requests.proofs.NumberLemmas.{number_is}
-use Rattle.nc_requests.proofs.reading.read_number.Goals as goal
-
-pub returns : goal.returns
-returns c = c.ok.ensures.value ∙ number_is c.args.text.now c.from_str_radix.result c.from_str_radix.ensures.value

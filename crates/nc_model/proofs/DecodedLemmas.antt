@@ -239,7 +239,7 @@ of_parameters BadParameter n e = e
 of_parameters BadFilterType n e = e
 of_parameters kind n e = absurd (none_is_not_some n e)
 
-named_properly : (operation : Option Operation) (cause : Cause) → IsAskedOf operation (Err cause) → name_count cause.kind ≡ Some (length cause.names)
+pub named_properly : (operation : Option Operation) (cause : Cause) → IsAskedOf operation (Err cause) → name_count cause.kind ≡ Some (length cause.names)
 named_properly None cause is = of_message cause.kind (length cause.names) is.0
 named_properly (Some operation) cause is = of_parameters cause.kind (length cause.names) is.0
 

@@ -31,7 +31,7 @@ use Rattle.nc_model.specs.declared.event.Event.TheVariants.{Start, Request as Re
 use Rattle.nc_model.specs.declared.event.Outcome.TheVariants.{Started, Full, NotLive, Ended}
 use Rattle.nc_model.specs.declared.request.Cause.{Cause}
 use Rattle.nc_model.specs.declared.verdict.Verdict.{Verdict}
-use Rattle.nc_model.specs.declared.verdict.Verdict.TheVariants.{Done, Selected}
+use Rattle.nc_model.specs.declared.verdict.Verdict.TheVariants.{Done, Selected, Locked, Refused}
 use Rattle.nc_model.specs.Access.{exec_of, rights_of}
 use Rattle.nc_model.specs.Applied.{Applied, applied}
 use Rattle.nc_model.specs.Changes.{changes_between}
@@ -39,177 +39,68 @@ use Rattle.nc_model.specs.Edited.{cause_where, decision_names}
 use Rattle.nc_model.specs.Laws.{DiskFaultHasCause}
 use Rattle.nc_model.specs.Payload.{edits_of, rows_of}
 use Rattle.nc_model.specs.Proper.{message_names, parameter_names, IsAskedOf, IsProperEvent}
+use Rattle.nc_model.specs.RequestLaws.{CausesAre}
 use Rattle.nc_model.specs.State.{State, candidate_in_force, expired, is_live}
 use Rattle.nc_model.specs.Step.{CountsFaults, outcome_of, has_failed, has_disk_fault, is_of_disk, is_full, is_done, reaches_disk, appends_record, answer_to}
 use Rattle.nc_model.specs.Verdict.{verdict, verdict_on, checked, cause_of, operation_refused, is_offered, exec_denied, asked_verdict, unsupported, unsupported_origin, is_source, is_target, is_same_store, stored, shown, edit_verdict, edits_made, made_by, causes_of_test, violation_in, violation_cause, done_unless, done_where, copied, unless_denied, rows_copied, changes_denied, denied_among, result_unless, validated, rows_to_validate, commit_refusal, kept_unless, datastore_name}
 use Rattle.nc_model.specs.Words.{source_word, confirmed_word}
 use Rattle.nc_model.proofs.KindLemmas.{ErrIs, edits_cause, rows_cause, applied_causes}
 use Rattle.nc_schema.proofs.ViolationLemmas.{violation_kinds}
-use Rattle.nc_model.proofs.ListLemmas.{all_one, all_append}
+use Rattle.nc_model.proofs.VerdictCauses.{asked_is, commit_is, refused_is}
 
 abbrev IsNoFault : Cause → Type 0
 IsNoFault cause = is_of_disk cause.kind ≡ false
 
-abbrev AreNoFault : Option Cause → Type 0
-AreNoFault found = IfSome found IsNoFault
+none_faults : (causes : List Cause) → All IsNoFault causes → list_any (λ cause. is_of_disk cause.kind) causes ≡ false
+none_faults [] each = refl
+none_faults (cause ∷ causes) each =
+    ap (λ b. b || list_any (λ cause. is_of_disk cause.kind) causes) (each 0 cause (omega arith))
+    ∙ none_faults causes (λ k d within. each (suc k) d (omega (arith, within)))
 
-err_none : {A : Type 0} (result : Result A Cause) (cause : Cause) → ErrIs IsNoFault result → result ≡ Err cause → IsNoFault cause
-err_none result cause is found = subst (ErrIs IsNoFault) found is
+no_fault : (decided : Verdict) → CausesAre IsNoFault decided → has_disk_fault decided ≡ false
+no_fault Done each = refl
+no_fault (Selected rows) each = refl
+no_fault (Locked lock nodes) each = refl
+no_fault (Refused causes) each = none_faults causes each
 
-edits_are_no_fault : (tables : Tables) (default_operation : Default3) (config : Elem) (cause : Cause) → edits_of tables default_operation config ≡ Err cause → IsNoFault cause
-edits_are_no_fault tables default_operation config cause =
-    err_none (edits_of tables default_operation config) cause
-    (edits_cause IsNoFault (λ steps name. refl) (λ steps name space. refl) (λ steps attr name. refl) (λ steps attr name. refl) (λ steps key. refl) (λ steps name. refl) (λ steps. refl)
-    tables default_operation config)
+-- whatever is asked for, its causes are of no disk while the disk does not fail
+module _ (s : State) (n : ℕ) where
+  payload_is : (default_operation : Default3) (config : Elem) → ErrIs IsNoFault (edits_of s.schema default_operation config)
+  payload_is default_operation config =
+      edits_cause IsNoFault (λ steps name. refl) (λ steps name space. refl) (λ above step attr name. refl) (λ above step attr name. refl)
+      (λ steps key. refl) (λ steps name. refl) (λ above step. refl) s.schema default_operation config
 
-rows_are_no_fault : (tables : Tables) (config : Elem) (cause : Cause) → rows_of tables config ≡ Err cause → IsNoFault cause
-rows_are_no_fault tables config cause =
-    err_none (rows_of tables config) cause
-    (rows_cause IsNoFault (λ steps name. refl) (λ steps name space. refl) (λ steps attr name. refl) (λ steps attr name. refl) (λ steps key. refl) (λ steps name. refl) (λ steps. refl)
-    tables config)
+  inline_is : (config : Elem) → ErrIs IsNoFault (rows_of s.schema config)
+  inline_is config =
+      rows_cause IsNoFault (λ steps name. refl) (λ steps name space. refl) (λ above step attr name. refl) (λ above step attr name. refl)
+      (λ steps key. refl) (λ steps name. refl) (λ above step. refl) s.schema config
 
-applied_is_no_fault : (tables : Tables) (rights : Path → Right → Decision) (on_error : ErrorOption) (rows : List Row) (edits : List Edit) → All IsNoFault (applied tables rights on_error rows edits).causes
-applied_is_no_fault tables rights on_error rows edits =
-    applied_causes IsNoFault tables rights (λ path. refl) (λ path. refl) (λ path. refl) (λ path right. refl) on_error rows edits
+  edits_are : (on_error : ErrorOption) (default_operation : Default3) (config : Elem) (edits : List Edit) → edits_of s.schema default_operation config ≡ Ok edits →
+      All IsNoFault (applied s.schema (rights_of s n) on_error (candidate_in_force s) edits).causes
+  edits_are on_error default_operation config edits is =
+      applied_causes IsNoFault s.schema (rights_of s n) (λ path. refl) (λ path. refl) (λ path right. refl) on_error (candidate_in_force s) edits (λ k edit within. refl)
 
-violations_are_no_fault : (tables : Tables) (rows : List Row) → All (λ violation. is_of_disk violation.kind ≡ false) (violations tables rows)
-violations_are_no_fault tables rows =
-    violation_kinds (λ kind. is_of_disk kind ≡ false) refl refl refl refl refl refl refl tables rows
+  invalid_is : (rows : List Row) → All (λ violation. IsNoFault (violation_cause violation)) (violations s.schema rows)
+  invalid_is rows = violation_kinds (λ kind. is_of_disk kind ≡ false) refl refl refl refl refl refl refl s.schema rows
 
-where_none : (b : Bool) (cause : Cause) → IsNoFault cause → AreNoFault (cause_where b cause)
-where_none true cause is = is
-where_none false cause is = tt
+  commit_none : (confirmed : Bool) (persist_id : Option (List ℕ)) → IfSome (commit_refusal s n confirmed persist_id) IsNoFault
+  commit_none = commit_is IsNoFault s n payload_is inline_is edits_are invalid_is (λ path right. refl) (λ store. refl) refl refl refl refl (λ operation. refl)
 
-or_none : (a b : Option Cause) → AreNoFault a → AreNoFault b → AreNoFault (option_or a b)
-or_none None b first second = second
-or_none (Some cause) b first second = first
+  refused_none : (operation : Option Operation) → IfSome (operation_refused s n operation) IsNoFault
+  refused_none = refused_is IsNoFault s n payload_is inline_is edits_are invalid_is (λ path right. refl) (λ store. refl) refl refl refl refl (λ operation. refl)
 
--- a verdict whose causes are none
-checked_none : (found : Option Cause) (decided : Verdict) → AreNoFault found → has_disk_fault decided ≡ false → has_disk_fault (checked found decided) ≡ false
-checked_none None decided each is = is
-checked_none (Some cause) decided each is = ap (λ b. b || false) each
-
-all_none : (causes : List Cause) → All IsNoFault causes → list_any (λ cause. is_of_disk cause.kind) causes ≡ false
-all_none [] each = refl
-all_none (cause ∷ causes) each =
-    ap (λ b. b || list_any (λ cause. is_of_disk cause.kind) causes) (each 0 cause (omega arith)) ∙ all_none causes (λ k d within. each (suc k) d (omega (arith, within)))
-
-violation_none : (tables : Tables) (rows : List Row) → AreNoFault (violation_in tables rows)
-violation_none tables rows = by (violations tables rows) (violations_are_no_fault tables rows)
-  where
-    by : (found : List Violation) → All (λ violation. is_of_disk violation.kind ≡ false) found → AreNoFault (option_map violation_cause (slice_get found 0))
-    by [] each = tt
-    by (violation ∷ more) each = each 0 violation (omega arith)
-
-denied_none : (rights : Path → Right → Decision) (right : Right) (paths : List Path) → AreNoFault (denied_among rights right paths)
-denied_none rights right paths = by (find (λ path. not (rights path right).permit) paths)
-  where
-    by : (found : Option Path) → AreNoFault (option_map (λ path. record { kind = DataDenied; path = Some path; names = decision_names right (rights path right).by }) found)
-    by None = tt
-    by (Some path) = refl
-
-changes_none : (rights : Path → Right → Decision) (changes : Changes) → AreNoFault (changes_denied rights changes)
-changes_none rights changes =
-    or_none (denied_among rights MayDelete changes.deleted) (option_or (denied_among rights MayUpdate changes.updated) (denied_among rights MayCreate changes.created))
-    (denied_none rights MayDelete changes.deleted)
-    (or_none (denied_among rights MayUpdate changes.updated) (denied_among rights MayCreate changes.created)
-    (denied_none rights MayUpdate changes.updated) (denied_none rights MayCreate changes.created))
-
-unsupported_none : (is_offered : Datastore → Bool) (store : Datastore) → AreNoFault (unsupported is_offered store)
-unsupported_none is_offered store = where_none (not (is_offered store)) (cause_of UnsupportedTarget (datastore_name store ∷ [])) refl
-
-origin_none : (source : Origin) → AreNoFault (unsupported_origin source)
-origin_none (Store store) = unsupported_none is_source store
-origin_none (Inline config) = tt
-
--- a result whose cause is none
-abbrev ErrIsNoFault : {A : Type 0} → Result A Cause → Type 0
-ErrIsNoFault (Ok it) = Unit {0}
-ErrIsNoFault (Err cause) = IsNoFault cause
-
-unless_none : {A : Type 0} (found : Option Cause) (result : Result A Cause) → AreNoFault found → ErrIsNoFault result → ErrIsNoFault (result_unless found result)
-unless_none None result each is = is
-unless_none (Some cause) result each is = each
-
-done_where_none : {A : Type 0} (result : Result A Cause) → ErrIsNoFault result → has_disk_fault (done_where result) ≡ false
-done_where_none (Ok it) is = refl
-done_where_none (Err cause) is = ap (λ b. b || false) is
-
-done_unless_none : (causes : List Cause) → All IsNoFault causes → has_disk_fault (done_unless causes) ≡ false
-done_unless_none [] each = refl
-done_unless_none (cause ∷ causes) each = all_none (cause ∷ causes) each
-
-tested_none : (tables : Tables) (test : TestOption) (rows : List Row) → All IsNoFault (causes_of_test tables test rows)
-tested_none tables Set rows = λ k d within. absurd (omega (arith, within))
-tested_none tables TestThenSet rows = by (violation_in tables rows) (violation_none tables rows)
-  where
-    by : (found : Option Cause) → AreNoFault found → All IsNoFault (option_to_list found)
-    by None each = λ k d within. absurd (omega (arith, within))
-    by (Some cause) each = all_one IsNoFault cause each
-tested_none tables TestOnly rows = by (violation_in tables rows) (violation_none tables rows)
-  where
-    by : (found : Option Cause) → AreNoFault found → All IsNoFault (option_to_list found)
-    by None each = λ k d within. absurd (omega (arith, within))
-    by (Some cause) each = all_one IsNoFault cause each
-
-edit_none : (tables : Tables) (test : TestOption) (made : Result Applied Cause) → ErrIsNoFault made → ((it : Applied) → made ≡ Ok it → All IsNoFault it.causes) →
-    has_disk_fault (edit_verdict tables test made) ≡ false
-edit_none tables test (Err cause) is each = ap (λ b. b || false) is
-edit_none tables test (Ok it) is each =
-    done_unless_none (it.causes ++ causes_of_test tables test it.rows) (all_append IsNoFault it.causes (causes_of_test tables test it.rows) (each it refl) (tested_none tables test it.rows))
-
-rows_copied_none : (s : State) (n : ℕ) (source : Origin) → ErrIsNoFault (rows_copied s n source)
-rows_copied_none s n (Store store) = tt
-rows_copied_none s n (Inline config) = by (rows_of s.schema config) refl
-  where
-    by : (result : Result (List Row) Cause) → rows_of s.schema config ≡ result → ErrIsNoFault result
-    by (Ok rows) is = tt
-    by (Err cause) is = rows_are_no_fault s.schema config cause is
-
-denied_rows_none : (s : State) (n : ℕ) (result : Result (List Row) Cause) → ErrIsNoFault result → ErrIsNoFault (unless_denied s n result)
-denied_rows_none s n (Err cause) is = is
-denied_rows_none s n (Ok rows) is =
-    unless_none (changes_denied (rights_of s n) (changes_between s.schema (candidate_in_force s) rows)) (Ok rows) (changes_none (rights_of s n) (changes_between s.schema (candidate_in_force s) rows)) tt
-
-copied_none : (s : State) (n : ℕ) (target : Datastore) (source : Origin) → ErrIsNoFault (copied s n target source)
-copied_none s n target source =
-    let same = cause_where (is_same_store target source) (cause_of BadParameter (source_word ∷ [])) in
-    unless_none (option_or (unsupported is_target target) (option_or (unsupported_origin source) same)) (unless_denied s n (rows_copied s n source))
-    (or_none (unsupported is_target target) (option_or (unsupported_origin source) same) (unsupported_none is_target target)
-    (or_none (unsupported_origin source) same (origin_none source) (where_none (is_same_store target source) (cause_of BadParameter (source_word ∷ [])) refl)))
-    (denied_rows_none s n (rows_copied s n source) (rows_copied_none s n source))
-
-validated_none : (tables : Tables) (result : Result (List Row) Cause) → ErrIsNoFault result → has_disk_fault (validated tables result) ≡ false
-validated_none tables (Err cause) is = ap (λ b. b || false) is
-validated_none tables (Ok rows) is = checked_none (violation_in tables rows) Done (violation_none tables rows) refl
-
-to_validate_none : (s : State) (source : Origin) → ErrIsNoFault (rows_to_validate s source)
-to_validate_none s (Store store) = unless_none (unsupported is_source store) (Ok (stored s store)) (unsupported_none is_source store) tt
-to_validate_none s (Inline config) = by (rows_of s.schema config) refl
-  where
-    by : (result : Result (List Row) Cause) → rows_of s.schema config ≡ result → ErrIsNoFault result
-    by (Ok rows) is = tt
-    by (Err cause) is = rows_are_no_fault s.schema config cause is
+  asked_none : (asked : Asked) → has_disk_fault (asked_verdict s n asked false) ≡ false
+  asked_none asked = no_fault (asked_verdict s n asked false)
+      (asked_is IsNoFault s n payload_is inline_is edits_are invalid_is (λ path right. refl) (λ store. refl) refl refl refl refl (λ operation. refl) asked false (λ e. cc))
 
 -- a commit that is answered with a disk fault would have been done
 abbrev WouldBeDone : Bool → Verdict → Type 0
 WouldBeDone confirmed decided = (confirmed ≡ false) × (is_done decided ≡ true)
 
-commit_none : (s : State) (n : ℕ) (confirmed : Bool) (persist_id : Option (List ℕ)) → AreNoFault (commit_refusal s n confirmed persist_id)
-commit_none s n confirmed persist_id =
-    let invalid = violation_in s.schema (candidate_in_force s) in
-    let changes = changes_between s.schema s.running (candidate_in_force s) in
-    let denied = changes_denied (rights_of s n) changes in
-    let no_token = cause_where (is_some persist_id) (cause_of BadToken []) in
-    or_none (cause_where confirmed (cause_of UnknownParameter (confirmed_word ∷ []))) (option_or no_token (option_or denied invalid))
-    (where_none confirmed (cause_of UnknownParameter (confirmed_word ∷ [])) refl)
-    (or_none no_token (option_or denied invalid) (where_none (is_some persist_id) (cause_of BadToken []) refl)
-    (or_none denied invalid (changes_none (rights_of s n) changes) (violation_none s.schema (candidate_in_force s))))
-
 commit_fails : (s : State) (n : ℕ) (confirmed : Bool) (persist_id : Option (List ℕ)) (found : Option Cause) → commit_refusal s n confirmed persist_id ≡ found →
     has_disk_fault (checked found (kept_unless true)) ≡ true → WouldBeDone confirmed (checked found (kept_unless false))
 commit_fails s n confirmed persist_id (Some cause) is failed =
-    let none = subst AreNoFault is (commit_none s n confirmed persist_id) in
+    let none = subst (λ found. IfSome found IsNoFault) is (commit_none s n confirmed persist_id) in
     absurd (apart (sym (ap (λ b. b || false) none) ∙ failed))
   where
     apart : false ≡ true → ⊥
@@ -231,33 +122,11 @@ both_are true b e f = f
 both_are false b e f = cc
 
 fault_of : (s : State) (n : ℕ) (asked : Asked) → FaultIsOfCommit s n asked
-fault_of s n (Get filter) failed = cc
-fault_of s n (GetConfig source filter) failed =
-    not_both _ (checked_none (unsupported is_source source) (Selected (shown s n source filter)) (unsupported_none is_source source) refl) failed
+fault_of s n (Get filter) failed = not_both _ (asked_none s n (Get filter)) failed
+fault_of s n (GetConfig source filter) failed = not_both _ (asked_none s n (GetConfig source filter)) failed
 fault_of s n (EditConfig target default_operation test on_error config) failed =
-    not_both _ (edit_none s.schema test (edits_made s n target default_operation on_error config)
-    (unless_none (unsupported is_target target) (made_by s n on_error (edits_of s.schema default_operation config)) (unsupported_none is_target target)
-    (made_err (edits_of s.schema default_operation config) refl)) (λ it is. edits_are s n target default_operation on_error config it is)) failed
-  where
-    made_err : (edits : Result (List Edit) Cause) → edits_of s.schema default_operation config ≡ edits → ErrIsNoFault (made_by s n on_error edits)
-    made_err (Ok edits) is = tt
-    made_err (Err cause) is = edits_are_no_fault s.schema default_operation config cause is
-
-    edits_are : (s : State) (n : ℕ) (target : Datastore) (default_operation : Default3) (on_error : ErrorOption) (config : Elem) (it : Applied) →
-        edits_made s n target default_operation on_error config ≡ Ok it → All IsNoFault it.causes
-    edits_are s n target default_operation on_error config it is = applied_of (edits_of s.schema default_operation config) (unless_is (unsupported is_target target) (made_by s n on_error (edits_of s.schema default_operation config)) it is)
-      where
-        unless_is : (found : Option Cause) (result : Result Applied Cause) (it : Applied) → result_unless found result ≡ Ok it → result ≡ Ok it
-        unless_is None result it e = e
-        unless_is (Some cause) result it e = cc
-
-        applied_of : (edits : Result (List Edit) Cause) → made_by s n on_error edits ≡ Ok it → All IsNoFault it.causes
-        applied_of (Err cause) e = cc
-        applied_of (Ok edits) e = subst (λ (a : Applied). All IsNoFault a.causes) (same e) (applied_is_no_fault s.schema (rights_of s n) on_error (candidate_in_force s) edits)
-          where
-            same : made_by s n on_error (Ok edits) ≡ Ok it → applied s.schema (rights_of s n) on_error (candidate_in_force s) edits ≡ it
-            same e = cc
-fault_of s n (CopyConfig target source) failed = not_both _ (done_where_none (copied s n target source) (copied_none s n target source)) failed
+    not_both _ (asked_none s n (EditConfig target default_operation test on_error config)) failed
+fault_of s n (CopyConfig target source) failed = not_both _ (asked_none s n (CopyConfig target source)) failed
 fault_of s n (DeleteConfig target) failed = cc
 fault_of s n (Lock target) failed = cc
 fault_of s n (Unlock target) failed = cc
@@ -268,7 +137,7 @@ fault_of s n (Commit confirmed timeout persist persist_id) failed =
     both_are (not confirmed) _ (ap not done.0) done.1
 fault_of s n DiscardChanges failed = cc
 fault_of s n (CancelCommit persist_id) failed = cc
-fault_of s n (Validate source) failed = not_both _ (validated_none s.schema (rows_to_validate s source) (to_validate_none s source)) failed
+fault_of s n (Validate source) failed = not_both _ (asked_none s n (Validate source)) failed
 fault_of s n (PartialLock selects) failed = cc
 fault_of s n (PartialUnlock lock) failed = cc
 
@@ -371,14 +240,8 @@ read_none : (operation : Option Operation) (cause : Cause) → IsAskedOf operati
 read_none None cause is = no_message cause.kind (length cause.names) is.0
 read_none (Some operation) cause is = no_parameter cause.kind (length cause.names) is.0
 
-refused_none : (s : State) (n : ℕ) (operation : Option Operation) → AreNoFault (operation_refused s n operation)
-refused_none s n None = tt
-refused_none s n (Some operation) =
-    or_none (cause_where (not (is_offered operation)) (cause_of UnknownOperation [])) (exec_denied (exec_of s n operation))
-    (where_none (not (is_offered operation)) (cause_of UnknownOperation []) refl) tt
-
 -- a request that is answered with a disk fault
-request_fails : (s : State) (n : ℕ) (operation : Option Operation) (asked : Result Asked Cause) (found : Option Cause) → IsAskedOf operation asked → AreNoFault found →
+request_fails : (s : State) (n : ℕ) (operation : Option Operation) (asked : Result Asked Cause) (found : Option Cause) → IsAskedOf operation asked → IfSome found IsNoFault →
     has_disk_fault (checked found (verdict_on s n asked true)) ≡ true → appends_record asked && is_done (checked found (verdict_on s n asked false)) ≡ true
 request_fails s n operation asked (Some cause) proper none failed = not_both _ (ap (λ b. b || false) none) failed
 request_fails s n operation (Err cause) None proper none failed = not_both _ (ap (λ b. b || false) (read_none operation cause proper)) failed

@@ -66,7 +66,7 @@ from_longer : (first : Step) (above : List Step) (step next : Step) (rest : List
 from_longer first [] step next rest = refl
 from_longer first (more ∷ above) step next rest = ap (λ steps. first ∷ steps) (from_longer more above step next rest)
 
-above_longer : (above : List Step) (step next : Step) (rest : List Step) →
+pub above_longer : (above : List Step) (step next : Step) (rest : List Step) →
     above_last (above ++ step ∷ next ∷ rest) ≡ (above ++ step ∷ []) ++ above_from next rest
 above_longer [] step next rest = refl
 above_longer (first ∷ above) step next rest =

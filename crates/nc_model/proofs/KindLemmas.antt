@@ -1,5 +1,5 @@
 -- The causes that payloads, edits and configurations give.
-use Rattle.std.proofs.Common.{◌&&◌, ◌||◌, ℕ, Bool, true, false, List, [], ◌∷◌, arith, Option, Some, None, Result, Ok, Err}
+use Rattle.std.proofs.Common.{◌&&◌, ◌||◌, ◌++◌, ℕ, Bool, true, false, List, [], ◌∷◌, arith, Option, Some, None, Result, Ok, Err, suc}
 use Rattle.std.specs.Prelude.{fold, if◌then◌else◌, option_map, option_and_then, IfSome}
 use Rattle.std.specs.List.{All, find, list_any}
 use Rattle.std.specs.Option.{option_or}
@@ -27,7 +27,7 @@ use Rattle.nc_model.specs.declared.request.Cause.{Cause}
 use Rattle.nc_model.specs.Applied.{Applied, applied, continued, stopped, with_result, is_empty}
 use Rattle.nc_model.specs.Attributes.{cause_in, attribute_fault, attribute_cause, attributes_fault, kind_unless, is_operation, has_operation, is_insertion, is_placed, reads_operation, reads_insertion}
 use Rattle.nc_model.specs.Edited.{Change, cause_at, cause_where, first_cause, missed, refusal, lacks_anchor, anchor_names, denied_cause, first_denied, decision_names, unless_refused, edited, left_by}
-use Rattle.nc_model.specs.Elements.{Reading, Named, named, named_part, has_text, is_key, steps_to, with_step}
+use Rattle.nc_model.specs.Elements.{Reading, Named, named, named_part, has_text, is_key, step_of, steps_to, with_step}
 use Rattle.nc_model.specs.Faults.{unknown_cause, shape_fault, value_fault, element_fault, missing_key, key_fault, keys_fault, entry_fault, unknown_or, inside, local_name}
 use Rattle.nc_model.specs.Payload.{part_edits, child_edits, parts_edits, list_edits, element_edits, node_edits, config_edits, edits_of, rows_of, with_more, if_read, unless_fault, made_of, rows_merged, reading_of}
 use Rattle.nc_model.proofs.ListLemmas.{all_append, all_one}
@@ -44,11 +44,11 @@ ErrIs P (Err cause) = P cause
 module _ (P : Cause → Type 0)
     (unknown_element : (steps : List Step) (name : List ℕ) → P (cause_in UnknownElement steps (name ∷ [])))
     (unknown_namespace : (steps : List Step) (name space : List ℕ) → P (cause_in UnknownNamespace steps (name ∷ space ∷ [])))
-    (unknown_attribute : (steps : List Step) (attr name : List ℕ) → P (cause_in UnknownAttribute steps (attr ∷ name ∷ [])))
-    (bad_attribute : (steps : List Step) (attr name : List ℕ) → P (cause_in BadAttribute steps (attr ∷ name ∷ [])))
+    (unknown_attribute : (above : List Step) (step : Step) (attr name : List ℕ) → P (cause_in UnknownAttribute (above ++ step ∷ []) (attr ∷ name ∷ [])))
+    (bad_attribute : (above : List Step) (step : Step) (attr name : List ℕ) → P (cause_in BadAttribute (above ++ step ∷ []) (attr ∷ name ∷ [])))
     (no_key : (steps : List Step) (key : List ℕ) → P (cause_in MissingKey steps (key ∷ [])))
     (bad_element : (steps : List Step) (name : List ℕ) → P (cause_in BadElement steps (name ∷ [])))
-    (bad_value : (steps : List Step) → P (cause_in BadValue steps [])) where
+    (bad_value : (above : List Step) (step : Step) → P (cause_in BadValue (above ++ step ∷ []) [])) where
   where_is : (b : Bool) (cause : Cause) → P cause → IfSome (cause_where b cause) P
   where_is true cause is = is
   where_is false cause is = tt
@@ -70,14 +70,14 @@ module _ (P : Cause → Type 0)
     where
       bad : (reads : Bool) → IfSome (option_map (attribute_cause reading at it attr) (kind_unless reads BadAttribute)) P
       bad true = tt
-      bad false = bad_attribute (steps_to reading at it) attr.name.name it.elem.name.name
+      bad false = bad_attribute at.above (step_of reading at.under it) attr.name.name it.elem.name.name
 
       by : (operation reads insertion places : Bool) →
           IfSome (option_map (attribute_cause reading at it attr)
           (if operation then kind_unless reads BadAttribute else (if insertion then kind_unless places BadAttribute else Some UnknownAttribute))) P
       by true reads insertion places = bad reads
       by false reads true places = bad places
-      by false reads false places = unknown_attribute (steps_to reading at it) attr.name.name it.elem.name.name
+      by false reads false places = unknown_attribute at.above (step_of reading at.under it) attr.name.name it.elem.name.name
 
   attributes_are : (reading : Reading) (at : Position) (it : Named) (given : Bool) (attrs : List Attr) → IfSome (attributes_fault reading at it given attrs) P
   attributes_are reading at it given [] = tt
@@ -90,7 +90,7 @@ module _ (P : Cause → Type 0)
       or_is (shape_fault reading at earlier it) (option_or (attributes_fault reading at it false it.elem.attrs) (value_fault reading at it))
       (where_is _ (cause_in BadElement at.above (it.elem.name.name ∷ [])) (bad_element at.above it.elem.name.name))
       (or_is (attributes_fault reading at it false it.elem.attrs) (value_fault reading at it) (attributes_are reading at it false it.elem.attrs)
-      (where_is _ (cause_in BadValue (steps_to reading at it) []) (bad_value (steps_to reading at it))))
+      (where_is _ (cause_in BadValue (steps_to reading at it) []) (bad_value at.above (step_of reading at.under it))))
 
   missing_is : (reading : Reading) (at : Position) (it : Named) → IfSome (missing_key reading at it) P
   missing_is reading at it = by (find _ it.node.keys)
@@ -193,7 +193,6 @@ module _ (P : Cause → Type 0)
 module _ (P : Cause → Type 0) (tables : Tables) (rights : Path → Right → Decision)
     (found : (path : Path) → P (cause_at Exists path []))
     (absent : (path : Path) → P (cause_at Absent path []))
-    (no_anchor : (path : Path) → P (cause_at MissingInstance path (anchor_names tables path)))
     (denied : (path : Path) (right : Right) → P (cause_at DataDenied path (decision_names right (rights path right).by))) where
   where_so : (b : Bool) (cause : Cause) → P cause → IfSome (cause_where b cause) P
   where_so true cause is = is
@@ -219,16 +218,20 @@ module _ (P : Cause → Type 0) (tables : Tables) (rights : Path → Right → D
   denied_so None = tt
   denied_so (Some change) = denied change.path change.right
 
-  refusal_so : (rows : List Row) (edit : Edit) → IfSome (refusal tables rights rows edit) P
-  refusal_so rows edit =
+  -- what is said of the cause for which the edit's anchor is missing
+  abbrev pub IfUnanchored : Edit → Type 0
+  IfUnanchored edit = P (cause_at MissingInstance edit.path (anchor_names tables edit.path))
+
+  refusal_so : (rows : List Row) (edit : Edit) → IfUnanchored edit → IfSome (refusal tables rights rows edit) P
+  refusal_so rows edit no_anchor =
       let lacks = cause_where (lacks_anchor rows edit) (cause_at MissingInstance edit.path (anchor_names tables edit.path)) in
       let denied = denied_cause rights (first_denied tables rights rows edit) in
       first_so (missed tables rows edit.path edit.action) (lacks ∷ denied ∷ []) (missed_so rows edit.path edit.action)
-      (first_so lacks (denied ∷ []) (where_so (lacks_anchor rows edit) (cause_at MissingInstance edit.path (anchor_names tables edit.path)) (no_anchor edit.path))
+      (first_so lacks (denied ∷ []) (where_so (lacks_anchor rows edit) (cause_at MissingInstance edit.path (anchor_names tables edit.path)) no_anchor)
       (first_so denied [] (denied_so (first_denied tables rights rows edit)) tt))
 
-  edited_so : (rows : List Row) (edit : Edit) → ErrIs P (edited tables rights rows edit)
-  edited_so rows edit = by (refusal tables rights rows edit) (refusal_so rows edit)
+  edited_so : (rows : List Row) (edit : Edit) → IfUnanchored edit → ErrIs P (edited tables rights rows edit)
+  edited_so rows edit no_anchor = by (refusal tables rights rows edit) (refusal_so rows edit no_anchor)
     where
       by : (refused : Option Cause) → IfSome refused P → ErrIs P (unless_refused refused (left_by tables rows edit))
       by None is = tt
@@ -241,29 +244,34 @@ module _ (P : Cause → Type 0) (tables : Tables) (rights : Path → Right → D
   with_so so_far (Ok rows) each is = each
   with_so so_far (Err cause) each is = all_append P so_far.causes (cause ∷ []) each (all_one P cause is)
 
-  continued_so : (so_far : Applied) (edit : Edit) → All P so_far.causes → All P (continued tables rights so_far edit).causes
-  continued_so so_far edit each = with_so so_far (edited tables rights so_far.rows edit) each (edited_so so_far.rows edit)
+  continued_so : (so_far : Applied) (edit : Edit) → IfUnanchored edit → All P so_far.causes → All P (continued tables rights so_far edit).causes
+  continued_so so_far edit no_anchor each = with_so so_far (edited tables rights so_far.rows edit) each (edited_so so_far.rows edit no_anchor)
 
-  stopped_so : (so_far : Applied) (edit : Edit) → All P so_far.causes → All P (stopped tables rights so_far edit).causes
-  stopped_so so_far edit each = by (is_empty so_far.causes)
+  stopped_so : (so_far : Applied) (edit : Edit) → IfUnanchored edit → All P so_far.causes → All P (stopped tables rights so_far edit).causes
+  stopped_so so_far edit no_anchor each = by (is_empty so_far.causes)
     where
       by : (none : Bool) → All P (if none then continued tables rights so_far edit else so_far).causes
-      by true = continued_so so_far edit each
+      by true = continued_so so_far edit no_anchor each
       by false = each
 
-  fold_so : (step : Applied → Edit → Applied) → ((so_far : Applied) (edit : Edit) → All P so_far.causes → All P (step so_far edit).causes) →
-      (so_far : Applied) (edits : List Edit) → All P so_far.causes → All P (fold step so_far edits).causes
-  fold_so step each so_far [] is = is
-  fold_so step each so_far (edit ∷ edits) is = fold_so step each (step so_far edit) edits (each so_far edit is)
+  fold_so : (step : Applied → Edit → Applied) →
+      ((so_far : Applied) (edit : Edit) → IfUnanchored edit → All P so_far.causes → All P (step so_far edit).causes) →
+      (so_far : Applied) (edits : List Edit) → All IfUnanchored edits → All P so_far.causes → All P (fold step so_far edits).causes
+  fold_so step each so_far [] no_anchor is = is
+  fold_so step each so_far (edit ∷ edits) no_anchor is =
+      fold_so step each (step so_far edit) edits (λ k d within. no_anchor (suc k) d (omega (arith, within)))
+      (each so_far edit (no_anchor 0 edit (omega arith)) is)
 
-  pub applied_causes : (on_error : ErrorOption) (rows : List Row) (edits : List Edit) → All P (applied tables rights on_error rows edits).causes
-  applied_causes Stop rows edits = fold_so (stopped tables rights) stopped_so (record { rows = rows; causes = [] }) edits none_so
-  applied_causes Continue rows edits = fold_so (continued tables rights) continued_so (record { rows = rows; causes = [] }) edits none_so
-  applied_causes Rollback rows edits = by (is_empty made.causes)
+  pub applied_causes : (on_error : ErrorOption) (rows : List Row) (edits : List Edit) → All IfUnanchored edits →
+      All P (applied tables rights on_error rows edits).causes
+  applied_causes Stop rows edits no_anchor = fold_so (stopped tables rights) stopped_so (record { rows = rows; causes = [] }) edits no_anchor none_so
+  applied_causes Continue rows edits no_anchor =
+      fold_so (continued tables rights) continued_so (record { rows = rows; causes = [] }) edits no_anchor none_so
+  applied_causes Rollback rows edits no_anchor = by (is_empty made.causes)
     where
       made : Applied
       made = fold (stopped tables rights) (record { rows = rows; causes = [] }) edits
 
       by : (none : Bool) → All P (if none then made else record made { rows = rows }).causes
-      by true = fold_so (stopped tables rights) stopped_so (record { rows = rows; causes = [] }) edits none_so
-      by false = fold_so (stopped tables rights) stopped_so (record { rows = rows; causes = [] }) edits none_so
+      by true = fold_so (stopped tables rights) stopped_so (record { rows = rows; causes = [] }) edits no_anchor none_so
+      by false = fold_so (stopped tables rights) stopped_so (record { rows = rows; causes = [] }) edits no_anchor none_so

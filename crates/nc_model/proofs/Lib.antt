@@ -50,3 +50,6 @@ pub mod EntryPlace
 pub mod EntryLands
 pub mod ContentLemmas
 pub mod DecodedLemmas
+pub mod VerdictCauses
+pub mod WholeCauses
+pub mod StandingLaws

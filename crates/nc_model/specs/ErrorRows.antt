@@ -1,6 +1,6 @@
 -- The errors of the causes: type, tag and app-tag, and what error-info holds (RFC 6241 4.3 and appendix A; RFC 7950
 -- 15; RFC 5717 2.4.1; RFC 8341 3.4.5).
-use Rattle.std.specs.Prelude.{◌-◌, ℕ, List, [], ◌∷◌, Option, Some, None, length, slice_get}
+use Rattle.std.specs.Prelude.{◌-◌, ℕ, Bool, true, false, List, [], ◌∷◌, Option, Some, None, length, slice_get}
 use Rattle.std.specs.List.{zip}
 use Rattle.std.specs.Option.{option_map_or}
 use Rattle.nc_names.specs.declared.cause.CauseKind.{CauseKind}
@@ -166,3 +166,21 @@ name_count MissingKey = Some 1
 name_count BadElement = Some 1
 name_count MissingInstance = Some 2
 name_count kind = Some 0
+
+-- a cause that is about one data node: its error has the node's path
+abbrev pub is_of_node : CauseKind → Bool
+is_of_node UnknownAttribute = true
+is_of_node BadAttribute = true
+is_of_node BadValue = true
+is_of_node Exists = true
+is_of_node Absent = true
+is_of_node MissingInstance = true
+is_of_node DataDenied = true
+is_of_node Mandatory = true
+is_of_node MandatoryChoice = true
+is_of_node TooFew = true
+is_of_node TooMany = true
+is_of_node NotUnique = true
+is_of_node DeadLeafref = true
+is_of_node DeadInstance = true
+is_of_node kind = false

@@ -29,7 +29,7 @@ use Rattle.nc_model.specs.Filter.{is_containment, is_content_match, is_of_node, 
 use Rattle.nc_model.specs.Payload.{part_edits, elem_edits, edits_of, rows_of}
 use Rattle.nc_model.specs.ProperEdit.{IsProperEdit, BringsCanonical, IsReadEdit}
 use Rattle.nc_names.specs.Same.{is_at_or_below, is_same_value}
-use Rattle.nc_schema.specs.Standing.{block_at, entries, excludes, has_row, is_by_user, placed, steps_before}
+use Rattle.nc_schema.specs.Standing.{block_at, entries, excludes, has_row, is_by_user, lacks_above, placed, steps_before}
 use Rattle.nc_model.specs.State.{State, IsGood, opening}
 use Rattle.nc_model.specs.Step.{Fits, has_failed, is_commit, is_done, next}
 use Rattle.nc_model.specs.History.{after, IsLegal, IsMineIn}
@@ -254,6 +254,17 @@ RowsStandInOrder =
     AllPairs (λ row later.
     (steps_before tables rows Kept [] row.path.steps later.path.steps ≡ true) ×
     (steps_before tables rows Kept [] later.path.steps row.path.steps ≡ false)) rows
+
+-- in a data tree no row lacks an entry or container above it, and no two rows are of two cases of a choice: what an
+-- edit asks of a node (`lacks_above`, `excludes`) holds of the rows that stand (RFC 7950 7.5.1, 7.8.2, 7.9)
+pub record RowsStandWhole : Type 0 where
+  pub above :
+      (tables : Tables) (rows : List Row) → IsDataTree tables rows →
+      All (λ row. lacks_above tables rows row.path.steps ≡ false) rows
+  pub cases :
+      (tables : Tables) (rows : List Row) → IsDataTree tables rows →
+      (row other : Row) → Contains rows row → Contains rows other →
+      excludes tables row.path.steps other.path.steps ≡ false
 
 -- what a filter keeps of a data tree is a data tree: keys stand with their entries, and entries with what is in them
 abbrev pub SelectedIsDataTree : Type 0

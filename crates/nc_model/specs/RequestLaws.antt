@@ -1,20 +1,24 @@
 -- What follows from the definitions of requests and replies.
-use Rattle.std.specs.Prelude.{◌≡◌, Bool, List, [], ◌∷◌, length, Some, Result, Err}
+use Rattle.std.specs.Prelude.{◌≡◌, ℕ, Bool, IsTrue, IsSome, IfSome, List, [], ◌∷◌, length, Some, Result, Err}
+use Rattle.std.specs.List.{All}
 use Rattle.nc_names.specs.declared.path.Path.{Path}
 use Rattle.nc_names.specs.declared.path.Row.{Row}
 use Rattle.nc_message.specs.declared.tree.Tree.{Tree}
 use Rattle.nc_message.specs.declared.tree.Why.{Why}
+use Rattle.nc_schema.specs.Proper.{IsProperSchema}
 use Rattle.nc_schema.specs.Tables.{Tables}
 use Rattle.nc_model.specs.declared.request.Cause.{Cause}
 use Rattle.nc_model.specs.declared.request.Request.{Request}
 use Rattle.nc_model.specs.declared.verdict.Verdict.{Verdict}
-use Rattle.nc_model.specs.declared.verdict.Verdict.TheVariants.{Selected}
+use Rattle.nc_model.specs.declared.verdict.Verdict.TheVariants.{Selected, Refused}
 use Rattle.nc_model.specs.Content.{base_name}
 use Rattle.nc_model.specs.Decoded.{decoded}
-use Rattle.nc_model.specs.ErrorRows.{name_count}
+use Rattle.nc_model.specs.ErrorRows.{name_count, is_of_node}
 use Rattle.nc_model.specs.Printed.{printed}
 use Rattle.nc_model.specs.Proper.{IsProper}
 use Rattle.nc_model.specs.Reply.{base_part, reply_of}
+use Rattle.nc_model.specs.State.{State}
+use Rattle.nc_model.specs.Verdict.{verdict}
 use Rattle.nc_model.specs.Words.{data_word, rpc_reply_word}
 
 -- what a message asks for is a proper request
@@ -26,6 +30,21 @@ abbrev pub CauseHasItsNames : Type 0
 CauseHasItsNames =
     (request : Request) (cause : Cause) → IsProper request → request.asked ≡ Err cause →
     name_count cause.kind ≡ Some (length cause.names)
+
+-- a cause has what its error needs: its names, and a path where it is about a data node
+pub record IsWhole (cause : Cause) : Type 0 where
+  pub names : IfSome (name_count cause.kind) (λ count. count ≡ length cause.names)
+  pub path : IsTrue (is_of_node cause.kind) → IsSome cause.path
+
+abbrev pub CausesAre : (Cause → Type 0) → Verdict → Type 0
+CausesAre Are (Refused causes) = All Are causes
+CausesAre Are verdict = Unit {0}
+
+-- the causes of the verdict on a proper request have what their errors need
+abbrev pub VerdictIsWhole : Type 0
+VerdictIsWhole =
+    (s : State) (session : ℕ) (request : Request) (failed : Bool) → IsProperSchema s.schema → IsProper request →
+    CausesAre IsWhole (verdict s session request failed)
 
 -- a reply is an `rpc-reply` with the attributes of the `rpc` (RFC 6241 4.2), and `data` holds the rows alone that were
 -- selected (RFC 6241 7.1, 7.7)

@@ -1,7 +1,7 @@
 //! What follows from the definitions in `specs/`, each as the contract of a function that does
 //! nothing. A call of one makes its law known to the caller.
-ghost use Rattle.nc_model.specs.Laws.{HistoriesJoin, LegalHistoriesJoin, OneEntryIsLegal, MineStays, MineGrows, ChildIsElement, BelowIsBelow, PlacesAreInOrder, EditKeepsTree, EditKeepsConfiguration, EditLeaves, EditsKeepTree, RowsStandInOrder, OpeningIsGood, GoodStays, HistoryIsDetermined, DiskFaultHasCause, CommitAloneChangesRunning, IsEndedBetween, PayloadFits, PayloadKeepsConfiguration, InlineIsConfiguration, SelectedIsDataTree, SelectedStandsInRows, EmptyFilterSelectsNothing, SelectionNodeSelectsSubtree, EditAsks, EntryLands};
-ghost use Rattle.nc_model.specs.RequestLaws.{DecodedIsProper, CauseHasItsNames, ReplyRepeatsRequest};
+ghost use Rattle.nc_model.specs.Laws.{HistoriesJoin, LegalHistoriesJoin, OneEntryIsLegal, MineStays, MineGrows, ChildIsElement, BelowIsBelow, PlacesAreInOrder, EditKeepsTree, EditKeepsConfiguration, EditLeaves, EditsKeepTree, RowsStandInOrder, RowsStandWhole, OpeningIsGood, GoodStays, HistoryIsDetermined, DiskFaultHasCause, CommitAloneChangesRunning, IsEndedBetween, PayloadFits, PayloadKeepsConfiguration, InlineIsConfiguration, SelectedIsDataTree, SelectedStandsInRows, EmptyFilterSelectsNothing, SelectionNodeSelectsSubtree, EditAsks, EntryLands};
+ghost use Rattle.nc_model.specs.RequestLaws.{DecodedIsProper, CauseHasItsNames, VerdictIsWhole, ReplyRepeatsRequest};
 
 /// The state after a history is that after its rest, from the state after its front.
 pub fn histories_join()
@@ -106,6 +106,11 @@ pub fn rows_stand_in_order()
     ensures { RowsStandInOrder }
 {}
 
+/// In a data tree no row lacks an entry or a container above it, and no two rows are of two cases of a choice.
+pub fn rows_stand_whole()
+    ensures { RowsStandWhole }
+{}
+
 /// A legal history is determined by its opening, and by the events, the readings of the clock and what
 /// the disk did.
 pub fn history_is_determined()
@@ -156,6 +161,12 @@ pub fn decoded_is_proper()
 /// The cause for which a proper request asks for nothing has the names that its reply needs.
 pub fn cause_has_its_names()
     ensures { CauseHasItsNames }
+{}
+
+/// The causes of the verdict on a proper request have what their errors need: their names, and a path where they are
+/// about a data node.
+pub fn verdict_is_whole()
+    ensures { VerdictIsWhole }
 {}
 
 /// A reply is an `rpc-reply` with the attributes of the `rpc`, and `data` holds the selected rows alone.

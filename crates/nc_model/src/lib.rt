@@ -39,8 +39,8 @@ pub use laws::{
     histories_join, history_is_determined, inline_is_configuration, is_ended_between,
     legal_histories_join, mine_grows, mine_stays, one_entry_is_legal, opening_is_good,
     payload_fits, payload_keeps_configuration, places_are_in_order, reply_repeats_request,
-    rows_stand_in_order, selected_is_data_tree, selected_stands_in_rows,
-    selection_node_selects_subtree,
+    rows_stand_in_order, rows_stand_whole, selected_is_data_tree, selected_stands_in_rows,
+    selection_node_selects_subtree, verdict_is_whole,
 };
 pub use peer::Peer;
 pub use position::{EditOperation, Position, Under};

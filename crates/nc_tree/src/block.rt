@@ -192,7 +192,8 @@ fn own_rows(
     }
 }
 
-fn last_step(steps: &[Step]) -> Option<&Step>
+/// The last of some steps.
+pub fn last_step(steps: &[Step]) -> Option<&Step>
     ensures { option_copied result ≡ last_or None steps.now }
 {
     let mut last: Option<&Step> = None;

@@ -46,6 +46,13 @@ impl Config {
         }
     }
 
+    /// The list of the rows. It takes no memory.
+    pub fn into_rows(self) -> Many<Row>
+        ensures { result ≡ self }
+    {
+        self.items
+    }
+
     /// How many rows there are.
     pub fn len(&self) -> u64
         ensures { result ≡ length self.now }
@@ -69,6 +76,13 @@ impl Config {
             rows.push(row)?;
         }
         Ok(rows)
+    }
+
+    /// All rows in document order, as they are kept.
+    pub fn as_slice(&self) -> &[Row]
+        ensures { result.now ≡ self.now }
+    {
+        self.items.as_slice()
     }
 
     /// The row at a path, where there is one.

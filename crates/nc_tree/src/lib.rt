@@ -14,7 +14,8 @@ mod look;
 mod mem_keeper;
 mod standing;
 
-pub use block::{node_of, rows_of_node};
+pub use block::{last_step, node_of, rows_of_node};
 pub use config::Config;
 pub use keeper::{Doubt, Keeper, Kept};
 pub use mem_keeper::MemKeeper;
+pub use standing::excludes;

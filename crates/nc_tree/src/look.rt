@@ -23,6 +23,13 @@ impl Config {
             .any(|row| is_at_or_below(&path.steps, &row.path))
     }
 
+    /// Whether there is a row at a path.
+    pub fn has(&self, path: &Path) -> bool
+        ensures { result ≡ meant.has_row self.now path.now.steps }
+    {
+        has_row(self.list(), path.steps.as_slice())
+    }
+
     /// The rows at a path and below it.
     pub fn block(&self, path: &Path) -> Result<Many<Row>, Memory>
         ensures { IfOk result (λ it. it ≡ meant.block_at self.now path.now.steps) }

@@ -58,7 +58,7 @@ fn cases_of(schema: &Schema, number: u32) -> &[Case]
 }
 
 /// Whether two nodes belong to two cases of one choice.
-pub(crate) fn excludes(schema: &Schema, steps: &Many<Step>, others: &Many<Step>) -> bool
+pub fn excludes(schema: &Schema, steps: &Many<Step>, others: &Many<Step>) -> bool
     ensures { result ≡ meant.excludes schema.now steps.now others.now }
 {
     let mut rest = others.as_slice();

@@ -1,0 +1,10 @@
+use Rattle.std.proofs.Common.{◌≡◌, drop, []}
+use Rattle.std.specs.Prelude.{fold}
+use Rattle.nc_model.specs.Applied.{Applied}
+use Rattle.nc_edit.specs.inner.Turns.{turn}
+use Rattle.nc_edit.proofs.edits.run.Given as goal
+
+abbrev pub invariant-loop-edit : goal.invariant-loop-edit
+invariant-loop-edit g l =
+    fold (turn l.schema (g.R.Rights.decided l.rights) l.goes_on) (record { rows = l.config; causes = l.causes }) (drop l.edit-index l.edits)
+    ≡ fold (turn l.schema (g.R.Rights.decided l.rights) l.goes_on) (record { rows = l.initial.config; causes = [] }) l.edits

@@ -1,0 +1,87 @@
+//! What an edit leaves.
+ghost use Rattle.std.specs.Prelude.{◌≡◌, IfOk, OnOk, OnErr};
+ghost use Rattle.nc_model.specs.Edited as meant;
+ghost use Rattle.nc_schema.specs.Blocks as blocks;
+ghost use Rattle.nc_schema.specs.Kinds as kinds;
+ghost use Rattle.nc_model.specs.declared.edit.Action.TheVariants.{Merge};
+
+use nc_model::{Action, Edit};
+use nc_names::{Copies, Many, Memory, Path, Place, Row, Text};
+use nc_schema::{Kind, Schema};
+use nc_tree::{Config, node_of, rows_of_node};
+use std::alloc::Global;
+
+fn has_value(kind: Kind) -> bool
+    ensures { result ≡ kinds.has_value kind }
+{
+    matches!(kind, Kind::Leaf | Kind::LeafList)
+}
+
+// Whether a leaf or a leaf-list entry is at the path.
+pub(crate) fn is_value_at(schema: &Schema, path: &Path) -> bool
+    ensures { result ≡ blocks.at_node schema.now path.now kinds.has_value }
+{
+    match node_of(schema, path.steps.as_slice()) {
+        Some(node) => has_value(node.kind),
+        None => false,
+    }
+}
+
+fn merged_block(
+    alloc: Global,
+    schema: &Schema,
+    config: &Config,
+    path: &Path,
+    value: &Option<Text>,
+) -> Result<Many<Row>, Memory>
+    ensures { IfOk result (λ it. it ≡ meant.new_block schema.now config.now path.now (Merge value.now)) }
+{
+    if config.exists(path) && !is_value_at(schema, path) {
+        return config.block(path);
+    }
+    rows_of_node(alloc, schema, path, value)
+}
+
+/// The rows at and below the node once an edit is made.
+pub(crate) fn new_block(
+    alloc: Global,
+    schema: &Schema,
+    config: &Config,
+    path: &Path,
+    action: &Action,
+) -> Result<Many<Row>, Memory>
+    ensures { IfOk result (λ it. it ≡ meant.new_block schema.now config.now path.now action.now) }
+{
+    match action {
+        Action::Nothing => config.block(path),
+        Action::Merge { value } => merged_block(alloc, schema, config, path, value),
+        Action::Create { rows } => rows.copy(),
+        Action::Replace { rows } => rows.copy(),
+        Action::Delete => Ok(Many::new(alloc)),
+        Action::Remove => Ok(Many::new(alloc)),
+    }
+}
+
+/// The place of an edit: one that does nothing, or that takes away, puts nothing in a place.
+pub(crate) fn place_by(action: &Action, place: &Place) -> Result<Place, Memory>
+    ensures { IfOk result (λ it. it ≡ meant.place_by action.now place.now) }
+{
+    match action {
+        Action::Nothing => Ok(Place::Kept),
+        Action::Delete => Ok(Place::Kept),
+        Action::Remove => Ok(Place::Kept),
+        Action::Merge { .. } => place.copy(),
+        Action::Create { .. } => place.copy(),
+        Action::Replace { .. } => place.copy(),
+    }
+}
+
+/// Makes an edit, whatever stands in its way. Where memory ends nothing is changed.
+pub fn make(alloc: Global, schema: &Schema, config: &mut Config, edit: &Edit) -> Result<(), Memory>
+    ensures ok { OnOk result (config.new ≡ meant.left_by schema.now config.old edit.now) }
+    ensures err { OnErr result (config.new ≡ config.old) }
+{
+    let block = new_block(alloc, schema, config, &edit.path, &edit.action)?;
+    let place = place_by(&edit.action, &edit.place)?;
+    config.set_block(schema, &edit.path, &place, block)
+}

@@ -1,0 +1,130 @@
+//! Whether a node is there though it is created, or is not though it has to be; and whether an anchor is.
+ghost use Rattle.std.specs.Prelude.{◌≡◌, [], false, not, IfOk, option_map};
+ghost use Rattle.std.specs.Option.{option_map_or};
+ghost use Rattle.nc_model.specs.Edited as meant;
+ghost use Rattle.nc_names.specs.Same as same;
+ghost use Rattle.nc_names.specs.declared.cause.CauseKind.TheVariants.{Absent};
+ghost use Rattle.nc_schema.specs.Blocks as blocks;
+ghost use Rattle.nc_schema.specs.Kinds as kinds;
+ghost use Rattle.nc_schema.specs.Standing as standing;
+
+use nc_model::{Action, Edit};
+use nc_names::{CauseKind, Many, Memory, Path, Place, Text, same_keys};
+use nc_schema::{Kind, Schema};
+use nc_tree::{Config, node_of};
+
+fn is_plain_container(kind: Kind) -> bool
+    ensures { result ≡ kinds.is_plain_container kind }
+{
+    match kind {
+        Kind::Container { presence } => !presence,
+        Kind::Leaf | Kind::LeafList | Kind::List => false,
+    }
+}
+
+fn is_plain_at(schema: &Schema, path: &Path) -> bool
+    ensures { result ≡ blocks.at_node schema.now path.now kinds.is_plain_container }
+{
+    match node_of(schema, path.steps.as_slice()) {
+        Some(node) => is_plain_container(node.kind),
+        None => false,
+    }
+}
+
+fn is_there(schema: &Schema, config: &Config, path: &Path) -> bool
+    ensures { result ≡ meant.is_there schema.now config.now path.now }
+{
+    if is_plain_at(schema, path) {
+        !config.lacks_above(schema, path)
+    } else {
+        config.exists(path)
+    }
+}
+
+/// The node is there though it is created, or is not though it has to be (RFC 6241 7.2).
+pub(crate) fn missed(
+    schema: &Schema,
+    config: &Config,
+    path: &Path,
+    action: &Action,
+) -> Option<CauseKind>
+    ensures { option_map (λ kind. meant.cause_at kind path.now []) result ≡ meant.missed schema.now config.now path.now action.now }
+{
+    match action {
+        Action::Nothing => {
+            if is_there(schema, config, path) {
+                return None;
+            }
+            Some(CauseKind::Absent)
+        }
+        Action::Merge { .. } | Action::Replace { .. } => absent_above(schema, config, path),
+        Action::Create { .. } => {
+            if config.exists(path) {
+                return Some(CauseKind::Exists);
+            }
+            absent_above(schema, config, path)
+        }
+        Action::Delete => {
+            if config.exists(path) {
+                return None;
+            }
+            Some(CauseKind::Absent)
+        }
+        Action::Remove => None,
+    }
+}
+
+// Absent, where an entry or a container with presence above the path does not stand.
+fn absent_above(schema: &Schema, config: &Config, path: &Path) -> Option<CauseKind>
+    ensures { option_map (λ kind. meant.cause_at kind path.now []) result ≡ meant.cause_where (standing.lacks_above schema.now config.now path.now.steps) (meant.cause_at Absent path.now []) }
+{
+    if config.lacks_above(schema, path) {
+        return Some(CauseKind::Absent);
+    }
+    None
+}
+
+fn is_same_keys(keys: &Many<Text>, others: &Many<Text>) -> bool
+    ensures { result ≡ same.is_same_keys keys.now others.now }
+{
+    same_keys(keys.as_slice(), others.as_slice())
+}
+
+fn has_entry(keys: &Many<Text>, order: &Many<Many<Text>>) -> bool
+    ensures { result ≡ standing.has_entry keys.now order.now }
+{
+    order
+        .as_slice()
+        .iter()
+        .any(|entry| is_same_keys(entry, keys))
+}
+
+fn lacks_entry(config: &Config, path: &Path, anchor: &Many<Text>) -> Result<bool, Memory>
+    ensures { IfOk result (λ it. it ≡ not (standing.has_entry anchor.now (blocks.entries_beside config.now path.now.steps))) }
+{
+    let order = config.entries_beside(path)?;
+    let has = has_entry(anchor, &order);
+    Ok(!has)
+}
+
+/// Whether the anchor of a place does not stand.
+pub(crate) fn lacks_anchor(config: &Config, edit: &Edit) -> Result<bool, Memory>
+    ensures { IfOk result (λ it. it ≡ meant.lacks_anchor config.now edit.now) }
+{
+    match &edit.action {
+        Action::Nothing | Action::Delete | Action::Remove => Ok(false),
+        Action::Merge { .. } | Action::Create { .. } | Action::Replace { .. } => {
+            lacks_place(config, &edit.path, &edit.place)
+        }
+    }
+}
+
+fn lacks_place(config: &Config, path: &Path, place: &Place) -> Result<bool, Memory>
+    ensures { IfOk result (λ it. it ≡ option_map_or (λ anchor. not (standing.has_entry anchor (blocks.entries_beside config.now path.now.steps))) (meant.anchor_of place.now) false) }
+{
+    match place {
+        Place::Before(anchor) => lacks_entry(config, path, anchor),
+        Place::After(anchor) => lacks_entry(config, path, anchor),
+        Place::Kept | Place::First | Place::Last => Ok(false),
+    }
+}

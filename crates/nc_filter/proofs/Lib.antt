@@ -1,0 +1,9 @@
+pub mod TextLemmas
+pub mod ElementLemmas
+pub mod StepLemmas
+pub mod IndexLemmas
+pub mod StateLemmas
+pub mod LevelLemmas
+pub mod SelectLemmas
+pub mod PlacesLemmas
+pub mod KeptLemmas

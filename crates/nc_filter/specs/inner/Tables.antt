@@ -1,0 +1,43 @@
+-- Tables and sets whose keys are steps to nodes.
+use Rattle.std.specs.Prelude.{◌≡◌, ◌||◌, cond, List, [], None, map}
+use Rattle.std.proofs.Common.{Bor}
+use Rattle.std.specs.List.{list_any}
+use Rattle.std.specs.Option.{option_map_or}
+use Rattle.std.specs.BTreeMap.{BTreeMap, get}
+use Rattle.std.specs.BTreeSet.{BTreeSet, contains}
+use Rattle.std.specs.declared.cmp.Ordering.{Ordering}
+use Rattle.std.specs.Ordering.{is_eq}
+use Rattle.std.specs.Cmp.Lexicographic.{slice_cmp}
+use Rattle.nc_names.specs.contracts.path.StepOrd.TheImpl.{ghosts}
+use Rattle.nc_names.specs.Same.{is_at_or_below, is_same_path}
+use Rattle.nc_names.specs.declared.path.Row.{Row}
+use Rattle.nc_names.specs.declared.path.Step.{Step}
+use Rattle.nc_filter.specs.inner.Frames.{children}
+
+-- steps are ordered by their nodes, then by their keys
+abbrev pub order : Bor (List Step) → Bor (List Step) → Ordering
+order steps others = slice_cmp ghosts.cmp steps.now others.now
+
+abbrev pub in_table : BTreeMap (Bor (List Step)) (List (Bor Row)) → Bor (List Step) → List (Bor Row)
+in_table table key = option_map_or (λ inside. inside) (get order table key) []
+
+-- the table has the rows of each instance
+abbrev pub IsIndex : BTreeMap (Bor (List Step)) (List (Bor Row)) → List Row → Type 0
+IsIndex table rows = (key : Bor (List Step)) → map (λ row. row.now) (in_table table key) ≡ children rows key.now
+
+-- a table has nothing at a key, and at the others what it had
+abbrev pub without : Bor (List Step) → BTreeMap (Bor (List Step)) (List (Bor Row)) → BTreeMap (Bor (List Step)) (List (Bor Row)) → Type 0
+without key before now = (other : Bor (List Step)) → get order now other ≡ cond (is_eq (order key other)) None (get order before other)
+
+-- the set has each node at which a row stands or below which one stands
+abbrev pub ArePlaces : BTreeSet (Bor (List Step)) → List Row → Type 0
+ArePlaces places rows = (key : Bor (List Step)) → contains order places key ≡ list_any (λ row. is_at_or_below key.now row.path) rows
+
+-- a set has one place more
+abbrev pub AddsPlace : BTreeSet (Bor (List Step)) → BTreeSet (Bor (List Step)) → List Step → Type 0
+AddsPlace before now steps = (key : Bor (List Step)) → contains order now key ≡ (is_same_path steps key.now || contains order before key)
+
+-- a set has a node more, and those above it
+abbrev pub AddsPlaces : BTreeSet (Bor (List Step)) → BTreeSet (Bor (List Step)) → List Step → Type 0
+AddsPlaces before now steps =
+    (key : Bor (List Step)) → contains order now key ≡ (contains order before key || is_at_or_below key.now (record { steps = steps }))

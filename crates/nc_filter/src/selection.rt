@@ -1,0 +1,167 @@
+//! The rows that a filter keeps (RFC 6241 6).
+ghost use Rattle.std.specs.Prelude.{◌≡◌, ◌&&◌, ◌||◌, ◌==◌, ◌++◌, ◌∷◌, if◌then◌else◌, [], List, IfOk, None, map, option_map};
+ghost use Rattle.std.specs.List.{filter, last_or, list_any};
+ghost use Rattle.nc_message.specs.declared.tree.Elem.{Elem};
+ghost use Rattle.nc_names.specs.declared.path.Row.{Row};
+ghost use Rattle.nc_schema.specs.Order.{keys_above};
+ghost use Rattle.nc_model.specs.Filter as meant;
+ghost use Rattle.nc_filter.specs.inner.Kept.{IsWalk};
+ghost use Rattle.nc_filter.specs.inner.Tables.{ArePlaces, IsIndex};
+
+use crate::element::last_step;
+use crate::index::{Index, above_last};
+use crate::places::Places;
+use crate::walk::Walk;
+use nc_message::Elem;
+use nc_names::{Copies, Many, Memory, Row, Step};
+use nc_schema::{Node, Schema};
+use nc_tree::Config;
+use std::alloc::Global;
+
+// Goes on to a row, and tells whether the filter selects it.
+fn turn<'a>(
+    alloc: Global,
+    schema: &Schema,
+    index: &Index<'a>,
+    walk: Walk<'a>,
+    row: &'a Row,
+) -> Result<(Walk<'a>, bool), Memory>
+    ensures { IfOk result (λ it. (rows : List Row) (filter : Elem) → IsIndex index.now.table rows →
+        IsWalk schema.now rows filter walk.entry.steps.now walk.entry.frames →
+        IsWalk schema.now rows filter it.0.steps.now it.0.frames
+        × (it.1 ≡ meant.selects schema.now rows row.now (meant.level_of filter) [] row.now.path.steps)) }
+{
+    let walk = walk.go(alloc, schema, index, row.path.steps.as_slice())?;
+    let selected = walk.is_selected(alloc, schema, row)?;
+    Ok((walk, selected))
+}
+
+fn push_if<'a>(rows: Many<&'a Row>, selected: bool, row: &'a Row) -> Result<Many<&'a Row>, Memory>
+    ensures { IfOk result (λ it. map (λ row. row.now) it ≡ (if selected then map (λ row. row.now) rows.entry ++ row.now ∷ [] else map (λ row. row.now) rows.entry)) }
+{
+    let mut rows = rows;
+    if selected {
+        rows.push(row)?;
+    }
+    Ok(rows)
+}
+
+fn push_copy_if(rows: Many<Row>, selected: bool, row: &Row) -> Result<Many<Row>, Memory>
+    ensures { IfOk result (λ it. it ≡ (if selected then rows ++ row.now ∷ [] else rows)) }
+{
+    let mut rows = rows;
+    if selected {
+        rows.push(row.copy()?)?;
+    }
+    Ok(rows)
+}
+
+// The rows that the filter selects by itself.
+fn chosen<'a>(
+    alloc: Global,
+    schema: &Schema,
+    index: &Index<'a>,
+    filter: &'a Elem,
+    rows: &'a [Row],
+) -> Result<Many<&'a Row>, Memory>
+    ensures { IfOk result (λ it. IsIndex index.now.table rows.now → map (λ row. row.now) it ≡ meant.chosen schema.now filter.now rows.now) }
+{
+    let mut walk = Walk::new(alloc, schema, index, filter)?;
+    let mut found = Many::new(alloc);
+    for row in rows {
+        let (next, selected) = turn(alloc, schema, index, walk, row)?;
+        walk = next;
+        found = push_if(found, selected, row)?;
+    }
+    Ok(found)
+}
+
+fn has_key(node: &Node, number: u32) -> bool
+    ensures { result ≡ list_any (λ key. key == number) node.now.keys }
+{
+    node.keys.as_slice().iter().any(|key| *key == number)
+}
+
+// Whether a data node is a key of the list entry to which the steps lead.
+fn is_key_in(schema: &Schema, above: &[Step], number: u32) -> bool
+    ensures { result ≡ list_any (λ key. key == number) (keys_above schema.now (option_map (λ over. over.node) (last_or None above.now))) }
+{
+    match last_step(above) {
+        Some(over) => match schema.node(over.node) {
+            Some(node) => has_key(node, number),
+            None => false,
+        },
+        None => false,
+    }
+}
+
+fn is_key_of_entry(schema: &Schema, steps: &[Step]) -> bool
+    ensures { result ≡ meant.is_key_of_entry schema.now steps.now }
+{
+    match last_step(steps) {
+        Some(step) => is_key_in(schema, above_last(steps), step.node),
+        None => false,
+    }
+}
+
+fn is_either(stands_above: bool, is_key: bool, is_of_entry: bool) -> bool
+    ensures { result ≡ (stands_above || (is_key && is_of_entry)) }
+{
+    stands_above || (is_key && is_of_entry)
+}
+
+// Whether a row comes with those that are selected.
+fn is_kept<'a>(schema: &Schema, places: &Places<'a>, row: &'a Row) -> bool
+    ensures { (rows : List Row) → ArePlaces places.now.items rows → result ≡ list_any (λ other. meant.comes_with schema.now other row.now) rows }
+{
+    let steps = row.path.steps.as_slice();
+    let stands_above = places.has(steps);
+    let is_key = is_key_of_entry(schema, steps);
+    let is_of_entry = places.has(above_last(steps));
+    is_either(stands_above, is_key, is_of_entry)
+}
+
+// The rows that come with those that are selected.
+fn kept<'a>(
+    alloc: Global,
+    schema: &Schema,
+    places: &Places<'a>,
+    rows: &'a [Row],
+) -> Result<Many<Row>, Memory>
+    ensures { IfOk result (λ it. (found : List Row) → ArePlaces places.now.items found →
+        it ≡ filter (λ row. list_any (λ other. meant.comes_with schema.now other row) found) rows.now) }
+{
+    let mut out = Many::new(alloc);
+    for row in rows {
+        out = push_copy_if(out, is_kept(schema, places, row), row)?;
+    }
+    Ok(out)
+}
+
+fn selected_rows<'a>(
+    alloc: Global,
+    schema: &Schema,
+    filter: &'a Elem,
+    rows: &'a [Row],
+) -> Result<Many<Row>, Memory>
+    ensures { IfOk result (λ it. it ≡ meant.selected schema.now filter.now rows.now) }
+{
+    let index = Index::new(alloc, rows)?;
+    let found = chosen(alloc, schema, &index, filter, rows)?;
+    let places = Places::new(alloc, found.as_slice())?;
+    let out = kept(alloc, schema, &places, rows)?;
+    Ok(out)
+}
+
+/// The rows of a configuration that a subtree filter keeps, in their order (RFC 6241 6). The children of `filter`
+/// are its elements at the top.
+pub fn select(
+    alloc: Global,
+    schema: &Schema,
+    filter: &Elem,
+    config: &Config,
+) -> Result<Many<Row>, Memory>
+    ensures { IfOk result (λ it. it ≡ meant.selected schema.now filter.now config.now) }
+{
+    selected_rows(alloc, schema, filter, config.as_slice())
+}

@@ -1,0 +1,108 @@
+//! The texts of content match nodes and of leafs (RFC 6241 6.2.5).
+ghost use Rattle.std.specs.Prelude.{◌≡◌, ◌++◌, ◌<◌, length, [], false, IfOk, IfSome};
+ghost use Rattle.std.specs.List.{prefix_len, flat_map};
+ghost use Rattle.std.specs.Option.{option_map_or};
+ghost use Rattle.nc_names.specs.Same.{is_same_text};
+ghost use Rattle.nc_names.specs.Signs as signs;
+ghost use Rattle.nc_schema.specs.PathWords as words;
+ghost use Rattle.nc_schema.specs.Values as values;
+ghost use Rattle.nc_model.specs.Elements as elements;
+
+use nc_message::Part;
+use nc_names::{Many, Memory, Text, is_white, tail};
+use std::alloc::Global;
+
+// How much white space stands first.
+fn count_white(bytes: &[u8]) -> usize
+    ensures { result ≡ prefix_len signs.is_white bytes.now }
+{
+    bytes.iter().take_while(|b| is_white(**b)).count()
+}
+
+// What is left after white space.
+fn after_white(bytes: &[u8]) -> &[u8]
+    ensures { result.now ≡ words.after_white bytes.now }
+{
+    tail(bytes, count_white(bytes))
+}
+
+// What is left before white space at the end.
+#[tactic(auto, using(crate::proofs::TextLemmas::white_step, crate::proofs::TextLemmas::other_step))]
+fn before_white(bytes: &[u8]) -> &[u8]
+    ensures { result.now ≡ words.without_last signs.is_white bytes.now }
+{
+    let mut end = 0;
+    let mut at = 0;
+    for b in bytes {
+        at += 1;
+        if !is_white(*b) {
+            end = at;
+        }
+    }
+    &bytes[..end]
+}
+
+// What is left without white space at both ends.
+fn trimmed(bytes: &[u8]) -> &[u8]
+    ensures { result.now ≡ values.trimmed bytes.now }
+{
+    before_white(after_white(bytes))
+}
+
+/// The text that a part is; none at a child element.
+pub(crate) fn text_of(part: &Part) -> &str
+    ensures { result.now ≡ elements.text_of part.now }
+{
+    match part.text() {
+        Some(text) => text.as_str(),
+        None => "",
+    }
+}
+
+// The text that is all of an element's content, where it is one part.
+fn only_text(parts: &[Part]) -> Option<&str>
+    ensures { IfSome result (λ text. text.now ≡ elements.whole_text parts.now) }
+{
+    let (first, more) = parts.split_first()?;
+    if !more.is_empty() {
+        return None;
+    }
+    Some(text_of(first))
+}
+
+// The text of an element's content without its child elements.
+fn whole_text(alloc: Global, parts: &[Part]) -> Result<Text, Memory>
+    ensures { IfOk result (λ it. it ≡ elements.whole_text parts.now) }
+{
+    let mut text = Text::new(alloc);
+    for part in parts {
+        text.push_str(text_of(part))?;
+    }
+    Ok(text)
+}
+
+// Whether two texts are the same, white space at both ends aside.
+fn is_same_trimmed(text: &str, other: &str) -> bool
+    ensures { result ≡ is_same_text (values.trimmed text.now) (values.trimmed other.now) }
+{
+    trimmed(text.as_bytes()) == trimmed(other.as_bytes())
+}
+
+/// Whether a value is the text of an element's content, white space at both ends aside.
+pub(crate) fn is_value(
+    alloc: Global,
+    parts: &Many<Part>,
+    value: &Option<Text>,
+) -> Result<bool, Memory>
+    ensures { IfOk result (λ it. it ≡ option_map_or (λ value. is_same_text (values.trimmed value)
+        (values.trimmed (elements.whole_text parts.now))) value.now false) }
+{
+    let Some(value) = value else {
+        return Ok(false);
+    };
+    if let Some(text) = only_text(parts.as_slice()) {
+        return Ok(is_same_trimmed(value.as_str(), text));
+    }
+    let text = whole_text(alloc, parts.as_slice())?;
+    Ok(is_same_trimmed(value.as_str(), text.as_str()))
+}

@@ -1,0 +1,4 @@
+pub mod RunLemmas
+pub mod PieceLemmas
+pub mod NameLemmas
+pub mod LevelLemmas

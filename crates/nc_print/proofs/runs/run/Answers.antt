@@ -1,0 +1,8 @@
+use Rattle.nc_model.specs.Printed as printed
+use Rattle.nc_print.proofs.RunLemmas.{is_run}
+use Rattle.nc_print.proofs.runs.run.Goals as goal
+
+pub returns-in-Some : goal.returns-in-Some
+returns-in-Some c =
+    is_run (printed.goes_on c.args.depth) c.in-Some.first.now c.in-Some.more.now c.args.rows.now c.count_run.result
+    c.in-Some.ensures.cases.0 c.count_run.ensures

@@ -6,6 +6,7 @@
 //! where none stands and it is in use. It takes no memory. `places_from` lists a place and all below it.
 #![tactic(auto)]
 
+mod below;
 mod cases;
 mod here;
 mod parts;
@@ -13,9 +14,10 @@ mod spots;
 mod value;
 mod values;
 
+pub use below::values_below;
 pub use cases::{is_chosen, is_made};
-pub use here::{Here, place_of, top};
-pub use parts::{count_parts, row_of, run_end};
+pub use here::{Here, place_below, place_of, top};
+pub use parts::{count_parts, next_of, row_of, run_end};
 pub use spots::{Spot, is_same_number, node_there, places_from};
 pub use value::in_use;
 pub use values::values_in_use;

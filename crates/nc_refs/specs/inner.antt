@@ -1,0 +1,5 @@
+pub mod Branches
+pub mod Trails
+pub mod Referred
+pub mod Named
+pub mod Broken

@@ -37,7 +37,14 @@ fn values_at<'a>(
         ≡ values_at schema.now number (place_here config.now spot.now.steps spot.now.here)) }
 {
     if stands_in(parent_of(schema, number), spot) {
-        return values_in_use(alloc, schema, config, spot.steps.as_slice(), spot.here, number);
+        return values_in_use(
+            alloc,
+            schema,
+            config,
+            spot.steps.as_slice(),
+            spot.here,
+            number,
+        );
     }
     Ok(Many::new(alloc))
 }

@@ -43,8 +43,8 @@ module _ (P : Cause → Type 0) (s : State) (n : ℕ)
     (bad_payload : (default_operation : Default3) (config : Elem) → ErrIs P (edits_of s.schema default_operation config))
     (bad_rows : (config : Elem) → ErrIs P (rows_of s.schema config))
     (refused_edits : (on_error : ErrorOption) (default_operation : Default3) (config : Elem) (edits : List Edit) →
-        edits_of s.schema default_operation config ≡ Ok edits →
-        All P (applied s.schema (rights_of s n) on_error (candidate_in_force s) edits).causes)
+    edits_of s.schema default_operation config ≡ Ok edits →
+    All P (applied s.schema (rights_of s n) on_error (candidate_in_force s) edits).causes)
     (invalid : (rows : List Row) → All (λ violation. P (violation_cause violation)) (violations s.schema rows))
     (denied : (path : Path) (right : Right) → P (cause_at DataDenied path (decision_names right (rights_of s n path right).by)))
     (no_store : (store : Datastore) → P (cause_of UnsupportedTarget (datastore_name store ∷ [])))

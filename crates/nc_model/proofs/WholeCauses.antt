@@ -159,8 +159,8 @@ invalid_is_whole : (tables : Tables) (rows : List Row) → All (λ violation. Is
 invalid_is_whole tables rows =
     let each : (kind : CauseKind) → Type 0 = λ kind. (path : Path) → IsWhole (cause_at kind path []) in
     let all = violation_kinds each (λ path. record { names = refl; path = λ about. refl }) (λ path. record { names = refl; path = λ about. refl })
-        (λ path. record { names = refl; path = λ about. refl }) (λ path. record { names = refl; path = λ about. refl }) (λ path. record { names = refl; path = λ about. refl })
-        (λ path. record { names = refl; path = λ about. refl }) (λ path. record { names = refl; path = λ about. refl }) tables rows in
+    (λ path. record { names = refl; path = λ about. refl }) (λ path. record { names = refl; path = λ about. refl }) (λ path. record { names = refl; path = λ about. refl })
+    (λ path. record { names = refl; path = λ about. refl }) (λ path. record { names = refl; path = λ about. refl }) tables rows in
     λ k d within. all k d within (get_or (violations tables rows) k d).path
 
 never : IsTrue false → ⊥

@@ -10,7 +10,7 @@ returns-then-stands_in c =
     let tables = c.args.schema.now in
     let place : Place = place_here c.args.config.now c.args.spot.now.steps c.args.spot.now.here in
     let here : stands_in (parent_of tables c.args.number) place ≡ true =
-        ap (λ parent. stands_in parent place) (sym c.parent_of.ensures) ∙ sym (c.stands_in.ensures c.args.config.now) ∙ c.if-stands_in.true in
+    ap (λ parent. stands_in parent place) (sym c.parent_of.ensures) ∙ sym (c.stands_in.ensures c.args.config.now) ∙ c.if-stands_in.true in
     subst (λ (b : Bool). IfOk c.values_in_use.result (λ it. map (λ text. text.now) it ≡ (if b then values_in_use tables place c.args.number else []))) (sym here)
     (subst (λ steps. IfOk c.values_in_use.result (λ it. map (λ text. text.now) it ≡ values_in_use tables (place_here c.args.config.now steps c.args.spot.now.here) c.args.number))
     c.as_slice.ensures c.values_in_use.ensures)
@@ -20,5 +20,5 @@ returns c =
     let tables = c.args.schema.now in
     let place : Place = place_here c.args.config.now c.args.spot.now.steps c.args.spot.now.here in
     let here : stands_in (parent_of tables c.args.number) place ≡ false =
-        ap (λ parent. stands_in parent place) (sym c.parent_of.ensures) ∙ sym (c.stands_in.ensures c.args.config.now) ∙ c.if-stands_in.false in
+    ap (λ parent. stands_in parent place) (sym c.parent_of.ensures) ∙ sym (c.stands_in.ensures c.args.config.now) ∙ c.if-stands_in.false in
     ap (map (λ text. text.now)) c.new.ensures ∙ sym (ap (λ b. if b then values_in_use tables place c.args.number else []) here)

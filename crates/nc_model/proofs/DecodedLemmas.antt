@@ -1,7 +1,7 @@
 -- What is decoded is a proper request.
-use Rattle.std.proofs.Common.{◌≡◌, ℕ, Bool, true, false, cond, not, ◌&&◌, List, [], ◌∷◌, ◌++◌, length, Option, Some, None, refl, sym, ap, subst, ◌∙◌}
+use Rattle.std.proofs.Common.{◌≡◌, ℕ, Bool, true, false, cond, not, ◌&&◌, List, [], ◌∷◌, ◌++◌, length, Option, Some, None, refl, subst}
 use Rattle.std.specs.List.{list_any}
-use Rattle.std.specs.Prelude.{Result, Ok, Err, MatchResult, map, find, filter, filter_map}
+use Rattle.std.specs.Prelude.{Result, Ok, Err, map, filter, filter_map}
 use Rattle.nc_names.specs.declared.cause.CauseKind.{CauseKind}
 use Rattle.nc_names.specs.declared.cause.CauseKind.TheVariants.{Malformed, NoMessageId, NoOperation, TwoOperations, UnknownOperation, UnknownParameter, RepeatedParameter, MissingParameter, BadParameter, BadFilterType}
 use Rattle.nc_names.specs.declared.name.QName.{QName}
@@ -10,20 +10,16 @@ use Rattle.nc_message.specs.declared.tree.Attr.{Attr}
 use Rattle.nc_message.specs.declared.tree.Elem.{Elem}
 use Rattle.nc_message.specs.declared.tree.Tree.{Tree}
 use Rattle.nc_message.specs.declared.tree.Why.{Why}
-use Rattle.nc_model.specs.Asking.{Asking, Parameter, asking, asks, bad_parameter, beside_confirmed, datastore_in, default_operations, element_named, error_options, filter_in, filter_parameter, given, missing_parameter, needed, number_in, one_or_more, one_parameter, optional, or_cause, origin_in, plain_cause, presence_in, read_or, select_in, is_select, selects, single, some_in, target, test_options, where_confirmed, whole_text_in, word_in, ◌⊛◌, default_timeout}
+use Rattle.nc_model.specs.Asking.{Asking, Parameter, asking, asks, bad_parameter, beside_confirmed, datastore_in, element_named, filter_in, filter_parameter, given, missing_parameter, needed, one_or_more, one_parameter, optional, or_cause, plain_cause, read_or, select_in, is_select, selects, some_in, target, where_confirmed, ◌⊛◌}
 use Rattle.nc_model.specs.Content.{base_name, children, partial_lock_name}
 use Rattle.nc_model.specs.Decoded.{asked_by, decoded, fault_as, fault_or, first_fault, has_name, is_message_id, operation_named, parameter_named, refused_request, request_by, request_in, request_of, unless_faulty}
 use Rattle.nc_model.specs.ErrorRows.{name_count}
 use Rattle.nc_model.specs.Proper.{IsAskedOf, IsProper, NamesSoMany, message_names, operation_of, parameter_names}
 use Rattle.nc_model.specs.Words as w
 use Rattle.nc_model.specs.declared.asked.Asked.{Asked}
-use Rattle.nc_model.specs.declared.asked.Asked.TheVariants.{Get as AsksGet, GetConfig as AsksGetConfig, EditConfig as AsksEditConfig, CopyConfig as AsksCopyConfig, DeleteConfig as AsksDeleteConfig, Lock as AsksLock, Unlock as AsksUnlock, CloseSession as AsksCloseSession, KillSession as AsksKillSession, Commit as AsksCommit, DiscardChanges as AsksDiscardChanges, CancelCommit as AsksCancelCommit, Validate as AsksValidate, PartialLock as AsksPartialLock, PartialUnlock as AsksPartialUnlock}
-use Rattle.nc_model.specs.declared.asked.Default3.TheVariants.{Merge}
-use Rattle.nc_model.specs.declared.asked.ErrorOption.TheVariants.{Stop}
 use Rattle.nc_model.specs.declared.asked.Operation.{Operation}
 use Rattle.nc_model.specs.declared.asked.Operation.TheVariants.{Get, GetConfig, EditConfig, CopyConfig, DeleteConfig, Lock, Unlock, CloseSession, KillSession, Commit, DiscardChanges, CancelCommit, Validate, PartialLock, PartialUnlock}
 use Rattle.nc_model.specs.declared.asked.Select.{Select}
-use Rattle.nc_model.specs.declared.asked.TestOption.TheVariants.{Set}
 use Rattle.nc_model.specs.declared.request.Cause.{Cause}
 use Rattle.nc_model.specs.declared.request.Request.{Request}
 

@@ -1,30 +1,17 @@
 -- A disk fault is answered only to a commit that reached the disk.
-use Rattle.std.proofs.Common.{◌≡◌, ◌+◌, ◌&&◌, ◌||◌, ℕ, Bool, true, false, List, [], ◌∷◌, ◌++◌, length, refl, sym, ap, subst, ◌∙◌, Option, Some, None, Result, Ok, Err, suc, arith}
-use Rattle.std.specs.Prelude.{if◌then◌else◌, not, is_some, option_map, slice_get, IfSome}
-use Rattle.std.specs.List.{All, find, list_any}
-use Rattle.std.specs.Option.{option_or, option_to_list}
+use Rattle.std.proofs.Common.{◌≡◌, ◌+◌, ◌&&◌, ◌||◌, ℕ, Bool, true, false, List, [], ◌∷◌, length, refl, sym, ap, subst, ◌∙◌, Option, Some, None, Result, Ok, Err, suc, arith}
+use Rattle.std.specs.Prelude.{if◌then◌else◌, not, IfSome}
+use Rattle.std.specs.List.{All, list_any}
 use Rattle.nc_names.specs.declared.cause.CauseKind.{CauseKind}
 use Rattle.nc_names.specs.declared.cause.CauseKind.TheVariants.{Malformed, NoMessageId, NoOperation, TwoOperations, UnknownOperation, ExecDenied, UnknownParameter, RepeatedParameter, MissingParameter, BadParameter, BadFilterType, UnsupportedTarget, LockHeld, LockModified, LockPending, LockPartial, NotHeld, InUseGlobal, InUsePartial, InUsePending, NoPending, BadToken, NotLiveTarget, BadSelect, NoMatch, Limit, UnknownElement, UnknownNamespace, UnknownAttribute, BadAttribute, MissingKey, BadElement, BadValue, Exists, Absent, MissingInstance, DataDenied, Mandatory, MandatoryChoice, TooFew, TooMany, NotUnique, DeadLeafref, DeadInstance, DiskFault}
-use Rattle.nc_names.specs.declared.path.Path.{Path}
-use Rattle.nc_names.specs.declared.path.Right.{Right}
-use Rattle.nc_names.specs.declared.path.Right.TheVariants.{Create as MayCreate, Update as MayUpdate, Delete as MayDelete}
 use Rattle.nc_names.specs.declared.path.Row.{Row}
-use Rattle.nc_schema.specs.Tables.{Tables}
 use Rattle.nc_schema.specs.Violations.{violations}
-use Rattle.nc_schema.specs.declared.violation.Violation.{Violation}
-use Rattle.nc_model.specs.declared.access.Decision.{Decision}
 use Rattle.nc_model.specs.declared.asked.Asked.{Asked}
 use Rattle.nc_model.specs.declared.asked.Asked.TheVariants.{Get, GetConfig, EditConfig, CopyConfig, DeleteConfig, Lock, Unlock, CloseSession, KillSession, Commit, DiscardChanges, CancelCommit, Validate, PartialLock, PartialUnlock}
 use Rattle.nc_model.specs.declared.asked.Default3.{Default3}
 use Rattle.nc_model.specs.declared.asked.ErrorOption.{ErrorOption}
 use Rattle.nc_model.specs.declared.asked.Operation.{Operation}
 use Rattle.nc_message.specs.declared.tree.Elem.{Elem}
-use Rattle.nc_model.specs.declared.asked.TestOption.{TestOption}
-use Rattle.nc_model.specs.declared.asked.TestOption.TheVariants.{TestThenSet, Set, TestOnly}
-use Rattle.nc_model.specs.declared.changes.Changes.{Changes}
-use Rattle.nc_model.specs.declared.datastore.Datastore.{Datastore}
-use Rattle.nc_model.specs.declared.datastore.Origin.{Origin}
-use Rattle.nc_model.specs.declared.datastore.Origin.TheVariants.{Store, Inline}
 use Rattle.nc_model.specs.declared.edit.Edit.{Edit}
 use Rattle.nc_model.specs.declared.event.Event.{Event}
 use Rattle.nc_model.specs.declared.event.Event.TheVariants.{Start, Request as Requested, End, Reading}
@@ -32,18 +19,15 @@ use Rattle.nc_model.specs.declared.event.Outcome.TheVariants.{Started, Full, Not
 use Rattle.nc_model.specs.declared.request.Cause.{Cause}
 use Rattle.nc_model.specs.declared.verdict.Verdict.{Verdict}
 use Rattle.nc_model.specs.declared.verdict.Verdict.TheVariants.{Done, Selected, Locked, Refused}
-use Rattle.nc_model.specs.Access.{exec_of, rights_of}
-use Rattle.nc_model.specs.Applied.{Applied, applied}
-use Rattle.nc_model.specs.Changes.{changes_between}
-use Rattle.nc_model.specs.Edited.{cause_where, decision_names}
+use Rattle.nc_model.specs.Access.{rights_of}
+use Rattle.nc_model.specs.Applied.{applied}
 use Rattle.nc_model.specs.Laws.{DiskFaultHasCause}
 use Rattle.nc_model.specs.Payload.{edits_of, rows_of}
 use Rattle.nc_model.specs.Proper.{message_names, parameter_names, IsAskedOf, IsProperEvent}
 use Rattle.nc_model.specs.RequestLaws.{CausesAre}
 use Rattle.nc_model.specs.State.{State, candidate_in_force, expired, is_live}
 use Rattle.nc_model.specs.Step.{CountsFaults, outcome_of, has_failed, has_disk_fault, is_of_disk, is_full, is_done, reaches_disk, appends_record, answer_to}
-use Rattle.nc_model.specs.Verdict.{verdict, verdict_on, checked, cause_of, operation_refused, is_offered, exec_denied, asked_verdict, unsupported, unsupported_origin, is_source, is_target, is_same_store, stored, shown, edit_verdict, edits_made, made_by, causes_of_test, violation_in, violation_cause, done_unless, done_where, copied, unless_denied, rows_copied, changes_denied, denied_among, result_unless, validated, rows_to_validate, commit_refusal, kept_unless, datastore_name}
-use Rattle.nc_model.specs.Words.{source_word, confirmed_word}
+use Rattle.nc_model.specs.Verdict.{verdict, verdict_on, checked, operation_refused, asked_verdict, violation_cause, commit_refusal, kept_unless}
 use Rattle.nc_model.proofs.KindLemmas.{ErrIs, edits_cause, rows_cause, applied_causes}
 use Rattle.nc_schema.proofs.ViolationLemmas.{violation_kinds}
 use Rattle.nc_model.proofs.VerdictCauses.{asked_is, commit_is, refused_is}

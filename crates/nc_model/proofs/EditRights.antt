@@ -1,5 +1,5 @@
 -- What an edit that is made asked for.
-use Rattle.std.proofs.Common.{◌≡◌, ◌⊎◌, ◌&&◌, ◌||◌, ℕ, zero, suc, Bool, true, false, cond, not, List, [], ◌∷◌, ◌++◌, Option, Some, None, inl, inr, refl, sym, ap, subst, ◌∙◌, arith}
+use Rattle.std.proofs.Common.{◌≡◌, ◌⊎◌, ◌&&◌, ◌||◌, zero, suc, Bool, true, false, cond, not, List, [], ◌∷◌, Option, Some, None, inl, inr, refl, sym, ap, subst, ◌∙◌, arith}
 use Rattle.std.proofs.lemmas.List.Elements.{Contains-append_left, Contains-append_right}
 use Rattle.std.proofs.lemmas.Option.{none-some}
 use Rattle.std.specs.List.{All, Contains, cons_option, filter, filter_map, find, list_any, reduce}
@@ -10,13 +10,12 @@ use Rattle.nc_names.specs.declared.path.Path.{Path}
 use Rattle.nc_names.specs.declared.path.Right.{Right}
 use Rattle.nc_names.specs.declared.path.Right.TheVariants.{Create as MayCreate, Update as MayUpdate, Delete as MayDelete}
 use Rattle.nc_names.specs.declared.path.Row.{Row}
-use Rattle.nc_names.specs.declared.path.Step.{Step}
 use Rattle.nc_schema.specs.Blocks.{row_at}
 use Rattle.nc_schema.specs.Configuration.{IsAtOrBelow}
 use Rattle.nc_schema.specs.Standing.{block_at, excludes, has_row}
 use Rattle.nc_schema.specs.Tables.{Tables}
 use Rattle.nc_model.specs.Changes.{has_moved, is_missing, is_updated}
-use Rattle.nc_model.specs.Edited.{Change, change_at, gives_way, changes_by, earlier, first_denied, denied_cause, left_by, new_block, place_by, missed, lacks_anchor, cause_where, first_cause, refusal, unless_refused, edited}
+use Rattle.nc_model.specs.Edited.{Change, change_at, gives_way, changes_by, earlier, first_denied, denied_cause, left_by, new_block, place_by, missed, lacks_anchor, cause_where, refusal, unless_refused, edited}
 use Rattle.nc_model.specs.Laws.{EditAsks}
 use Rattle.nc_model.specs.ProperEdit.{IsProperEdit}
 use Rattle.nc_model.specs.declared.access.Decision.{Decision}
@@ -27,7 +26,7 @@ use Rattle.nc_model.proofs.BoolLemmas.{is_false}
 use Rattle.nc_model.proofs.Building.{row_is_there, in_left}
 use Rattle.nc_model.proofs.EditedRows.{below_of, block_is_there, left_is, others_stay}
 use Rattle.nc_model.proofs.EditLemmas.{no_first}
-use Rattle.nc_model.proofs.ListLemmas.{contains_behind, none_passes, some_same}
+use Rattle.nc_model.proofs.ListLemmas.{contains_behind, none_passes}
 use Rattle.nc_model.proofs.NewSubtree.{of_left}
 use Rattle.nc_model.proofs.Parts.{all_from, contains_kept}
 use Rattle.nc_model.proofs.PlaceLemmas.{below_is_below}

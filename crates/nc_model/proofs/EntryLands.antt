@@ -1,17 +1,16 @@
 -- The entries of a list that the user orders, once an edit is made at one of them.
-use Rattle.std.proofs.Common.{◌≡◌, ◌≢◌, ◌⊎◌, ◌==◌, ◌&&◌, ◌||◌, ◌<◌, ℕ, zero, suc, Bool, true, false, cond, not, List, [], ◌∷◌, ◌++◌, Option, Some, None, inl, inr, refl, sym, ap, subst, ◌∙◌, arith, append_assoc}
+use Rattle.std.proofs.Common.{◌≡◌, ◌≢◌, ◌==◌, ◌&&◌, ◌||◌, ℕ, zero, suc, Bool, true, false, cond, not, List, [], ◌∷◌, ◌++◌, Option, Some, None, refl, sym, ap, subst, ◌∙◌, arith, append_assoc}
 use Rattle.std.proofs.lemmas.Bool.Decides.{Decides-eqb}
 use Rattle.std.proofs.lemmas.Bool.{le-ltb, not-false}
 use Rattle.std.proofs.lemmas.List.{append-nil}
 use Rattle.std.proofs.lemmas.List.Elements.{Contains-append_left, Contains-append_right, filter-append, filter_map-append}
 use Rattle.std.proofs.lemmas.List.Folds.{list_any_none}
-use Rattle.std.proofs.lemmas.Option.{none-some}
 use Rattle.std.specs.Cmp.Lexicographic.{pointwise_decides, slice_cmp}
 use Rattle.std.specs.Ordering.{nat_cmp}
-use Rattle.std.specs.List.{All, AllPairs, Contains, cons_option, filter, filter_map, last_or, list_any}
+use Rattle.std.specs.List.{All, AllPairs, Contains, cons_option, filter, filter_map, list_any}
 use Rattle.std.specs.Option.{option_map_or}
-use Rattle.std.specs.Prelude.{Ok, ltb}
-use Rattle.nc_names.specs.Same.{is_at_or_below, is_same_keys, is_same_path, is_same_step}
+use Rattle.std.specs.Prelude.{ltb}
+use Rattle.nc_names.specs.Same.{is_at_or_below, is_same_keys, is_same_path}
 use Rattle.nc_names.specs.declared.path.Path.{Path}
 use Rattle.nc_names.specs.declared.path.Place.{Place}
 use Rattle.nc_names.specs.declared.path.Place.TheVariants.{Kept, First, Last, Before, After}
@@ -19,29 +18,28 @@ use Rattle.nc_names.specs.declared.path.Right.{Right}
 use Rattle.nc_names.specs.declared.path.Row.{Row}
 use Rattle.nc_names.specs.declared.path.Step.{Step}
 use Rattle.nc_names.proofs.SameLemmas.{keys_decide, step_decide}
-use Rattle.nc_schema.specs.Blocks.{above_from, above_last, entries_beside, other_rows, with_block}
+use Rattle.nc_schema.specs.Blocks.{above_from, above_last, entries_beside}
 use Rattle.nc_schema.specs.Configuration.{IsAtOrBelow, IsDataTree}
 use Rattle.nc_schema.specs.Order.{keys_above, sibling_place}
 use Rattle.nc_schema.proofs.ProperLemmas.{proper_nodes}
 use Rattle.nc_schema.specs.Proper.{IsProperSchema}
-use Rattle.nc_schema.specs.Standing.{block_at, cases_of, cases_differ, entries, entry_before, excludes, has_entry, has_row, is_by_user, is_less, keys_in, placed, place_at, sibling_before, stands_before, steps_before, without_entry}
+use Rattle.nc_schema.specs.Standing.{block_at, cases_of, cases_differ, entries, excludes, has_entry, has_row, is_by_user, is_less, keys_in, placed, stands_before, steps_before, without_entry}
 use Rattle.nc_schema.specs.Tables.{Tables}
-use Rattle.nc_model.specs.Edited.{anchor_of, cause_where, denied_cause, edited, first_denied, lacks_anchor, left_by, missed, new_block, place_by, refusal}
+use Rattle.nc_model.specs.Edited.{anchor_of, cause_where, lacks_anchor, left_by, missed, new_block, place_by, refusal}
 use Rattle.nc_model.specs.Laws.{IsMade, EntryLands}
 use Rattle.nc_model.specs.declared.access.Decision.{Decision}
 use Rattle.nc_model.specs.declared.edit.Edit.{Edit}
-use Rattle.nc_model.specs.declared.request.Cause.{Cause}
 use Rattle.nc_model.proofs.AboveLemmas.{path_decide_to, some_passes}
 use Rattle.nc_model.proofs.Building.{row_is_there}
-use Rattle.nc_model.proofs.BoolLemmas.{is_false, not_both}
+use Rattle.nc_model.proofs.BoolLemmas.{is_false}
 use Rattle.nc_model.proofs.CaseLemmas.{cases_agree, from_cases, one_case}
 use Rattle.nc_model.proofs.EditedRows.{below_of, block_is_there, left_is}
 use Rattle.nc_model.proofs.EditLemmas.{edit_keeps_tree, no_cause, no_first}
 use Rattle.nc_model.proofs.EditRights.{not_refused}
 use Rattle.nc_model.proofs.EntryLemmas.{keys_back, keys_of_row}
-use Rattle.nc_model.proofs.EntryPlace.{Keys, IsNone, AreApart, HasAnchor, IsCutAt, placed_cut, in_front, behind, first_apart, apart_behind, without_none}
+use Rattle.nc_model.proofs.EntryPlace.{Keys, IsNone, AreApart, HasAnchor, IsCutAt, placed_cut, in_front, behind, apart_behind, without_none}
 use Rattle.nc_model.proofs.KeyLemmas.{filter_takes, filter_leaves, filter_whole, filter_none}
-use Rattle.nc_model.proofs.ListLemmas.{all_filter, contains_behind, pairs_cons, pairs_filter, same_before, some_same, tails_same, too_long}
+use Rattle.nc_model.proofs.ListLemmas.{contains_behind, pairs_cons, pairs_filter, same_before, tails_same}
 use Rattle.nc_model.proofs.Parts.{all_at, all_from, contains_kept, kept_contains, kept_true}
 use Rattle.nc_model.proofs.PathViews.{IsLower, node_after, parting_excludes, parting_test}
 use Rattle.nc_model.proofs.PlaceLemmas.{below_is_below, last_of}

@@ -1,14 +1,12 @@
 -- Where an edit puts an entry that the user orders.
-use Rattle.std.proofs.Common.{◌≡◌, ◌≢◌, ◌⊎◌, ◌==◌, ◌&&◌, ◌||◌, ℕ, zero, suc, Bool, true, false, cond, not, List, [], ◌∷◌, ◌++◌, Option, Some, None, inl, inr, refl, sym, ap, subst, ◌∙◌, arith, append_assoc}
-use Rattle.std.proofs.lemmas.Bool.Decides.{Decides-eqb}
+use Rattle.std.proofs.Common.{◌≡◌, ◌≢◌, ◌||◌, ℕ, zero, suc, Bool, true, false, cond, not, List, [], ◌∷◌, ◌++◌, refl, sym, ap, subst, ◌∙◌, arith}
 use Rattle.std.proofs.lemmas.List.{append-nil}
-use Rattle.std.specs.List.{AllPairs, Contains, filter}
+use Rattle.std.specs.List.{AllPairs, Contains}
 use Rattle.nc_names.specs.Same.{is_same_keys}
 use Rattle.nc_names.specs.declared.path.Place.{Place}
 use Rattle.nc_names.specs.declared.path.Place.TheVariants.{Kept, First, Last, Before, After}
 use Rattle.nc_names.proofs.SameLemmas.{keys_decide}
 use Rattle.nc_schema.specs.Standing.{has_entry, without_entry, kept_or_last, put_before, put_after, placed, stands_before}
-use Rattle.nc_model.specs.Edited.{anchor_of}
 use Rattle.nc_model.proofs.BoolLemmas.{is_false}
 use Rattle.nc_model.proofs.KeyLemmas.{filter_takes, filter_leaves}
 use Rattle.nc_model.proofs.ListLemmas.{contains_behind}

@@ -1,13 +1,12 @@
 -- In a data tree what is above each row stands, and no two rows are of two cases of a choice.
-use Rattle.std.proofs.Common.{◌≡◌, ◌≢◌, ◌⊎◌, ◌&&◌, ℕ, zero, suc, Bool, true, false, not, List, [], ◌∷◌, ◌++◌, Option, Some, None, refl, sym, ap, subst, ◌∙◌, inl, inr, arith}
+use Rattle.std.proofs.Common.{◌≡◌, ◌&&◌, zero, suc, Bool, true, false, not, List, [], ◌∷◌, ◌++◌, Option, Some, None, refl, sym, ap, subst, ◌∙◌, arith}
 use Rattle.std.proofs.lemmas.List.{append_assoc}
 use Rattle.std.proofs.lemmas.List.Folds.{list_any_none}
 use Rattle.std.specs.Cmp.Lexicographic.{pointwise_decides}
-use Rattle.std.specs.List.{All, Contains, list_any, last_or}
+use Rattle.std.specs.List.{All, Contains, list_any}
 use Rattle.std.specs.Option.{option_map_or}
 use Rattle.std.specs.Prelude.{map, option_and_then, slice_get, if◌then◌else◌}
 use Rattle.nc_names.specs.Same.{is_same_path, is_same_step}
-use Rattle.nc_names.specs.declared.path.Path.{Path}
 use Rattle.nc_names.specs.declared.path.Row.{Row}
 use Rattle.nc_names.specs.declared.path.Step.{Step}
 use Rattle.nc_names.proofs.SameLemmas.{step_decide}
@@ -15,7 +14,6 @@ use Rattle.nc_schema.specs.Configuration.{IsDataTree, StandsForItself}
 use Rattle.nc_schema.specs.Kinds.{stands_for_itself}
 use Rattle.nc_schema.specs.Standing.{node_of, has_row, above_of, lacks_above, excludes, cases_differ, cases_of}
 use Rattle.nc_schema.specs.Tables.{Tables}
-use Rattle.nc_schema.specs.declared.node.Case.{Case}
 use Rattle.nc_schema.specs.declared.node.Kind.{Kind}
 use Rattle.nc_schema.specs.declared.node.Kind.TheVariants.{Container, Leaf, LeafList, List as ListKind}
 use Rattle.nc_schema.specs.declared.node.Node.{Node}

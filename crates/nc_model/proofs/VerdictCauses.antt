@@ -1,6 +1,6 @@
 -- What is so of each cause that may come of a request is so of the causes of its verdict.
-use Rattle.std.proofs.Common.{◌≡◌, ◌+◌, ◌++◌, ◌&&◌, ◌||◌, ℕ, Bool, true, false, List, [], ◌∷◌, refl, Option, Some, None, Result, Ok, Err, suc, arith}
-use Rattle.std.specs.Prelude.{if◌then◌else◌, not, is_some, option_map, slice_get, IfSome}
+use Rattle.std.proofs.Common.{◌≡◌, ◌++◌, ℕ, Bool, true, false, List, [], ◌∷◌, refl, Option, Some, None, Result, Ok, Err, arith}
+use Rattle.std.specs.Prelude.{not, is_some, option_map, slice_get, IfSome}
 use Rattle.std.specs.List.{All, find}
 use Rattle.std.specs.Option.{option_or, option_to_list}
 use Rattle.nc_names.specs.declared.cause.CauseKind.TheVariants.{UnknownOperation, ExecDenied, UnknownParameter, BadParameter, UnsupportedTarget, BadToken, DataDenied, DiskFault}
@@ -9,7 +9,6 @@ use Rattle.nc_names.specs.declared.path.Right.{Right}
 use Rattle.nc_names.specs.declared.path.Right.TheVariants.{Create as MayCreate, Update as MayUpdate, Delete as MayDelete, Exec as MayExec}
 use Rattle.nc_names.specs.declared.path.Row.{Row}
 use Rattle.nc_message.specs.declared.tree.Elem.{Elem}
-use Rattle.nc_schema.specs.Tables.{Tables}
 use Rattle.nc_schema.specs.Violations.{violations}
 use Rattle.nc_schema.specs.declared.violation.Violation.{Violation}
 use Rattle.nc_model.specs.declared.asked.Asked.{Asked}

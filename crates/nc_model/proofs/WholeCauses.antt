@@ -1,5 +1,5 @@
 -- The causes of a verdict have what their errors need.
-use Rattle.std.proofs.Common.{◌≡◌, ◌≢◌, ◌+◌, ◌++◌, ℕ, Bool, true, false, List, [], ◌∷◌, length, refl, sym, ap, subst, ◌∙◌, Option, Some, None, Result, Ok, Err, suc, arith, get_or}
+use Rattle.std.proofs.Common.{◌≡◌, ◌≢◌, ◌++◌, ℕ, false, List, [], ◌∷◌, length, refl, sym, subst, Option, Some, None, Result, Ok, Err, get_or}
 use Rattle.std.specs.Prelude.{◌⊎◌, IsTrue, IsSome, IfSome, IsSomeAnd, slice_get, option_and_then}
 use Rattle.std.specs.List.{All, last_or}
 use Rattle.std.specs.Option.{option_map_or}
@@ -22,18 +22,16 @@ use Rattle.nc_model.specs.declared.asked.Operation.{Operation}
 use Rattle.nc_model.specs.declared.datastore.Datastore.{Datastore}
 use Rattle.nc_model.specs.declared.edit.Edit.{Edit}
 use Rattle.nc_model.specs.declared.request.Cause.{Cause}
-use Rattle.nc_model.specs.declared.request.Request.{Request}
 use Rattle.nc_model.specs.Access.{rights_of}
 use Rattle.nc_model.specs.Applied.{applied}
 use Rattle.nc_model.specs.Attributes.{path_of}
 use Rattle.nc_model.specs.Edited.{cause_at, anchor_names, anchor_word}
 use Rattle.nc_model.specs.ErrorRows.{name_count, is_of_node}
 use Rattle.nc_model.specs.Payload.{edits_of, rows_of}
-use Rattle.nc_model.specs.Proper.{IsProper, IsAskedOf, message_names, parameter_names}
-use Rattle.nc_model.specs.ProperEdit.{IsProperEdit}
+use Rattle.nc_model.specs.Proper.{IsAskedOf, message_names, parameter_names}
 use Rattle.nc_model.specs.RequestLaws.{IsWhole, CausesAre, VerdictIsWhole}
 use Rattle.nc_model.specs.State.{State, candidate_in_force}
-use Rattle.nc_model.specs.Verdict.{verdict, verdict_on, asked_verdict, checked, cause_of, datastore_name, operation_refused, violation_cause}
+use Rattle.nc_model.specs.Verdict.{verdict_on, asked_verdict, checked, cause_of, datastore_name, operation_refused, violation_cause}
 use Rattle.nc_model.specs.Words.{source_word, confirmed_word}
 use Rattle.nc_schema.proofs.ViolationLemmas.{violation_kinds}
 use Rattle.nc_model.proofs.DecodedLemmas.{named_properly}

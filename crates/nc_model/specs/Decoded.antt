@@ -1,5 +1,5 @@
 -- What a message asks for (RFC 6241 4.1 and 4.3): an operation with its parameters, or why there is none.
-use Rattle.std.specs.Prelude.{◌&&◌, ℕ, Bool, not, if◌then◌else◌, List, [], ◌∷◌, ◌++◌, Option, Some, None, Result, Ok, Err, option_map}
+use Rattle.std.specs.Prelude.{◌&&◌, ℕ, Bool, not, if◌then◌else◌, List, [], ◌∷◌, ◌++◌, Option, Some, None, Result, Ok, Err}
 use Rattle.std.specs.List.{find, list_any}
 use Rattle.nc_names.specs.declared.cause.CauseKind.{CauseKind}
 use Rattle.nc_names.specs.declared.cause.CauseKind.TheVariants.{Malformed, NoMessageId, NoOperation, TwoOperations, UnknownOperation, UnknownParameter, RepeatedParameter}

@@ -1,1 +1,3 @@
 pub mod EntryLemmas
+pub mod FoundLemmas
+pub mod KnownLemmas

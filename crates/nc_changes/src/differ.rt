@@ -1,14 +1,16 @@
 //! The paths at which two configurations differ.
-ghost use Rattle.std.specs.Prelude.{◌≡◌, IfOk};
+ghost use Rattle.std.specs.Prelude.{◌≡◌, ◌||◌, not, List, IfOk, map};
 ghost use Rattle.std.specs.List.{filter};
 ghost use Rattle.nc_model.specs.Changes as meant;
 ghost use Rattle.nc_names.specs.Same as same;
+ghost use Rattle.nc_names.specs.declared.path.Row.{Row};
+ghost use Rattle.nc_tree.specs.Finding.{Finds};
 
 use crate::moved::has_moved;
 use nc_model::Changes;
 use nc_names::{Copies, Many, Memory, Path, Row, Text};
 use nc_schema::Schema;
-use nc_tree::Config;
+use nc_tree::{Config, RowsByPath};
 use std::alloc::Global;
 
 fn is_same_value(value: &Option<Text>, other: &Option<Text>) -> bool
@@ -21,53 +23,91 @@ fn is_same_value(value: &Option<Text>, other: &Option<Text>) -> bool
     }
 }
 
+/// Whether a row of the new configuration has another value than the one that stood at its path, or is an
+/// entry that has moved.
+pub fn differs(
+    schema: &Schema,
+    old: &Config,
+    new: &Config,
+    stood: &Row,
+    row: &Row,
+) -> Result<bool, Memory>
+    ensures { IfOk result (λ it. it ≡ (not (same.is_same_value stood.now.value row.now.value)
+        || meant.has_moved schema.now old.now new.now row.now.path.steps)) }
+{
+    if !is_same_value(&stood.value, &row.value) {
+        return Ok(true);
+    }
+    has_moved(schema, old, new, &row.path)
+}
+
 /// Whether a row of the new configuration stands in the old one with another value, or is an entry that
 /// has moved.
 pub fn is_updated(schema: &Schema, old: &Config, new: &Config, row: &Row) -> Result<bool, Memory>
     ensures { IfOk result (λ it. it ≡ meant.is_updated schema.now old.now new.now row.now) }
 {
     match old.get(&row.path) {
-        Some(before) => {
-            if !is_same_value(&before.value, &row.value) {
-                return Ok(true);
-            }
-            has_moved(schema, old, new, &row.path)
-        }
+        Some(stood) => differs(schema, old, new, stood, row),
         None => Ok(false),
     }
 }
 
-fn is_missing(config: &Config, row: &Row) -> bool
-    ensures { result ≡ meant.is_missing config.now row.now }
+fn is_missing<'a>(others: &RowsByPath<'a>, row: &'a Row) -> bool
+    ensures { (rows : List Row) → Finds others.now rows → result ≡ meant.is_missing rows row.now }
 {
-    !config.has(&row.path)
+    others.get(row.path.steps.as_slice()).is_none()
 }
 
-// The paths of the rows that a configuration lacks.
-fn paths_missing(alloc: Global, config: &Config, rows: &Many<Row>) -> Result<Many<Path>, Memory>
-    ensures { IfOk result (λ it. it ≡ meant.paths_of (filter (meant.is_missing config.now) rows.now)) }
+// The paths of the rows that are not among others.
+fn paths_missing<'a>(
+    alloc: Global,
+    others: &RowsByPath<'a>,
+    rows: &[&'a Row],
+) -> Result<Many<Path>, Memory>
+    ensures { IfOk result (λ it. (found : List Row) → Finds others.now found →
+        it ≡ meant.paths_of (filter (meant.is_missing found) (map (λ row. row.now) rows.now))) }
 {
     let mut paths = Many::new(alloc);
-    for row in rows.as_slice() {
-        if is_missing(config, row) {
+    for row in rows {
+        if is_missing(others, *row) {
             paths.push(row.path.copy()?)?;
         }
     }
     Ok(paths)
 }
 
-fn paths_updated(
+// The same as `is_updated`, where the old rows are found by their paths.
+fn is_updated_from<'a>(
+    schema: &Schema,
+    old: &Config,
+    new: &Config,
+    before: &RowsByPath<'a>,
+    row: &'a Row,
+) -> Result<bool, Memory>
+    requires { Finds before.now old.now }
+    ensures { IfOk result (λ it. it ≡ meant.is_updated schema.now old.now new.now row.now) }
+{
+    match before.get(row.path.steps.as_slice()) {
+        Some(stood) => differs(schema, old, new, stood, row),
+        None => Ok(false),
+    }
+}
+
+fn paths_updated<'a>(
     alloc: Global,
     schema: &Schema,
     old: &Config,
     new: &Config,
-    rows: &Many<Row>,
+    before: &RowsByPath<'a>,
+    rows: &[&'a Row],
 ) -> Result<Many<Path>, Memory>
-    ensures { IfOk result (λ it. it ≡ meant.paths_of (filter (meant.is_updated schema.now old.now new.now) rows.now)) }
+    requires { Finds before.now old.now }
+    ensures { IfOk result (λ it. it ≡ meant.paths_of (filter
+        (meant.is_updated schema.now old.now new.now) (map (λ row. row.now) rows.now))) }
 {
     let mut paths = Many::new(alloc);
-    for row in rows.as_slice() {
-        if is_updated(schema, old, new, row)? {
+    for row in rows {
+        if is_updated_from(schema, old, new, before, *row)? {
             paths.push(row.path.copy()?)?;
         }
     }
@@ -76,19 +116,21 @@ fn paths_updated(
 
 /// The paths at which two configurations differ: those of the new one alone, those at which a value is
 /// another or whose entry the user moved, and those of the old one alone.
-pub fn changes(
+pub fn changes<'a>(
     alloc: Global,
     schema: &Schema,
-    old: &Config,
-    new: &Config,
+    old: &'a Config,
+    new: &'a Config,
 ) -> Result<Changes, Memory>
     ensures { IfOk result (λ it. it ≡ meant.changes_between schema.now old.now new.now) }
 {
-    let before = old.copy()?.into_rows();
-    let after = new.copy()?.into_rows();
+    let old_rows = old.rows(alloc)?;
+    let new_rows = new.rows(alloc)?;
+    let before = RowsByPath::new(alloc, old_rows.as_slice())?;
+    let after = RowsByPath::new(alloc, new_rows.as_slice())?;
     Ok(Changes {
-        created: paths_missing(alloc, old, &after)?,
-        updated: paths_updated(alloc, schema, old, new, &after)?,
-        deleted: paths_missing(alloc, new, &before)?,
+        created: paths_missing(alloc, &before, new_rows.as_slice())?,
+        updated: paths_updated(alloc, schema, old, new, &before, new_rows.as_slice())?,
+        deleted: paths_missing(alloc, &after, old_rows.as_slice())?,
     })
 }

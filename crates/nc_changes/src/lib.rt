@@ -8,4 +8,4 @@
 mod differ;
 mod moved;
 
-pub use differ::{changes, is_updated};
+pub use differ::{changes, differs, is_updated};

@@ -1,5 +1,5 @@
 //! Whether an entry that the user orders has moved from one configuration to another (RFC 7950 7.7.7).
-ghost use Rattle.std.specs.Prelude.{◌≡◌, not, IfOk, None};
+ghost use Rattle.std.specs.Prelude.{◌≡◌, ℕ, List, not, IfOk, None};
 ghost use Rattle.std.specs.Option.{option_copied};
 ghost use Rattle.nc_model.specs.Changes as changes;
 ghost use Rattle.nc_names.specs.Same as same;
@@ -10,6 +10,7 @@ use nc_names::{Copies, Many, Memory, Path, Text, same_keys};
 use nc_schema::Schema;
 use nc_tree::{Config, last_step};
 use std::alloc::Global;
+use std::collections::BTreeSet;
 
 fn is_same_keys(keys: &Many<Text>, others: &Many<Text>) -> bool
     ensures { result ≡ same.is_same_keys keys.now others.now }
@@ -17,25 +18,38 @@ fn is_same_keys(keys: &Many<Text>, others: &Many<Text>) -> bool
     same_keys(keys.as_slice(), others.as_slice())
 }
 
-fn has_entry(keys: &Many<Text>, order: &Many<Many<Text>>) -> bool
-    ensures { result ≡ standing.has_entry keys.now order.now }
+// The entries, to be looked up.
+fn known_entries<'a>(
+    alloc: Global,
+    order: &'a [Many<Text>],
+) -> Result<BTreeSet<&'a Many<Text>>, Memory>
+    ensures { IfOk result (λ it. inner.HasEntries it order.now) }
 {
-    order
-        .as_slice()
-        .iter()
-        .any(|entry| is_same_keys(entry, keys))
+    let mut known = BTreeSet::new(alloc);
+    for entry in order {
+        known.insert(entry)?;
+    }
+    Ok(known)
 }
 
-fn entries_among(
+fn is_known<'a>(known: &BTreeSet<&'a Many<Text>>, entry: &'a Many<Text>) -> bool
+    ensures { (others : List (List (List ℕ))) → inner.HasEntries known.now others → result
+        ≡ standing.has_entry entry.now others }
+{
+    known.contains(&entry)
+}
+
+fn entries_among<'a>(
     alloc: Global,
-    others: &Many<Many<Text>>,
-    order: &Many<Many<Text>>,
+    others: &'a Many<Many<Text>>,
+    order: &'a Many<Many<Text>>,
 ) -> Result<Many<Many<Text>>, Memory>
     ensures { IfOk result (λ it. it ≡ changes.entries_among others.now order.now) }
 {
+    let known = known_entries(alloc, others.as_slice())?;
     let mut among = Many::new(alloc);
     for entry in order.as_slice() {
-        if has_entry(entry, others) {
+        if is_known(&known, entry) {
             among.push(entry.copy()?)?;
         }
     }

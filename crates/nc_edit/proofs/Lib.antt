@@ -1,1 +1,2 @@
 pub mod FirstDenied
+pub mod StoodLemmas

@@ -1,17 +1,22 @@
 //! The first change of an edit that is denied (RFC 8341 3.4.5).
-ghost use Rattle.std.specs.Prelude.{◌≡◌, IfOk, None, fold, option_map};
-ghost use Rattle.std.specs.List.{filter_map};
+ghost use Rattle.std.specs.Prelude.{◌≡◌, List, IfOk, None, fold, map, option_map};
+ghost use Rattle.std.specs.List.{filter_map, list_any};
 ghost use Rattle.nc_model.specs.Changes as changes;
 ghost use Rattle.nc_model.specs.Edited as meant;
+ghost use Rattle.nc_schema.specs.Blocks as blocks;
 ghost use Rattle.nc_schema.specs.Standing as standing;
-ghost use Rattle.nc_names.specs.declared.path.Right.TheVariants.{Delete};
+ghost use Rattle.nc_names.specs.Same as same;
+ghost use Rattle.nc_names.specs.declared.path.Row.{Row};
+ghost use Rattle.nc_tree.specs.Finding.{Finds};
+ghost use Rattle.std.specs.Option.{option_copied};
 ghost use Rattle.nc_edit.specs.inner.Denied as denied;
 
-use nc_changes::is_updated;
+use nc_changes::differs;
 use nc_model::Rights;
-use nc_names::{Copies, Many, Memory, Path, Right, Row, Step, same_steps};
+use nc_names::{Copies, Many, Memory, Path, Right, Row};
 use nc_schema::Schema;
-use nc_tree::{Config, excludes};
+use nc_tree::{Config, RowsByPath, excludes, node_of};
+use std::alloc::Global;
 
 /// A change at a path, and the right that it needs.
 #[derive(Debug, Drop)]
@@ -27,7 +32,9 @@ fn earlier(
     path: &Path,
     right: Right,
 ) -> Result<Asking, Memory>
-    ensures { IfOk result (λ it. denied.meaning it ≡ meant.earlier schema.now config.now (denied.meaning first) (record { path = path.now; right = right })) }
+    ensures { IfOk result (λ it. denied.meaning it
+        ≡ meant.earlier schema.now config.now (denied.meaning first)
+        (record { path = path.now; right = right })) }
 {
     if config.is_before(schema, path, &first.path)? {
         return Ok(Asking {
@@ -46,7 +53,9 @@ fn consider<R: Rights>(
     path: &Path,
     right: Right,
 ) -> Result<Option<Asking>, Memory>
-    ensures { IfOk result (λ it. option_map denied.meaning it ≡ denied.next_denied schema.now (R.decided rights.now) config.now (option_map denied.meaning so_far) (record { path = path.now; right = right })) }
+    ensures { IfOk result (λ it. option_map denied.meaning it
+        ≡ denied.next_denied schema.now (R.decided rights.now) config.now
+        (option_map denied.meaning so_far) (record { path = path.now; right = right })) }
 {
     if rights.may(path, right)?.permit {
         return Ok(so_far);
@@ -60,18 +69,21 @@ fn consider<R: Rights>(
     }
 }
 
-fn has_row(rows: &Many<Row>, steps: &[Step]) -> bool
-    ensures { result ≡ standing.has_row rows.now steps.now }
+/// The rows, each where it is kept.
+pub(crate) fn refs(alloc: Global, rows: &Many<Row>) -> Result<Many<&Row>, Memory>
+    ensures { IfOk result (λ it. map (λ row. row.now) it ≡ rows.now) }
 {
-    rows.as_slice()
-        .iter()
-        .any(|row| same_steps(row.path.steps.as_slice(), steps))
+    let mut all = Many::new(alloc);
+    for row in rows.as_slice() {
+        all.push(row)?;
+    }
+    Ok(all)
 }
 
-fn is_missing(rows: &Many<Row>, row: &Row) -> bool
-    ensures { result ≡ changes.is_missing rows.now row.now }
+fn is_missing<'a>(rows: &RowsByPath<'a>, row: &'a Row) -> bool
+    ensures { (all : List Row) → Finds rows.now all → result ≡ changes.is_missing all row.now }
 {
-    !has_row(rows, row.path.steps.as_slice())
+    rows.get(row.path.steps.as_slice()).is_none()
 }
 
 fn gives_way(schema: &Schema, rows: &Many<Row>, row: &Row) -> bool
@@ -81,64 +93,131 @@ fn gives_way(schema: &Schema, rows: &Many<Row>, row: &Row) -> bool
 }
 
 #[tactic(auto, unfolding(crate::specs::inner::Denied::is_dropped))]
-fn is_dropped(schema: &Schema, block: &Many<Row>, row: &Row) -> bool
+fn is_dropped<'a>(schema: &Schema, placed: &RowsByPath<'a>, block: &Many<Row>, row: &'a Row) -> bool
+    requires { Finds placed.now block.now }
     ensures { result ≡ denied.is_dropped schema.now block.now row.now }
 {
-    is_missing(block, row) && !gives_way(schema, block, row)
+    is_missing(placed, row) && !gives_way(schema, block, row)
 }
 
-/// The first denied one of the rows that an edit deletes.
-pub(crate) fn ask_dropped<R: Rights>(
+/// The first denied one of the rows that an edit deletes, of those that stand at its node.
+pub(crate) fn ask_dropped<'a, R: Rights>(
     schema: &Schema,
     config: &Config,
     rights: &R,
-    path: &Path,
+    old: &[&'a Row],
+    placed: &RowsByPath<'a>,
     block: &Many<Row>,
 ) -> Result<Option<Asking>, Memory>
-    ensures { IfOk result (λ it. option_map denied.meaning it ≡ fold (denied.next_denied schema.now (R.decided rights.now) config.now) None (denied.dropped schema.now config.now path.now block.now)) }
+    requires { Finds placed.now block.now }
+    ensures { IfOk result (λ it. option_map denied.meaning it
+        ≡ fold (denied.next_denied schema.now (R.decided rights.now) config.now) None
+        (denied.dropped_of schema.now block.now (map (λ row. row.now) old.now))) }
 {
-    let old = config.block(path)?;
     let mut first: Option<Asking> = None;
-    for row in old.as_slice() {
-        if is_dropped(schema, block, row) {
+    for row in old {
+        if is_dropped(schema, placed, block, *row) {
             first = consider(schema, config, rights, first, &row.path, Right::Delete)?;
         }
     }
     Ok(first)
 }
 
-// What becomes of a row that stands afterwards: it is new, or its value or its place has changed.
-fn right_at(
-    schema: &Schema,
-    config: &Config,
-    after: &Config,
-    row: &Row,
-) -> Result<Option<Right>, Memory>
-    ensures { IfOk result (λ it. option_map (λ right. record { path = row.now.path; right = right }) it ≡ meant.change_at schema.now config.now after.now row.now) }
+// Whether the last step of a path leads to an entry that the user orders.
+fn is_ordered(schema: &Schema, path: &Path) -> bool
+    ensures { result ≡ denied.is_ordered schema.now path.now.steps }
 {
-    if !config.has(&row.path) {
-        return Ok(Some(Right::Create));
+    match node_of(schema, path.steps.as_slice()) {
+        Some(node) => node.by_user,
+        None => false,
     }
-    if is_updated(schema, config, after, row)? {
-        return Ok(Some(Right::Update));
+}
+
+// Whether a row is an entry that the user orders and that stands already.
+fn stands_ordered(schema: &Schema, config: &Config, row: &Row) -> bool
+    ensures { result ≡ denied.stands_ordered schema.now config.now row.now }
+{
+    is_ordered(schema, &row.path) && config.has(&row.path)
+}
+
+/// Whether one of the new rows may have moved.
+pub(crate) fn may_move(schema: &Schema, config: &Config, block: &Many<Row>) -> bool
+    ensures { result ≡ list_any (denied.stands_ordered schema.now config.now) block.now }
+{
+    block
+        .as_slice()
+        .iter()
+        .any(|row| stands_ordered(schema, config, row))
+}
+
+fn is_below(path: &Path, row: &Row) -> bool
+    ensures { result ≡ same.is_at_or_below path.now.steps row.now.path }
+{
+    row.path.steps.as_slice().starts_with(path.steps.as_slice())
+}
+
+// The row that stands at a row's path, where there is one; those at and below the node are found.
+#[tactic(auto, using(crate::proofs::StoodLemmas::found_below))]
+fn stood_at<'a>(
+    config: &'a Config,
+    path: &Path,
+    stood: &RowsByPath<'a>,
+    row: &'a Row,
+) -> Option<&'a Row>
+    requires { Finds stood.now (standing.block_at config.now path.now.steps) }
+    ensures { option_copied result ≡ blocks.row_at config.now row.now.path.steps }
+{
+    if is_below(path, row) {
+        return stood.get(row.path.steps.as_slice());
     }
-    Ok(None)
+    config.get(&row.path)
+}
+
+// What becomes of a row that stands afterwards: it is new, or its value or its place has changed.
+#[tactic(auto, using(crate::proofs::StoodLemmas::change_none, crate::proofs::StoodLemmas::change_some))]
+fn right_at<'a>(
+    schema: &Schema,
+    config: &'a Config,
+    after: &Config,
+    path: &Path,
+    stood: &RowsByPath<'a>,
+    row: &'a Row,
+) -> Result<Option<Right>, Memory>
+    requires { Finds stood.now (standing.block_at config.now path.now.steps) }
+    ensures { IfOk result (λ it. option_map (λ right. record { path = row.now.path; right = right }) it
+        ≡ meant.change_at schema.now config.now after.now row.now) }
+{
+    match stood_at(config, path, stood, row) {
+        Some(was) => {
+            if differs(schema, config, after, was, row)? {
+                return Ok(Some(Right::Update));
+            }
+            Ok(None)
+        }
+        None => Ok(Some(Right::Create)),
+    }
 }
 
 /// The first denied one of the rows so far, and of those that an edit creates and updates.
-pub(crate) fn ask_new<R: Rights>(
+pub(crate) fn ask_new<'a, R: Rights>(
     schema: &Schema,
-    config: &Config,
+    config: &'a Config,
     after: &Config,
     rights: &R,
     so_far: Option<Asking>,
-    block: &Many<Row>,
+    path: &Path,
+    stood: &RowsByPath<'a>,
+    block: &'a Many<Row>,
 ) -> Result<Option<Asking>, Memory>
-    ensures { IfOk result (λ it. option_map denied.meaning it ≡ fold (denied.next_denied schema.now (R.decided rights.now) config.now) (option_map denied.meaning so_far) (filter_map (meant.change_at schema.now config.now after.now) block.now)) }
+    requires { Finds stood.now (standing.block_at config.now path.now.steps) }
+    ensures { IfOk result (λ it. option_map denied.meaning it
+        ≡ fold (denied.next_denied schema.now (R.decided rights.now) config.now)
+        (option_map denied.meaning so_far) (filter_map
+        (meant.change_at schema.now config.now after.now) block.now)) }
 {
     let mut first = so_far;
     for row in block.as_slice() {
-        if let Some(right) = right_at(schema, config, after, row)? {
+        if let Some(right) = right_at(schema, config, after, path, stood, row)? {
             first = consider(schema, config, rights, first, &row.path, right)?;
         }
     }

@@ -63,7 +63,7 @@ pub(crate) fn new_block(
 }
 
 /// The place of an edit: one that does nothing, or that takes away, puts nothing in a place.
-pub(crate) fn place_by(action: &Action, place: &Place) -> Result<Place, Memory>
+fn place_by(action: &Action, place: &Place) -> Result<Place, Memory>
     ensures { IfOk result (λ it. it ≡ meant.place_by action.now place.now) }
 {
     match action {
@@ -76,12 +76,26 @@ pub(crate) fn place_by(action: &Action, place: &Place) -> Result<Place, Memory>
     }
 }
 
+/// Puts what an edit puts at its node. Where memory ends nothing is changed.
+pub(crate) fn put_new(
+    schema: &Schema,
+    config: &mut Config,
+    edit: &Edit,
+    block: Many<Row>,
+) -> Result<(), Memory>
+    requires block { block ≡ meant.new_block schema.now config.old edit.now.path edit.now.action }
+    ensures ok { OnOk result (config.new ≡ meant.left_by schema.now config.old edit.now) }
+    ensures err { OnErr result (config.new ≡ config.old) }
+{
+    let place = place_by(&edit.action, &edit.place)?;
+    config.set_block(schema, &edit.path, &place, block)
+}
+
 /// Makes an edit, whatever stands in its way. Where memory ends nothing is changed.
 pub fn make(alloc: Global, schema: &Schema, config: &mut Config, edit: &Edit) -> Result<(), Memory>
     ensures ok { OnOk result (config.new ≡ meant.left_by schema.now config.old edit.now) }
     ensures err { OnErr result (config.new ≡ config.old) }
 {
     let block = new_block(alloc, schema, config, &edit.path, &edit.action)?;
-    let place = place_by(&edit.action, &edit.place)?;
-    config.set_block(schema, &edit.path, &place, block)
+    put_new(schema, config, edit, block)
 }

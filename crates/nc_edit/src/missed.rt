@@ -48,7 +48,8 @@ pub(crate) fn missed(
     path: &Path,
     action: &Action,
 ) -> Option<CauseKind>
-    ensures { option_map (λ kind. meant.cause_at kind path.now []) result ≡ meant.missed schema.now config.now path.now action.now }
+    ensures { option_map (λ kind. meant.cause_at kind path.now []) result
+        ≡ meant.missed schema.now config.now path.now action.now }
 {
     match action {
         Action::Nothing => {
@@ -76,7 +77,9 @@ pub(crate) fn missed(
 
 // Absent, where an entry or a container with presence above the path does not stand.
 fn absent_above(schema: &Schema, config: &Config, path: &Path) -> Option<CauseKind>
-    ensures { option_map (λ kind. meant.cause_at kind path.now []) result ≡ meant.cause_where (standing.lacks_above schema.now config.now path.now.steps) (meant.cause_at Absent path.now []) }
+    ensures { option_map (λ kind. meant.cause_at kind path.now []) result
+        ≡ meant.cause_where (standing.lacks_above schema.now config.now path.now.steps)
+        (meant.cause_at Absent path.now []) }
 {
     if config.lacks_above(schema, path) {
         return Some(CauseKind::Absent);
@@ -100,7 +103,8 @@ fn has_entry(keys: &Many<Text>, order: &Many<Many<Text>>) -> bool
 }
 
 fn lacks_entry(config: &Config, path: &Path, anchor: &Many<Text>) -> Result<bool, Memory>
-    ensures { IfOk result (λ it. it ≡ not (standing.has_entry anchor.now (blocks.entries_beside config.now path.now.steps))) }
+    ensures { IfOk result (λ it. it ≡ not (standing.has_entry anchor.now
+        (blocks.entries_beside config.now path.now.steps))) }
 {
     let order = config.entries_beside(path)?;
     let has = has_entry(anchor, &order);
@@ -120,7 +124,8 @@ pub(crate) fn lacks_anchor(config: &Config, edit: &Edit) -> Result<bool, Memory>
 }
 
 fn lacks_place(config: &Config, path: &Path, place: &Place) -> Result<bool, Memory>
-    ensures { IfOk result (λ it. it ≡ option_map_or (λ anchor. not (standing.has_entry anchor (blocks.entries_beside config.now path.now.steps))) (meant.anchor_of place.now) false) }
+    ensures { IfOk result (λ it. it ≡ option_map_or (λ anchor. not (standing.has_entry anchor
+        (blocks.entries_beside config.now path.now.steps))) (meant.anchor_of place.now) false) }
 {
     match place {
         Place::Before(anchor) => lacks_entry(config, path, anchor),

@@ -1,3 +1,4 @@
+pub mod IndexLemmas
 pub mod Lists
 pub mod OrdersLemmas
 pub mod LookLemmas

@@ -1,18 +1,21 @@
 -- A row is compared with a path by orders that were found before.
-use Rattle.std.proofs.Common.{◌≡◌, ◌==◌, ◌&&◌, ◌||◌, ◌++◌, ℕ, Bool, true, false, cond, ltb, List, [], ◌∷◌, Option, Some, None, refl, sym, ap, subst, ◌∙◌}
+use Rattle.std.proofs.Common.{◌≡◌, ◌==◌, ◌&&◌, ◌||◌, ◌++◌, ℕ, Bool, true, false, cond, not, ltb, List, [], ◌∷◌, Option, Some, None, refl, sym, ap, subst, ◌∙◌}
 use Rattle.std.specs.Prelude.{option_map}
 use Rattle.std.proofs.lemmas.Bool.Decides.{Decides-eqb}
-use Rattle.std.specs.List.{last_or}
+use Rattle.std.specs.List.{filter, last_or}
 use Rattle.std.specs.Cmp.Lexicographic.{slice_cmp}
 use Rattle.std.specs.Ordering.{nat_cmp}
 use Rattle.nc_names.specs.Same.{is_same_step}
+use Rattle.nc_names.specs.declared.path.Path.{Path}
 use Rattle.nc_names.specs.declared.path.Place.{Place}
 use Rattle.nc_names.specs.declared.path.Row.{Row}
 use Rattle.nc_names.specs.declared.path.Step.{Step}
+use Rattle.nc_schema.specs.Blocks.{other_rows, with_block}
 use Rattle.nc_schema.specs.Order.{keys_above, sibling_place}
 use Rattle.nc_schema.specs.Standing.{entries, entry_before, is_by_user, is_less, place_at, placed, sibling_before, stands_before, steps_before}
 use Rattle.nc_schema.specs.Tables.{Tables}
 use Rattle.nc_tree.specs.inner.Orders.{before_in, order_there, orders_of}
+use Rattle.nc_tree.specs.inner.Sides.{among, is_front, stays}
 
 last_push : {X : Type 0} (o : Option X) (xs : List X) (x : X) → last_or o (xs ++ x ∷ []) ≡ Some x
 last_push o [] x = refl
@@ -67,3 +70,13 @@ from_above tables rows place above (step ∷ steps) (other ∷ others) = go (fro
 pub before_is : (tables : Tables) (rows : List Row) (place : Place) (steps others : List Step) →
     steps_before tables rows place [] steps others ≡ before_in tables (orders_of tables rows place [] others) None steps others
 before_is tables rows place steps others = from_above tables rows place [] steps others
+
+-- rows are put among others by the orders along the path
+pub among_is : (tables : Tables) (rows : List Row) (path : Path) (place : Place) (block : List Row) (orders : List (List (List (List ℕ)))) →
+    orders ≡ orders_of tables rows place [] path.steps → among tables orders path.steps block rows ≡ with_block tables rows path place block
+unfolding stays is_front
+among_is tables rows path place block orders is =
+    λ i. filter (λ row. same row i) (other_rows tables rows path.steps block) ++ block ++ filter (λ row. not (same row i)) (other_rows tables rows path.steps block)
+  where
+    same : (row : Row) → before_in tables orders None row.path.steps path.steps ≡ steps_before tables rows place [] row.path.steps path.steps
+    same row = ap (λ found. before_in tables found None row.path.steps path.steps) is ∙ sym (before_is tables rows place row.path.steps path.steps)

@@ -1,3 +1,5 @@
 pub mod Orders
 pub mod Sides
 pub mod Lacking
+pub mod Cuts
+pub mod Finding

@@ -1,15 +1,15 @@
 //! The rows at and below one node, and such rows among the others.
-ghost use Rattle.std.specs.Prelude.{◌≡◌, ◌∷◌, ◌++◌, [], List, IfOk, Some, None, not};
+ghost use Rattle.std.specs.Prelude.{◌≡◌, ◌∷◌, ◌++◌, [], List, IfOk, OnOk, OnErr, Some, None, not};
 ghost use Rattle.std.specs.List.{filter, last_or, list_any};
 ghost use Rattle.std.specs.Option.{option_copied, option_map_or};
 ghost use Rattle.nc_schema.specs.Blocks as blocks;
 ghost use Rattle.nc_schema.specs.Configuration.{key_rows};
 ghost use Rattle.nc_schema.specs.Standing as meant;
-ghost use Rattle.nc_names.specs.declared.path.Place.{Place};
 ghost use Rattle.nc_names.specs.declared.path.Row.{Row};
-ghost use Rattle.nc_tree.specs.inner.Orders.{orders_of};
+ghost use Rattle.nc_tree.specs.inner.Cuts.{IsCut};
 ghost use Rattle.nc_tree.specs.inner.Sides as sides;
 
+use crate::cut::{cut_for, put_at};
 use crate::standing::{before_in, excludes, is_at_or_below, orders_of};
 use nc_names::{Copies, Many, Memory, Path, Place, Row, Step, Text};
 use nc_schema::{Kind, Node, Schema};
@@ -26,7 +26,7 @@ fn is_excluded(schema: &Schema, block: &Many<Row>, steps: &Many<Step>) -> bool
 
 /// Whether a row stays beside new rows at a node.
 #[tactic(auto, unfolding(crate::specs::inner::Sides::stays))]
-fn stays(schema: &Schema, path: &Path, block: &Many<Row>, row: &Row) -> bool
+pub(crate) fn stays(schema: &Schema, path: &Path, block: &Many<Row>, row: &Row) -> bool
     ensures { result ≡ sides.stays schema.now path.now.steps block.now row.now }
 {
     !(is_at_or_below(&path.steps, &row.path) || is_excluded(schema, block, &row.path.steps))
@@ -52,10 +52,14 @@ fn other_rows(
 }
 
 /// Whether a row stands before the node to which the orders are.
-fn is_in_front(schema: &Schema, orders: &Many<Many<Many<Text>>>, path: &Path, row: &Row) -> bool
-    ensures { (rows : List Row) (place : Place) → orders.now
-        ≡ orders_of schema.now rows place [] path.now.steps →
-        result ≡ sides.is_in_front schema.now rows place path.now.steps row.now }
+#[tactic(auto, unfolding(crate::specs::inner::Sides::is_front))]
+pub(crate) fn is_in_front(
+    schema: &Schema,
+    orders: &Many<Many<Many<Text>>>,
+    path: &Path,
+    row: &Row,
+) -> bool
+    ensures { result ≡ sides.is_front schema.now orders.now path.now.steps row.now }
 {
     before_in(
         schema,
@@ -74,10 +78,9 @@ fn joined(
     block: Many<Row>,
     others: Many<Row>,
 ) -> Result<Many<Row>, Memory>
-    ensures { IfOk result (λ it. (rows : List Row) (place : Place)
-        → orders.now ≡ orders_of schema.now rows place [] path.now.steps →
-        it ≡ filter (sides.is_in_front schema.now rows place path.now.steps) others ++ block
-        ++ filter (λ row. not (sides.is_in_front schema.now rows place path.now.steps row)) others) }
+    ensures { IfOk result (λ it. it ≡ filter
+        (sides.is_front schema.now orders.now path.now.steps) others ++ block
+        ++ filter (λ row. not (sides.is_front schema.now orders.now path.now.steps row)) others) }
 {
     let mut front = Many::new(alloc);
     let mut back = Many::new(alloc);
@@ -93,22 +96,65 @@ fn joined(
     Ok(front)
 }
 
-/// The rows at and below a node give way to others, which are put in a place.
-#[tactic(auto, unfolding(crate::specs::inner::Sides::stays, crate::specs::inner::Sides::is_in_front))]
-pub(crate) fn with_block(
+/// The rows at and below a node give way to others, which are put in a place; all rows are copied.
+fn with_copies(
     alloc: Global,
     schema: &Schema,
+    orders: &Many<Many<Many<Text>>>,
+    path: &Path,
+    block: Many<Row>,
     rows: &Many<Row>,
+) -> Result<Many<Row>, Memory>
+    ensures { IfOk result (λ it. it ≡ sides.among schema.now orders.now path.now.steps block rows.now) }
+{
+    let others = other_rows(alloc, schema, rows, path, &block)?;
+    joined(alloc, schema, orders, path, block, others)
+}
+
+/// The same, where that is a cut: the rows are moved.
+fn with_moves(
+    schema: &Schema,
+    orders: &Many<Many<Many<Text>>>,
+    path: &Path,
+    block: Many<Row>,
+    rows: &mut Many<Row>,
+    at: usize,
+) -> Result<(), Memory>
+    requires cut { IsCut (sides.is_front schema.now orders.now path.now.steps) at
+        (filter (sides.stays schema.now path.now.steps block) rows.old) }
+    ensures ok { OnOk result (rows.new ≡ sides.among schema.now orders.now path.now.steps block rows.old) }
+    ensures err { OnErr result (rows.new ≡ rows.old) }
+{
+    let alloc = rows.alloc();
+    let mut items = std::mem::replace(rows, Many::new(alloc)).into_vec();
+    let room = items.reserve(block.len());
+    if room.is_err() {
+        *rows = Many::from_vec(items);
+        return Err(Memory);
+    }
+    *rows = Many::from_vec(put_at(schema, path, block, items, at));
+    Ok(())
+}
+
+/// The rows at and below a node give way to others, which are put in a place. Where memory ends nothing
+/// is changed.
+pub(crate) fn put_block(
+    schema: &Schema,
+    rows: &mut Many<Row>,
     path: &Path,
     place: &Place,
     block: Many<Row>,
-) -> Result<Many<Row>, Memory>
-    ensures { IfOk result (λ it. it ≡ blocks.with_block schema.now rows.now path.now place.now block) }
+) -> Result<(), Memory>
+    ensures ok { OnOk result (rows.new ≡ blocks.with_block schema.now rows.old path.now place.now block) }
+    ensures err { OnErr result (rows.new ≡ rows.old) }
 {
+    let alloc = rows.alloc();
     let orders = orders_of(alloc, schema, rows, place, &path.steps)?;
-    let others = other_rows(alloc, schema, rows, path, &block)?;
-    let all = joined(alloc, schema, &orders, path, block, others)?;
-    Ok(all)
+    if let Some(at) = cut_for(schema, &orders, path, &block, rows.as_slice()) {
+        return with_moves(schema, &orders, path, block, rows, at);
+    }
+    *rows = with_copies(alloc, schema, &orders, path, block, rows)?;
+    Ok(())
 }
 
 fn one_row(alloc: Global, path: &Path, value: &Option<Text>) -> Result<Many<Row>, Memory>

@@ -7,7 +7,7 @@ ghost use Rattle.nc_schema.specs.Blocks.{row_at, with_block};
 ghost use Rattle.nc_schema.specs.Standing.{block_at};
 ghost use Rattle.nc_tree.specs.Rows.{with_row, without_block};
 
-use crate::block::{rows_of_node, with_block};
+use crate::block::{put_block, rows_of_node};
 use crate::standing::is_at_or_below;
 use nc_names::{Copies, Many, Memory, Path, Place, Row, same_steps};
 use nc_schema::Schema;
@@ -120,9 +120,7 @@ impl Config {
         ensures ok { OnOk result (self.new ≡ with_block schema.now self.old path.now place.now block) }
         ensures err { OnErr result (self.new ≡ self.old) }
     {
-        let alloc = self.items.alloc();
-        self.items = with_block(alloc, schema, &self.items, path, place, block)?;
-        Ok(())
+        put_block(schema, &mut self.items, path, place, block)
     }
 
     /// Drops every row at or below a path, and answers how many there were. It takes no memory.

@@ -9,6 +9,8 @@
 
 mod block;
 mod config;
+mod cut;
+mod index;
 mod keeper;
 mod look;
 mod mem_keeper;
@@ -16,6 +18,7 @@ mod standing;
 
 pub use block::{last_step, node_of, rows_of_node};
 pub use config::Config;
+pub use index::RowsByPath;
 pub use keeper::{Doubt, Keeper, Kept};
 pub use mem_keeper::MemKeeper;
 pub use standing::excludes;

@@ -1,5 +1,5 @@
 //! What stands in a configuration at a path, above it and beside it.
-ghost use Rattle.std.specs.Prelude.{◌≡◌, [], IfOk};
+ghost use Rattle.std.specs.Prelude.{◌≡◌, [], IfOk, map};
 ghost use Rattle.nc_names.specs.declared.path.Place.TheVariants.{Kept};
 ghost use Rattle.nc_schema.specs.Blocks as blocks;
 ghost use Rattle.nc_schema.specs.Kinds as kinds;
@@ -43,6 +43,19 @@ impl Config {
         Ok(block)
     }
 
+    /// The rows at a path and below it, as they are kept.
+    pub fn rows_at(&self, path: &Path) -> Result<Many<&Row>, Memory>
+        ensures { IfOk result (λ it. map (λ row. row.now) it ≡ meant.block_at self.now path.now.steps) }
+    {
+        let mut block = Many::new(self.list().alloc());
+        for row in self.as_slice() {
+            if is_at_or_below(&path.steps, &row.path) {
+                block.push(row)?;
+            }
+        }
+        Ok(block)
+    }
+
     /// The entries of the list or leaf-list to whose entry a path leads, in their order.
     pub fn entries_beside(&self, path: &Path) -> Result<Many<Many<Text>>, Memory>
         ensures { IfOk result (λ it. it ≡ blocks.entries_beside self.now path.now.steps) }
@@ -64,7 +77,8 @@ impl Config {
     /// Whether one path comes before another in document order. Entries that the user orders come as
     /// they stand here, and others after them.
     pub fn is_before(&self, schema: &Schema, path: &Path, other: &Path) -> Result<bool, Memory>
-        ensures { IfOk result (λ it. it ≡ meant.steps_before schema.now self.now Kept [] path.now.steps other.now.steps) }
+        ensures { IfOk result (λ it. it ≡ meant.steps_before schema.now self.now Kept [] path.now.steps
+            other.now.steps) }
     {
         let orders = orders_of(
             self.list().alloc(),

@@ -1,14 +1,16 @@
 -- The first change of an edit that is denied, found one change after another.
-use Rattle.std.specs.Prelude.{◌&&◌, Bool, not, if◌then◌else◌, List, map, Option, Some, None}
-use Rattle.std.specs.List.{filter}
+use Rattle.std.specs.Prelude.{◌&&◌, Bool, false, not, if◌then◌else◌, List, map, Option, Some, None, fold}
+use Rattle.std.specs.List.{filter, filter_map}
+use Rattle.std.specs.Option.{option_map_or}
 use Rattle.nc_names.specs.declared.path.Path.{Path}
 use Rattle.nc_names.specs.declared.path.Right.{Right}
 use Rattle.nc_names.specs.declared.path.Right.TheVariants.{Delete}
 use Rattle.nc_names.specs.declared.path.Row.{Row}
-use Rattle.nc_schema.specs.Standing.{block_at}
+use Rattle.nc_names.specs.declared.path.Step.{Step}
+use Rattle.nc_schema.specs.Standing.{block_at, has_row, node_of}
 use Rattle.nc_schema.specs.Tables.{Tables}
 use Rattle.nc_model.specs.Changes.{is_missing}
-use Rattle.nc_model.specs.Edited.{Change, earlier, gives_way}
+use Rattle.nc_model.specs.Edited.{Change, change_at, earlier, gives_way}
 use Rattle.nc_model.specs.declared.access.Decision.{Decision}
 use Rattle.nc_edit.specs.declared.asked.Asking.{Asking}
 
@@ -28,5 +30,23 @@ next_denied tables rights rows so_far change =
 unfoldable pub is_dropped : Tables → List Row → Row → Bool
 is_dropped tables block row = is_missing block row && not (gives_way tables block row)
 
+-- the changes of those of some rows that an edit deletes
+abbrev pub dropped_of : Tables → List Row → List Row → List Change
+dropped_of tables block rows = map (λ row. record { path = row.path; right = Delete }) (filter (is_dropped tables block) rows)
+
 abbrev pub dropped : Tables → List Row → Path → List Row → List Change
-dropped tables rows path block = map (λ row. record { path = row.path; right = Delete }) (filter (is_dropped tables block) (block_at rows path.steps))
+dropped tables rows path block = dropped_of tables block (block_at rows path.steps)
+
+-- the steps lead to an entry that the user orders
+abbrev pub is_ordered : Tables → List Step → Bool
+is_ordered tables steps = option_map_or (λ node. node.by_user) (node_of tables steps) false
+
+-- such an entry stands already
+abbrev pub stands_ordered : Tables → List Row → Row → Bool
+stands_ordered tables rows row = is_ordered tables row.path.steps && has_row rows row.path.steps
+
+-- the first denied change, where `after` is what stands afterwards
+abbrev pub first_among : Tables → (Path → Right → Decision) → List Row → List Row → Path → List Row → Option Change
+first_among tables rights rows after path block =
+    fold (next_denied tables rights rows) (fold (next_denied tables rights rows) None (dropped tables rows path block))
+    (filter_map (change_at tables rows after) block)

@@ -1,4 +1,4 @@
-use Rattle.std.proofs.Common.{◌≡◌, drop, []}
+use Rattle.std.proofs.Common.{◌≡◌, take, []}
 use Rattle.std.specs.Prelude.{fold}
 use Rattle.nc_model.specs.Applied.{Applied}
 use Rattle.nc_edit.specs.inner.Turns.{turn}
@@ -6,5 +6,5 @@ use Rattle.nc_edit.proofs.edits.run.Given as goal
 
 abbrev pub invariant-loop-edit : goal.invariant-loop-edit
 invariant-loop-edit g l =
-    fold (turn l.schema (g.R.Rights.decided l.rights) l.goes_on) (record { rows = l.config; causes = l.causes }) (drop l.edit-index l.edits)
-    ≡ fold (turn l.schema (g.R.Rights.decided l.rights) l.goes_on) (record { rows = l.initial.config; causes = [] }) l.edits
+    record { rows = l.config; causes = l.causes }
+    ≡ fold (turn l.schema (g.R.Rights.decided l.rights) l.goes_on) (record { rows = l.initial.config; causes = [] }) (take l.edit-index l.edits)

@@ -1,5 +1,5 @@
 -- The parts of the path of a leafref, one after another.
-use Rattle.std.proofs.Common.{◌≡◌, ℕ, Bool, true, false, cond, eqb, List, [], ◌∷◌, Option, Some, None, option_map, refl, sym, ap, ◌∙◌}
+use Rattle.std.proofs.Common.{◌≡◌, ℕ, Bool, true, false, cond, eqb, List, [], ◌∷◌, Option, Some, None, option_map, refl, ap, ◌∙◌}
 use Rattle.std.specs.List.{slice_split, onto_first}
 use Rattle.nc_names.specs.Signs.{slash}
 use Rattle.nc_schema.specs.PathWords.{up_to}

@@ -19,7 +19,8 @@ pub(crate) fn begins_with(text: &str, byte: u8) -> bool
 /// The text after an ASCII byte with which it begins.
 pub(crate) fn after_byte(text: &str, byte: u8) -> Option<&str>
     requires { byte < 128 }
-    ensures { MatchOption result (words.sign byte text.now ≡ None) (λ x. words.sign byte text.now ≡ Some x.now) }
+    ensures { MatchOption result (words.sign byte text.now ≡ None) (λ x. words.sign byte text.now ≡ Some
+        x.now) }
 {
     if begins_with(text, byte) {
         Some(text.split_at(1).1)
@@ -62,7 +63,8 @@ fn begins_name(text: &str) -> bool
 
 /// The identifier with which the text begins, and the text after it.
 pub(crate) fn identifier(text: &str) -> Option<(&str, &str)>
-    ensures { MatchOption result (words.identifier text.now ≡ None) (λ x. words.identifier text.now ≡ Some (x.0.now, x.1.now)) }
+    ensures { MatchOption result (words.identifier text.now ≡ None) (λ x. words.identifier text.now ≡ Some
+        (x.0.now, x.1.now)) }
 {
     if begins_name(text) {
         let count = count_identifier(text.as_bytes());
@@ -75,7 +77,8 @@ pub(crate) fn identifier(text: &str) -> Option<(&str, &str)>
 /// What stands before the next such ASCII sign, and the text after that.
 pub(crate) fn up_to(text: &str, mark: char) -> Option<(&str, &str)>
     requires { mark < 128 }
-    ensures { MatchOption result (words.up_to mark text.now ≡ None) (λ x. words.up_to mark text.now ≡ Some (x.0.now, x.1.now)) }
+    ensures { MatchOption result (words.up_to mark text.now ≡ None) (λ x. words.up_to mark text.now ≡ Some
+        (x.0.now, x.1.now)) }
 {
     text.split_once(mark)
 }

@@ -1,10 +1,14 @@
 //! Instance identifiers (RFC 7950 9.13), node-instance identifiers (RFC 8341 3.5.2), the keys of an anchor
 //! (RFC 7950 7.8.6) and the paths of leafrefs (RFC 7950 9.9.2).
-ghost use Rattle.std.specs.Prelude.{◌≡◌, None, Some, IfOk, IfErr};
+ghost use Rattle.std.specs.Prelude.{◌≡◌, ◌≤◌, length, None, Some, IfOk, IfErr};
+ghost use Rattle.nc_paths.specs.Faults.{OnBadPath};
 ghost use Rattle.nc_paths.specs.inner.Stops.{OnRefused};
 ghost use Rattle.nc_schema.specs.InstancePaths as paths;
 
+use crate::fault::PathFault;
 use crate::leafref::read_leafref;
+use crate::leafref_place::leafref_place;
+use crate::place::place;
 use crate::resolve::{all_given, instance_steps, keys_given, pattern_steps};
 use crate::steps::{only_predicates, steps};
 use crate::stop::Stop;
@@ -21,7 +25,8 @@ fn read_instance<B: Binds>(
     bounds: &B,
 ) -> Result<Path, Stop>
     ensures ok { IfOk result (λ it. paths.instance_path schema.now text.now (B.bound bounds.now) ≡ Some it) }
-    ensures refused { IfErr result (λ stop. OnRefused stop (paths.instance_path schema.now text.now (B.bound bounds.now) ≡ None)) }
+    ensures refused { IfErr result (λ stop. OnRefused stop (paths.instance_path schema.now text.now (B.bound
+        bounds.now) ≡ None)) }
 {
     let written = steps(alloc, text)?;
     let pattern = pattern_steps(alloc, schema, bounds, written.as_slice())?;
@@ -38,7 +43,8 @@ fn read_pattern<B: Binds>(
     bounds: &B,
 ) -> Result<Pattern, Stop>
     ensures ok { IfOk result (λ it. paths.node_pattern schema.now text.now (B.bound bounds.now) ≡ Some it) }
-    ensures refused { IfErr result (λ stop. OnRefused stop (paths.node_pattern schema.now text.now (B.bound bounds.now) ≡ None)) }
+    ensures refused { IfErr result (λ stop. OnRefused stop (paths.node_pattern schema.now text.now (B.bound
+        bounds.now) ≡ None)) }
 {
     if text == "/" {
         return Ok(Pattern {
@@ -69,8 +75,10 @@ fn read_entry<B: Binds>(
     text: &str,
     bounds: &B,
 ) -> Result<Many<Text>, Stop>
-    ensures ok { IfOk result (λ it. paths.entry_keys schema.now number text.now (B.bound bounds.now) ≡ Some it) }
-    ensures refused { IfErr result (λ stop. OnRefused stop (paths.entry_keys schema.now number text.now (B.bound bounds.now) ≡ None)) }
+    ensures ok { IfOk result (λ it. paths.entry_keys schema.now number text.now (B.bound bounds.now) ≡ Some
+        it) }
+    ensures refused { IfErr result (λ stop. OnRefused stop (paths.entry_keys schema.now number text.now
+        (B.bound bounds.now) ≡ None)) }
 {
     let written = only_predicates(alloc, text)?;
     let keys = keys_given(alloc, schema, bounds, number, written.as_slice())?;
@@ -148,5 +156,77 @@ pub fn leafref_end<B: Binds>(
         Ok(end) => Ok(Some(end)),
         Err(Stop::Refused) => Ok(None),
         Err(Stop::Memory) => Err(Memory),
+    }
+}
+
+// The fault of a text that is refused, by the place that was found.
+fn bad_path(text: &str, found: Result<usize, Memory>) -> PathFault
+    requires { IfOk found (λ at. at ≤ length text.now) }
+    ensures { OnBadPath result (λ at. at ≤ length text.now) }
+{
+    match found {
+        Ok(at) => PathFault::BadPath {
+            at: at.min(u32::MAX as usize) as u32,
+        },
+        Err(Memory) => PathFault::Memory,
+    }
+}
+
+/// The path that an instance identifier names, as `instance_path` gives it; where it names none, the place of
+/// the fault (RFC 7950 9.13).
+pub fn instance_id<B: Binds>(
+    alloc: Global,
+    schema: &Schema,
+    text: &str,
+    bounds: &B,
+) -> Result<Path, PathFault>
+    ensures ok { IfOk result (λ it. paths.instance_path schema.now text.now (B.bound bounds.now) ≡ Some it) }
+    ensures bad { IfErr result (λ fault. OnBadPath fault (λ at. paths.instance_path schema.now text.now
+        (B.bound bounds.now) ≡ None)) }
+    ensures within { IfErr result (λ fault. OnBadPath fault (λ at. at ≤ length text.now)) }
+{
+    match instance_path(alloc, schema, text, bounds)? {
+        Some(path) => Ok(path),
+        None => Err(bad_path(text, place(alloc, schema, text, bounds, true))),
+    }
+}
+
+/// The pattern that a node-instance identifier names, as `node_pattern` gives it; where it names none, the
+/// place of the fault (RFC 8341 3.5.2).
+pub fn node_instance_id<B: Binds>(
+    alloc: Global,
+    schema: &Schema,
+    text: &str,
+    bounds: &B,
+) -> Result<Pattern, PathFault>
+    ensures ok { IfOk result (λ it. paths.node_pattern schema.now text.now (B.bound bounds.now) ≡ Some it) }
+    ensures bad { IfErr result (λ fault. OnBadPath fault (λ at. paths.node_pattern schema.now text.now
+        (B.bound bounds.now) ≡ None)) }
+    ensures within { IfErr result (λ fault. OnBadPath fault (λ at. at ≤ length text.now)) }
+{
+    match node_pattern(alloc, schema, text, bounds)? {
+        Some(pattern) => Ok(pattern),
+        None => Err(bad_path(text, place(alloc, schema, text, bounds, false))),
+    }
+}
+
+/// Where the path of a leafref ends, as `leafref_end` gives it; where it ends nowhere, the place of the fault
+/// (RFC 7950 9.9.2).
+pub fn leafref_path<B: Binds>(
+    alloc: Global,
+    schema: &Schema,
+    leaf: u32,
+    text: &str,
+    bounds: &B,
+) -> Result<LeafrefEnd, PathFault>
+    ensures ok { IfOk result (λ it. paths.leafref_end schema.now leaf text.now (B.bound bounds.now) ≡ Some
+        it) }
+    ensures bad { IfErr result (λ fault. OnBadPath fault (λ at. paths.leafref_end schema.now leaf text.now
+        (B.bound bounds.now) ≡ None)) }
+    ensures within { IfErr result (λ fault. OnBadPath fault (λ at. at ≤ length text.now)) }
+{
+    match leafref_end(alloc, schema, leaf, text, bounds)? {
+        Some(end) => Ok(end),
+        None => Err(bad_path(text, leafref_place(alloc, schema, leaf, text, bounds))),
     }
 }

@@ -34,8 +34,10 @@ fn leafref_name<B: Binds>(
     bounds: &B,
     part: &str,
 ) -> Result<QName, Stop>
-    ensures ok { IfOk result (λ it. paths.leafref_name schema.now space.now (B.bound bounds.now) part.now ≡ Some it) }
-    ensures refused { IfErr result (λ stop. OnRefused stop (paths.leafref_name schema.now space.now (B.bound bounds.now) part.now ≡ None)) }
+    ensures ok { IfOk result (λ it. paths.leafref_name schema.now space.now (B.bound bounds.now) part.now ≡
+        Some it) }
+    ensures refused { IfErr result (λ stop. OnRefused stop (paths.leafref_name schema.now space.now (B.bound
+        bounds.now) part.now ≡ None)) }
 {
     if is_identifier(part.as_bytes()) {
         return Ok(QName {
@@ -62,8 +64,10 @@ fn leads_down<B: Binds>(
     above: Option<u32>,
     parts: Option<&str>,
 ) -> Result<u32, Stop>
-    ensures ok { IfOk result (λ it. paths.leads_down schema.now space.now (B.bound bounds.now) above (parts_of (option_copied parts.entry)) ≡ Some it) }
-    ensures refused { IfErr result (λ stop. OnRefused stop (paths.leads_down schema.now space.now (B.bound bounds.now) above (parts_of (option_copied parts.entry)) ≡ None)) }
+    ensures ok { IfOk result (λ it. paths.leads_down schema.now space.now (B.bound bounds.now) above
+        (parts_of (option_copied parts.entry)) ≡ Some it) }
+    ensures refused { IfErr result (λ stop. OnRefused stop (paths.leads_down schema.now space.now (B.bound
+        bounds.now) above (parts_of (option_copied parts.entry)) ≡ None)) }
 {
     let mut above = above;
     let mut left = parts;
@@ -91,8 +95,10 @@ fn leafref_below<B: Binds>(
     above: Option<u32>,
     parts: Option<&str>,
 ) -> Result<LeafrefEnd, Stop>
-    ensures ok { IfOk result (λ it. paths.leafref_below schema.now space.now (B.bound bounds.now) above (parts_of (option_copied parts.entry)) ≡ Some it) }
-    ensures refused { IfErr result (λ stop. OnRefused stop (paths.leafref_below schema.now space.now (B.bound bounds.now) above (parts_of (option_copied parts.entry)) ≡ None)) }
+    ensures ok { IfOk result (λ it. paths.leafref_below schema.now space.now (B.bound bounds.now) above
+        (parts_of (option_copied parts.entry)) ≡ Some it) }
+    ensures refused { IfErr result (λ stop. OnRefused stop (paths.leafref_below schema.now space.now
+        (B.bound bounds.now) above (parts_of (option_copied parts.entry)) ≡ None)) }
 {
     let target = leads_down(alloc, schema, space, bounds, above, parts)?;
     let Some(node) = schema.node(target) else {
@@ -104,8 +110,8 @@ fn leafref_below<B: Binds>(
     }
 }
 
-// The node above a node.
-fn parent_of(schema: &Schema, number: u32) -> Option<u32>
+/// The node above a node.
+pub(crate) fn parent_of(schema: &Schema, number: u32) -> Option<u32>
     ensures { result ≡ paths.parent_of schema.now number }
 {
     schema.node(number)?.parent
@@ -120,8 +126,10 @@ fn leafref_from<B: Binds>(
     above: Option<u32>,
     parts: Option<&str>,
 ) -> Result<LeafrefEnd, Stop>
-    ensures ok { IfOk result (λ it. paths.leafref_from schema.now space.now (B.bound bounds.now) above (parts_of (option_copied parts.entry)) ≡ Some it) }
-    ensures refused { IfErr result (λ stop. OnRefused stop (paths.leafref_from schema.now space.now (B.bound bounds.now) above (parts_of (option_copied parts.entry)) ≡ None)) }
+    ensures ok { IfOk result (λ it. paths.leafref_from schema.now space.now (B.bound bounds.now) above
+        (parts_of (option_copied parts.entry)) ≡ Some it) }
+    ensures refused { IfErr result (λ stop. OnRefused stop (paths.leafref_from schema.now space.now (B.bound
+        bounds.now) above (parts_of (option_copied parts.entry)) ≡ None)) }
 {
     let mut above = above;
     let mut left = parts;
@@ -148,8 +156,10 @@ pub(crate) fn read_leafref<B: Binds>(
     text: &str,
     bounds: &B,
 ) -> Result<LeafrefEnd, Stop>
-    ensures ok { IfOk result (λ it. paths.leafref_end schema.now leaf text.now (B.bound bounds.now) ≡ Some it) }
-    ensures refused { IfErr result (λ stop. OnRefused stop (paths.leafref_end schema.now leaf text.now (B.bound bounds.now) ≡ None)) }
+    ensures ok { IfOk result (λ it. paths.leafref_end schema.now leaf text.now (B.bound bounds.now) ≡ Some
+        it) }
+    ensures refused { IfErr result (λ stop. OnRefused stop (paths.leafref_end schema.now leaf text.now
+        (B.bound bounds.now) ≡ None)) }
 {
     let Some(node) = schema.node(leaf) else {
         return Err(Stop::Refused);

@@ -7,13 +7,20 @@
 #![tactic(auto)]
 
 mod cut;
+mod fault;
 mod instance;
 mod leafref;
+mod leafref_place;
+mod place;
 mod resolve;
 mod steps;
 mod stop;
 mod words;
 
 pub use cut::after_white;
-pub use instance::{entry_keys, instance_path, leafref_end, node_pattern};
+pub use fault::PathFault;
+pub use instance::{
+    entry_keys, instance_id, instance_path, leafref_end, leafref_path, node_instance_id,
+    node_pattern,
+};
 pub use resolve::{key_nodes, module_of};

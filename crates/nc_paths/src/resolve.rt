@@ -41,7 +41,8 @@ pub(crate) fn qualified<B: Binds>(
     written: &WrittenName,
 ) -> Result<QName, Stop>
     ensures ok { IfOk result (λ it. paths.qualified schema.now (B.bound bounds.now) written.now ≡ Some it) }
-    ensures refused { IfErr result (λ stop. OnRefused stop (paths.qualified schema.now (B.bound bounds.now) written.now ≡ None)) }
+    ensures refused { IfErr result (λ stop. OnRefused stop (paths.qualified schema.now (B.bound bounds.now)
+        written.now ≡ None)) }
 {
     let Some(found) = module_named(schema, bounds, written) else {
         return Err(Stop::Refused);
@@ -54,7 +55,8 @@ pub(crate) fn qualified<B: Binds>(
 
 // Whether the data node has the name for which a written one stands.
 fn is_named<B: Binds>(schema: &Schema, bounds: &B, key: u32, written: &WrittenName) -> bool
-    ensures { result ≡ option_map_or (paths.has_name schema.now key) (paths.qualified schema.now (B.bound bounds.now) written.now) false }
+    ensures { result ≡ option_map_or (paths.has_name schema.now key) (paths.qualified schema.now (B.bound
+        bounds.now) written.now) false }
 {
     let Some(found) = module_named(schema, bounds, written) else {
         return false;
@@ -164,8 +166,10 @@ pub(crate) fn keys_given<B: Binds>(
     number: u32,
     written: &[WrittenPredicate],
 ) -> Result<Many<Option<Text>>, Stop>
-    ensures ok { IfOk result (λ it. paths.keys_given schema.now (B.bound bounds.now) number written.now ≡ Some it) }
-    ensures refused { IfErr result (λ stop. OnRefused stop (paths.keys_given schema.now (B.bound bounds.now) number written.now ≡ None)) }
+    ensures ok { IfOk result (λ it. paths.keys_given schema.now (B.bound bounds.now) number written.now ≡
+        Some it) }
+    ensures refused { IfErr result (λ stop. OnRefused stop (paths.keys_given schema.now (B.bound bounds.now)
+        number written.now ≡ None)) }
 {
     let values = values_given(alloc, schema, bounds, number, written)?;
     if count_some(values.as_slice()) == written.len() {
@@ -197,8 +201,10 @@ fn pattern_step<B: Binds>(
     above: Option<u32>,
     written: &WrittenStep,
 ) -> Result<PatternStep, Stop>
-    ensures ok { IfOk result (λ it. paths.pattern_step schema.now (B.bound bounds.now) above written.now ≡ Some it) }
-    ensures refused { IfErr result (λ stop. OnRefused stop (paths.pattern_step schema.now (B.bound bounds.now) above written.now ≡ None)) }
+    ensures ok { IfOk result (λ it. paths.pattern_step schema.now (B.bound bounds.now) above written.now ≡
+        Some it) }
+    ensures refused { IfErr result (λ stop. OnRefused stop (paths.pattern_step schema.now (B.bound
+        bounds.now) above written.now ≡ None)) }
 {
     let name = qualified(schema, bounds, &written.name)?;
     let Some(number) = schema.child(above, &name) else {
@@ -216,8 +222,10 @@ pub(crate) fn pattern_steps<B: Binds>(
     bounds: &B,
     written: &[WrittenStep],
 ) -> Result<Many<PatternStep>, Stop>
-    ensures ok { IfOk result (λ it. paths.pattern_steps schema.now (B.bound bounds.now) None written.now ≡ Some it) }
-    ensures refused { IfErr result (λ stop. OnRefused stop (paths.pattern_steps schema.now (B.bound bounds.now) None written.now ≡ None)) }
+    ensures ok { IfOk result (λ it. paths.pattern_steps schema.now (B.bound bounds.now) None written.now ≡
+        Some it) }
+    ensures refused { IfErr result (λ stop. OnRefused stop (paths.pattern_steps schema.now (B.bound
+        bounds.now) None written.now ≡ None)) }
 {
     let mut above = None;
     let mut steps = Many::new(alloc);

@@ -44,8 +44,12 @@ pub(crate) fn predicates<'a>(
     found: &mut Many<WrittenPredicate>,
 ) -> Result<&'a str, Stop>
     requires { found.old ≡ [] }
-    ensures ok { IfOk result (λ rest. words.predicates (length text.now) text.now ≡ Some (found.new, rest.now)) }
-    ensures refused { IfErr result (λ stop. OnRefused stop (words.predicates (length text.now) text.now ≡ None)) }
+    ensures ok { IfOk result (λ rest. words.predicates (length text.now) text.now ≡ Some (
+      found.new,
+      rest.now,
+    )) }
+    ensures refused { IfErr result (λ stop. OnRefused stop (words.predicates (length text.now) text.now ≡
+        None)) }
 {
     let mut rest = text;
     for turn in 0..text.len() {
@@ -68,7 +72,10 @@ pub(crate) fn step<'a>(
     text: &'a str,
     steps: &mut Many<WrittenStep>,
 ) -> Result<&'a str, Stop>
-    ensures ok { IfOk result (λ rest. (one : WrittenStep) × (words.written_step text.now ≡ Some (one, rest.now)) × (steps.new ≡ steps.old ++ one ∷ [])) }
+    ensures ok { IfOk result (λ rest. (one : WrittenStep) × (words.written_step text.now ≡ Some (
+      one,
+      rest.now,
+    )) × (steps.new ≡ steps.old ++ one ∷ [])) }
     ensures refused { IfErr result (λ stop. OnRefused stop (words.written_step text.now ≡ None)) }
 {
     let Some(rest) = after_byte(text, b'/') else {

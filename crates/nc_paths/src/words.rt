@@ -33,7 +33,8 @@ pub(crate) fn read_name(text: &str) -> Option<(Name<'_>, &str)>
 /// A value between two quotation marks of one kind, and the text after it.
 #[tactic(auto, using(crate::proofs::WordLemmas::apostrophe_open, crate::proofs::WordLemmas::apostrophe_whole, crate::proofs::WordLemmas::no_mark, crate::proofs::WordLemmas::quote_open, crate::proofs::WordLemmas::quote_whole))]
 pub(crate) fn read_quoted(text: &str) -> Option<(&str, &str)>
-    ensures { MatchOption result (words.quoted_string text.now ≡ None) (λ x. words.quoted_string text.now ≡ Some (x.0.now, x.1.now)) }
+    ensures { MatchOption result (words.quoted_string text.now ≡ None) (λ x. words.quoted_string text.now ≡
+        Some (x.0.now, x.1.now)) }
 {
     match after_byte(text, b'\'') {
         Some(rest) => {

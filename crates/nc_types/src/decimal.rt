@@ -155,7 +155,8 @@ pub(crate) fn decimal_text(
     text: &str,
 ) -> Result<Text, TypeFault>
     ensures ok { IfOk result (λ it. numbers.decimal_text digits ranges.now text.now ≡ Some it) }
-    ensures refused { IfErr result (λ fault. OnNotInType fault (numbers.decimal_text digits ranges.now text.now ≡ None)) }
+    ensures refused { IfErr result (λ fault. OnNotInType fault (numbers.decimal_text digits ranges.now
+        text.now ≡ None)) }
 {
     if digits < 1 || digits > 18 {
         return Err(TypeFault::NotInType);

@@ -25,7 +25,8 @@ pub(crate) trait Gives {
         text: &str,
     ) -> Result<Text, TypeFault>
         ensures ok { IfOk result (λ it. gives schema.now (B.bound bounds.now) number text.now ≡ Some it) }
-        ensures refused { IfErr result (λ fault. OnNotInType fault (gives schema.now (B.bound bounds.now) number text.now ≡ None)) };
+        ensures refused { IfErr result (λ fault. OnNotInType fault (gives schema.now (B.bound bounds.now)
+            number text.now ≡ None)) };
 }
 
 /// Gives none.

@@ -25,7 +25,8 @@ fn split_colon(text: &str) -> Option<(&str, &str)>
 // The name of an identity: with a prefix, or in the default namespace.
 fn identity_name<B: Binds>(alloc: Global, bounds: &B, text: &str) -> Result<QName, TypeFault>
     ensures ok { IfOk result (λ it. values.identity_name (B.bound bounds.now) text.now ≡ Some it) }
-    ensures refused { IfErr result (λ fault. OnNotInType fault (values.identity_name (B.bound bounds.now) text.now ≡ None)) }
+    ensures refused { IfErr result (λ fault. OnNotInType fault (values.identity_name (B.bound bounds.now)
+        text.now ≡ None)) }
 {
     match split_colon(text) {
         Some((prefix, name)) => {
@@ -45,8 +46,10 @@ fn name_in<B: Binds>(
     prefix: &str,
     name: &str,
 ) -> Result<QName, TypeFault>
-    ensures ok { IfOk result (λ it. values.name_in (bindings.space_of prefix.now (B.bound bounds.now)) name.now ≡ Some it) }
-    ensures refused { IfErr result (λ fault. OnNotInType fault (values.name_in (bindings.space_of prefix.now (B.bound bounds.now)) name.now ≡ None)) }
+    ensures ok { IfOk result (λ it. values.name_in (bindings.space_of prefix.now (B.bound bounds.now))
+        name.now ≡ Some it) }
+    ensures refused { IfErr result (λ fault. OnNotInType fault (values.name_in (bindings.space_of prefix.now
+        (B.bound bounds.now)) name.now ≡ None)) }
 {
     let own = Text::from_text(alloc, prefix)?;
     let Some(space) = bounds.space_of(&own) else {
@@ -74,8 +77,10 @@ pub(crate) fn identity_text<B: Binds>(
     bounds: &B,
     text: &str,
 ) -> Result<Text, TypeFault>
-    ensures ok { IfOk result (λ it. values.identity_text schema.now among.now (B.bound bounds.now) text.now ≡ Some it) }
-    ensures refused { IfErr result (λ fault. OnNotInType fault (values.identity_text schema.now among.now (B.bound bounds.now) text.now ≡ None)) }
+    ensures ok { IfOk result (λ it. values.identity_text schema.now among.now (B.bound bounds.now) text.now
+        ≡ Some it) }
+    ensures refused { IfErr result (λ fault. OnNotInType fault (values.identity_text schema.now among.now
+        (B.bound bounds.now) text.now ≡ None)) }
 {
     let name = identity_name(alloc, bounds, text)?;
     let Some(found) = module_of(schema, &name.space) else {

@@ -58,8 +58,10 @@ pub(crate) fn node_text<K: Gives, B: Binds>(
     number: u32,
     text: &str,
 ) -> Result<Text, TypeFault>
-    ensures ok { IfOk result (λ it. values.node_text schema.now (K.gives schema.now) (B.bound bounds.now) number text.now ≡ Some it) }
-    ensures refused { IfErr result (λ fault. OnNotInType fault (values.node_text schema.now (K.gives schema.now) (B.bound bounds.now) number text.now ≡ None)) }
+    ensures ok { IfOk result (λ it. values.node_text schema.now (K.gives schema.now) (B.bound bounds.now)
+        number text.now ≡ Some it) }
+    ensures refused { IfErr result (λ fault. OnNotInType fault (values.node_text schema.now (K.gives
+        schema.now) (B.bound bounds.now) number text.now ≡ None)) }
 {
     let Some(found) = type_of(schema, number) else {
         return Err(TypeFault::NotInType);
@@ -116,8 +118,10 @@ pub fn canonical<B: Binds>(
     text: &str,
     bounds: &B,
 ) -> Result<Text, TypeFault>
-    ensures ok { IfOk result (λ it. values.canonical schema.now node text.now (B.bound bounds.now) ≡ Some it) }
-    ensures refused { IfErr result (λ fault. OnNotInType fault (values.canonical schema.now node text.now (B.bound bounds.now) ≡ None)) }
+    ensures ok { IfOk result (λ it. values.canonical schema.now node text.now (B.bound bounds.now) ≡ Some
+        it) }
+    ensures refused { IfErr result (λ fault. OnNotInType fault (values.canonical schema.now node text.now
+        (B.bound bounds.now) ≡ None)) }
 {
     let gives = Within {
         keys: Within {

@@ -43,7 +43,8 @@ pub(crate) fn print_size(alloc: Global, number: u128) -> Result<Text, Memory>
 #[tactic(auto, unfolding(nc_schema::specs::NumberTexts::whole_text))]
 pub(crate) fn whole_text(alloc: Global, ranges: &[Between], text: &str) -> Result<Text, TypeFault>
     ensures ok { IfOk result (λ it. numbers.whole_text ranges.now text.now ≡ Some it) }
-    ensures refused { IfErr result (λ fault. OnNotInType fault (numbers.whole_text ranges.now text.now ≡ None)) }
+    ensures refused { IfErr result (λ fault. OnNotInType fault (numbers.whole_text ranges.now text.now ≡
+        None)) }
 {
     let Some(number) = read_number(text) else {
         return Err(TypeFault::NotInType);

@@ -20,8 +20,10 @@ fn canonical_keys<K: Gives, B: Binds>(
     nodes: &[u32],
     keys: &[Text],
 ) -> Result<Many<Text>, TypeFault>
-    ensures ok { IfOk result (λ it. values.canonical_keys (K.gives schema.now (B.bound bounds.now)) nodes.now keys.now ≡ Some it) }
-    ensures refused { IfErr result (λ fault. OnNotInType fault (values.canonical_keys (K.gives schema.now (B.bound bounds.now)) nodes.now keys.now ≡ None)) }
+    ensures ok { IfOk result (λ it. values.canonical_keys (K.gives schema.now (B.bound bounds.now))
+        nodes.now keys.now ≡ Some it) }
+    ensures refused { IfErr result (λ fault. OnNotInType fault (values.canonical_keys (K.gives schema.now
+        (B.bound bounds.now)) nodes.now keys.now ≡ None)) }
 {
     let mut out = Many::new(alloc);
     for (place, key) in keys.iter().enumerate() {
@@ -41,8 +43,10 @@ fn canonical_step<K: Gives, B: Binds>(
     bounds: &B,
     step: &Step,
 ) -> Result<Step, TypeFault>
-    ensures ok { IfOk result (λ it. values.canonical_step schema.now (K.gives schema.now (B.bound bounds.now)) step.now ≡ Some it) }
-    ensures refused { IfErr result (λ fault. OnNotInType fault (values.canonical_step schema.now (K.gives schema.now (B.bound bounds.now)) step.now ≡ None)) }
+    ensures ok { IfOk result (λ it. values.canonical_step schema.now (K.gives schema.now (B.bound
+        bounds.now)) step.now ≡ Some it) }
+    ensures refused { IfErr result (λ fault. OnNotInType fault (values.canonical_step schema.now (K.gives
+        schema.now (B.bound bounds.now)) step.now ≡ None)) }
 {
     let nodes = key_nodes(alloc, schema, step.node)?;
     let keys = canonical_keys(
@@ -68,8 +72,10 @@ fn canonical_steps<K: Gives, B: Binds>(
     bounds: &B,
     steps: &[Step],
 ) -> Result<Many<Step>, TypeFault>
-    ensures ok { IfOk result (λ it. values.canonical_steps schema.now (K.gives schema.now (B.bound bounds.now)) steps.now ≡ Some it) }
-    ensures refused { IfErr result (λ fault. OnNotInType fault (values.canonical_steps schema.now (K.gives schema.now (B.bound bounds.now)) steps.now ≡ None)) }
+    ensures ok { IfOk result (λ it. values.canonical_steps schema.now (K.gives schema.now (B.bound
+        bounds.now)) steps.now ≡ Some it) }
+    ensures refused { IfErr result (λ fault. OnNotInType fault (values.canonical_steps schema.now (K.gives
+        schema.now (B.bound bounds.now)) steps.now ≡ None)) }
 {
     let mut out = Many::new(alloc);
     for one in steps {
@@ -88,8 +94,10 @@ pub(crate) fn instance_text<K: Gives, B: Binds>(
     bounds: &B,
     text: &str,
 ) -> Result<Text, TypeFault>
-    ensures ok { IfOk result (λ it. values.instance_text schema.now (K.gives schema.now) (B.bound bounds.now) text.now ≡ Some it) }
-    ensures refused { IfErr result (λ fault. OnNotInType fault (values.instance_text schema.now (K.gives schema.now) (B.bound bounds.now) text.now ≡ None)) }
+    ensures ok { IfOk result (λ it. values.instance_text schema.now (K.gives schema.now) (B.bound
+        bounds.now) text.now ≡ Some it) }
+    ensures refused { IfErr result (λ fault. OnNotInType fault (values.instance_text schema.now (K.gives
+        schema.now) (B.bound bounds.now) text.now ≡ None)) }
 {
     let Some(path) = instance_path(alloc, schema, text, bounds)? else {
         return Err(TypeFault::NotInType);
@@ -110,8 +118,10 @@ fn canonical_given<K: Gives, B: Binds>(
     nodes: &[u32],
     keys: &[Option<Text>],
 ) -> Result<Many<Option<Text>>, TypeFault>
-    ensures ok { IfOk result (λ it. values.canonical_given (K.gives schema.now (B.bound bounds.now)) nodes.now keys.now ≡ Some it) }
-    ensures refused { IfErr result (λ fault. OnNotInType fault (values.canonical_given (K.gives schema.now (B.bound bounds.now)) nodes.now keys.now ≡ None)) }
+    ensures ok { IfOk result (λ it. values.canonical_given (K.gives schema.now (B.bound bounds.now))
+        nodes.now keys.now ≡ Some it) }
+    ensures refused { IfErr result (λ fault. OnNotInType fault (values.canonical_given (K.gives schema.now
+        (B.bound bounds.now)) nodes.now keys.now ≡ None)) }
 {
     let mut out = Many::new(alloc);
     for (place, key) in keys.iter().enumerate() {
@@ -134,8 +144,10 @@ fn canonical_part<K: Gives, B: Binds>(
     bounds: &B,
     step: &PatternStep,
 ) -> Result<PatternStep, TypeFault>
-    ensures ok { IfOk result (λ it. values.canonical_part schema.now (K.gives schema.now (B.bound bounds.now)) step.now ≡ Some it) }
-    ensures refused { IfErr result (λ fault. OnNotInType fault (values.canonical_part schema.now (K.gives schema.now (B.bound bounds.now)) step.now ≡ None)) }
+    ensures ok { IfOk result (λ it. values.canonical_part schema.now (K.gives schema.now (B.bound
+        bounds.now)) step.now ≡ Some it) }
+    ensures refused { IfErr result (λ fault. OnNotInType fault (values.canonical_part schema.now (K.gives
+        schema.now (B.bound bounds.now)) step.now ≡ None)) }
 {
     let nodes = key_nodes(alloc, schema, step.node)?;
     let keys = canonical_given(
@@ -161,8 +173,10 @@ fn canonical_pattern<K: Gives, B: Binds>(
     bounds: &B,
     steps: &[PatternStep],
 ) -> Result<Many<PatternStep>, TypeFault>
-    ensures ok { IfOk result (λ it. values.canonical_pattern schema.now (K.gives schema.now (B.bound bounds.now)) steps.now ≡ Some it) }
-    ensures refused { IfErr result (λ fault. OnNotInType fault (values.canonical_pattern schema.now (K.gives schema.now (B.bound bounds.now)) steps.now ≡ None)) }
+    ensures ok { IfOk result (λ it. values.canonical_pattern schema.now (K.gives schema.now (B.bound
+        bounds.now)) steps.now ≡ Some it) }
+    ensures refused { IfErr result (λ fault. OnNotInType fault (values.canonical_pattern schema.now (K.gives
+        schema.now (B.bound bounds.now)) steps.now ≡ None)) }
 {
     let mut out = Many::new(alloc);
     for one in steps {
@@ -181,8 +195,10 @@ pub(crate) fn node_instance_text<K: Gives, B: Binds>(
     bounds: &B,
     text: &str,
 ) -> Result<Text, TypeFault>
-    ensures ok { IfOk result (λ it. values.node_instance_text schema.now (K.gives schema.now) (B.bound bounds.now) text.now ≡ Some it) }
-    ensures refused { IfErr result (λ fault. OnNotInType fault (values.node_instance_text schema.now (K.gives schema.now) (B.bound bounds.now) text.now ≡ None)) }
+    ensures ok { IfOk result (λ it. values.node_instance_text schema.now (K.gives schema.now) (B.bound
+        bounds.now) text.now ≡ Some it) }
+    ensures refused { IfErr result (λ fault. OnNotInType fault (values.node_instance_text schema.now
+        (K.gives schema.now) (B.bound bounds.now) text.now ≡ None)) }
 {
     let Some(pattern) = node_pattern(alloc, schema, text, bounds)? else {
         return Err(TypeFault::NotInType);

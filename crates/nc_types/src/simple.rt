@@ -47,7 +47,8 @@ pub(crate) fn string_text(
     text: &str,
 ) -> Result<Text, TypeFault>
     ensures ok { IfOk result (λ it. values.string_text lengths.now starless text.now ≡ Some it) }
-    ensures refused { IfErr result (λ fault. OnNotInType fault (values.string_text lengths.now starless text.now ≡ None)) }
+    ensures refused { IfErr result (λ fault. OnNotInType fault (values.string_text lengths.now starless
+        text.now ≡ None)) }
 {
     let count = character_count(text.as_bytes());
     if is_among(lengths, count as i128) && !(starless && begins_with_star(text)) {
@@ -114,7 +115,8 @@ fn symbols(alloc: Global, text: &[u8]) -> Result<Vec<u8>, TypeFault>
 #[tactic(auto, unfolding(nc_schema::specs::Values::binary_text, base64::specs::GeneralPurpose::decoded_of))]
 pub(crate) fn binary_text(alloc: Global, lengths: &[Between], text: &str) -> Result<Text, TypeFault>
     ensures ok { IfOk result (λ it. values.binary_text lengths.now text.now ≡ Some it) }
-    ensures refused { IfErr result (λ fault. OnNotInType fault (values.binary_text lengths.now text.now ≡ None)) }
+    ensures refused { IfErr result (λ fault. OnNotInType fault (values.binary_text lengths.now text.now ≡
+        None)) }
 {
     let symbols = symbols(alloc, text.as_bytes())?;
     match STANDARD.decode(alloc, symbols.as_slice()) {

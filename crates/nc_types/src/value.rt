@@ -58,8 +58,11 @@ pub(crate) fn type_text<K: Gives, B: Binds>(
     number: u32,
     text: &str,
 ) -> Result<Text, TypeFault>
-    ensures ok { IfOk result (λ it. values.type_text schema.now (K.gives schema.now) most chain.now (under by_names (bindings.module_bounds schema.now) (B.bound bounds.now)) number text.now ≡ Some it) }
-    ensures refused { IfErr result (λ fault. OnNotInType fault (values.type_text schema.now (K.gives schema.now) most chain.now (under by_names (bindings.module_bounds schema.now) (B.bound bounds.now)) number text.now ≡ None)) }
+    ensures ok { IfOk result (λ it. values.type_text schema.now (K.gives schema.now) most chain.now (under
+        by_names (bindings.module_bounds schema.now) (B.bound bounds.now)) number text.now ≡ Some it) }
+    ensures refused { IfErr result (λ fault. OnNotInType fault (values.type_text schema.now (K.gives
+        schema.now) most chain.now (under by_names (bindings.module_bounds schema.now) (B.bound bounds.now))
+        number text.now ≡ None)) }
 {
     if most == 0 || chain.contains(&number) {
         return Err(TypeFault::NotInType);
@@ -95,8 +98,12 @@ fn text_in_type<K: Gives, B: Binds>(
     found: &ValueType,
     text: &str,
 ) -> Result<Text, TypeFault>
-    ensures ok { IfOk result (λ it. values.text_in_type schema.now (givers schema.now (K.gives schema.now) most (number ∷ chain.now)) found.now (under by_names (bindings.module_bounds schema.now) (B.bound bounds.now)) text.now ≡ Some it) }
-    ensures refused { IfErr result (λ fault. OnNotInType fault (values.text_in_type schema.now (givers schema.now (K.gives schema.now) most (number ∷ chain.now)) found.now (under by_names (bindings.module_bounds schema.now) (B.bound bounds.now)) text.now ≡ None)) }
+    ensures ok { IfOk result (λ it. values.text_in_type schema.now (givers schema.now (K.gives schema.now)
+        most (number ∷ chain.now)) found.now (under by_names (bindings.module_bounds schema.now) (B.bound
+        bounds.now)) text.now ≡ Some it) }
+    ensures refused { IfErr result (λ fault. OnNotInType fault (values.text_in_type schema.now (givers
+        schema.now (K.gives schema.now) most (number ∷ chain.now)) found.now (under by_names
+        (bindings.module_bounds schema.now) (B.bound bounds.now)) text.now ≡ None)) }
 {
     match found {
         ValueType::Whole { among } => whole_text(alloc, among.as_slice(), trimmed(text)),
@@ -189,8 +196,12 @@ fn union_text<K: Gives, B: Binds>(
     members: &[u32],
     text: &str,
 ) -> Result<Text, TypeFault>
-    ensures ok { IfOk result (λ it. values.union_text (values.type_text schema.now (K.gives schema.now) most chain.now) (bindings.module_bounds schema.now) (under by_names (bindings.module_bounds schema.now) (B.bound bounds.now)) [] members.now text.now ≡ Some it) }
-    ensures refused { IfErr result (λ fault. OnNotInType fault (values.union_text (values.type_text schema.now (K.gives schema.now) most chain.now) (bindings.module_bounds schema.now) (under by_names (bindings.module_bounds schema.now) (B.bound bounds.now)) [] members.now text.now ≡ None)) }
+    ensures ok { IfOk result (λ it. values.union_text (values.type_text schema.now (K.gives schema.now) most
+        chain.now) (bindings.module_bounds schema.now) (under by_names (bindings.module_bounds schema.now)
+        (B.bound bounds.now)) [] members.now text.now ≡ Some it) }
+    ensures refused { IfErr result (λ fault. OnNotInType fault (values.union_text (values.type_text
+        schema.now (K.gives schema.now) most chain.now) (bindings.module_bounds schema.now) (under by_names
+        (bindings.module_bounds schema.now) (B.bound bounds.now)) [] members.now text.now ≡ None)) }
 {
     for (place, member) in members.iter().enumerate() {
         match type_text(
@@ -234,7 +245,9 @@ fn agree<K: Gives, B: Binds>(
     earlier: &[u32],
     found: &Text,
 ) -> Result<bool, Memory>
-    ensures { IfOk result (λ it. it ≡ list_all (λ other. values.agrees found.now (values.type_text schema.now (K.gives schema.now) most chain.now (bindings.module_bounds schema.now) other found.now)) earlier.now) }
+    ensures { IfOk result (λ it. it ≡ list_all (λ other. values.agrees found.now (values.type_text
+        schema.now (K.gives schema.now) most chain.now (bindings.module_bounds schema.now) other found.now))
+        earlier.now) }
 {
     for other in earlier {
         match type_text(

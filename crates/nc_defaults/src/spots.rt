@@ -45,7 +45,8 @@ pub fn is_same_number(number: Option<u32>, other: Option<u32>) -> bool
     }
 }
 
-fn steps_below(steps: &[Step], alloc: Global, step: Step) -> Result<Many<Step>, Memory>
+/// The steps with one more.
+pub fn steps_below(steps: &[Step], alloc: Global, step: Step) -> Result<Many<Step>, Memory>
     ensures { IfOk result (λ it. it ≡ steps.now ++ step ∷ []) }
 {
     let mut below = Many::new(alloc);
@@ -56,7 +57,8 @@ fn steps_below(steps: &[Step], alloc: Global, step: Step) -> Result<Many<Step>, 
     Ok(below)
 }
 
-fn has_places(kind: Kind) -> bool
+/// Whether data nodes stand in instances of a kind of data node (RFC 7950 7.5, 7.8).
+pub fn has_places(kind: Kind) -> bool
     ensures { result ≡ kinds.holds_nodes kind }
 {
     match kind {

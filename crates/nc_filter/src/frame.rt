@@ -13,8 +13,8 @@ use nc_names::{Many, Memory, Row, Step};
 use nc_schema::Schema;
 use std::alloc::Global;
 
-/// What a filter says of a node: that it selects all at and below it, the content matches that may select it, and the
-/// elements that may select what is below it.
+/// What a filter says of a node: that it selects all at and below it, the content matches that may
+/// select it, and the elements that may select what is below it.
 #[derive(Drop)]
 pub(crate) struct Frame<'a> {
     pub(crate) whole: bool,
@@ -24,7 +24,8 @@ pub(crate) struct Frame<'a> {
 
 // Whether one of the rows is at a node of an element's name and has its text.
 fn is_found(alloc: Global, schema: &Schema, inside: &[&Row], elem: &Elem) -> Result<bool, Memory>
-    ensures { IfOk result (λ it. it ≡ list_any (frames.fits schema.now elem.now) (map (λ row. row.now) inside.now)) }
+    ensures { IfOk result (λ it. it
+        ≡ list_any (frames.fits schema.now elem.now) (map (λ row. row.now) inside.now)) }
 {
     for row in inside {
         if fits(alloc, schema, elem, row)? {
@@ -45,7 +46,8 @@ fn is_met(alloc: Global, schema: &Schema, inside: &[&Row], elem: &Elem) -> Resul
 
 // Whether a part is no element that fails as a content match.
 fn is_part_met(alloc: Global, schema: &Schema, inside: &[&Row], part: &Part) -> Result<bool, Memory>
-    ensures { IfOk result (λ it. it ≡ frames.is_part_met schema.now (map (λ row. row.now) inside.now) part.now) }
+    ensures { IfOk result (λ it. it
+        ≡ frames.is_part_met schema.now (map (λ row. row.now) inside.now) part.now) }
 {
     match child(part) {
         Some(elem) => is_met(alloc, schema, inside, elem),
@@ -60,7 +62,8 @@ fn holds(
     inside: &[&Row],
     parts: &Many<Part>,
 ) -> Result<bool, Memory>
-    ensures { IfOk result (λ it. it ≡ list_all (frames.is_part_met schema.now (map (λ row. row.now) inside.now)) parts.now) }
+    ensures { IfOk result (λ it. it
+        ≡ list_all (frames.is_part_met schema.now (map (λ row. row.now) inside.now)) parts.now) }
 {
     for part in parts.as_slice() {
         if !is_part_met(alloc, schema, inside, part)? {
@@ -107,7 +110,8 @@ fn is_of_matches(parts: &Many<Part>) -> bool
 
 // Adds the elements of a level.
 fn push_level<'a>(elems: &mut Many<&'a Elem>, parts: &'a Many<Part>) -> Result<(), Memory>
-    ensures { OnOk result (map (λ elem. elem.now) elems.new ≡ map (λ elem. elem.now) elems.old ++ filter_map elements.elem_of parts.now) }
+    ensures { OnOk result (map (λ elem. elem.now) elems.new
+        ≡ map (λ elem. elem.now) elems.old ++ filter_map elements.elem_of parts.now) }
 {
     for part in parts.as_slice() {
         if let Some(elem) = child(part) {
@@ -119,7 +123,8 @@ fn push_level<'a>(elems: &mut Many<&'a Elem>, parts: &'a Many<Part>) -> Result<(
 
 // Whether a row is at a node of the name of one of the elements and has its text.
 fn fits_any(alloc: Global, schema: &Schema, elems: &[&Elem], row: &Row) -> Result<bool, Memory>
-    ensures { IfOk result (λ it. it ≡ list_any (λ elem. frames.fits schema.now elem row.now) (map (λ elem. elem.now) elems.now)) }
+    ensures { IfOk result (λ it. it
+        ≡ list_any (λ elem. frames.fits schema.now elem row.now) (map (λ elem. elem.now) elems.now)) }
 {
     for elem in elems {
         if fits(alloc, schema, elem, row)? {
@@ -152,7 +157,8 @@ impl<'a> Frame<'a> {
         step: &Step,
         elem: &'a Elem,
     ) -> Result<Frame<'a>, Memory>
-        ensures { IfOk result (λ it. state_of it ≡ frames.entered schema.now (map (λ row. row.now) inside.now) step.now (state_of self.entry) elem.now) }
+        ensures { IfOk result (λ it. state_of it ≡ frames.entered schema.now
+            (map (λ row. row.now) inside.now) step.now (state_of self.entry) elem.now) }
     {
         let mut frame = self;
         if frame.whole || !is_of_node(schema, elem, step) {
@@ -179,7 +185,8 @@ impl<'a> Frame<'a> {
         inside: &[&Row],
         filter: &'a Elem,
     ) -> Result<Frame<'a>, Memory>
-        ensures { IfOk result (λ it. state_of it ≡ frames.opened schema.now (map (λ row. row.now) inside.now) filter.now) }
+        ensures { IfOk result (λ it. state_of it
+            ≡ frames.opened schema.now (map (λ row. row.now) inside.now) filter.now) }
     {
         let frame = Frame {
             whole: false,
@@ -215,7 +222,8 @@ impl<'a> Frame<'a> {
         inside: &[&Row],
         step: &Step,
     ) -> Result<Frame<'a>, Memory>
-        ensures { IfOk result (λ it. state_of it ≡ frames.after_step schema.now (map (λ row. row.now) inside.now) step.now (state_of self.now)) }
+        ensures { IfOk result (λ it. state_of it
+            ≡ frames.after_step schema.now (map (λ row. row.now) inside.now) step.now (state_of self.now)) }
     {
         let mut frame = Frame {
             whole: self.whole,

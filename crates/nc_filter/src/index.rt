@@ -43,7 +43,8 @@ fn added<'a>(
     table: BTreeMap<&'a [Step], Many<&'a Row>>,
     row: &'a Row,
 ) -> Result<BTreeMap<&'a [Step], Many<&'a Row>>, Memory>
-    ensures { IfOk result (λ it. (rows : List Row) → IsIndex table.entry rows → IsIndex it (rows ++ row.now ∷ [])) }
+    ensures { IfOk result (λ it. (rows : List Row) → IsIndex table.entry rows →
+        IsIndex it (rows ++ row.now ∷ [])) }
 {
     let mut table = table;
     let key = above_last(row.path.steps.as_slice());
@@ -54,6 +55,7 @@ fn added<'a>(
 }
 
 impl<'a> Index<'a> {
+    /// The rows of a configuration by their instances.
     pub(crate) fn new(alloc: Global, rows: &'a [Row]) -> Result<Index<'a>, Memory>
         ensures { IfOk result (λ it. IsIndex it.table rows.now) }
     {
@@ -67,7 +69,8 @@ impl<'a> Index<'a> {
     /// The rows directly in an instance; `None` where there is none.
     pub(crate) fn children(&self, above: &'a [Step]) -> Option<&Many<&'a Row>>
         ensures { (rows : List Row) → IsIndex self.now.table rows →
-            map (λ row. row.now) (option_map_or (λ inside. inside) (option_copied result) []) ≡ children rows above.now }
+            map (λ row. row.now) (option_map_or (λ inside. inside) (option_copied result) [])
+            ≡ children rows above.now }
     {
         self.table.get(&above)
     }

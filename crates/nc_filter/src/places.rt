@@ -53,7 +53,8 @@ impl<'a> Places<'a> {
 
     /// Whether one of the rows stands at or below a node.
     pub(crate) fn has(&self, steps: &'a [Step]) -> bool
-        ensures { (rows : List Row) → ArePlaces self.now.items rows → result ≡ list_any (λ row. is_at_or_below steps.now row.path) rows }
+        ensures { (rows : List Row) → ArePlaces self.now.items rows → result
+            ≡ list_any (λ row. is_at_or_below steps.now row.path) rows }
     {
         self.items.contains(&steps)
     }

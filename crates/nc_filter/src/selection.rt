@@ -1,5 +1,6 @@
 //! The rows that a filter keeps (RFC 6241 6).
-ghost use Rattle.std.specs.Prelude.{◌≡◌, ◌&&◌, ◌||◌, ◌==◌, ◌++◌, ◌∷◌, if◌then◌else◌, [], List, IfOk, None, map, option_map};
+ghost use Rattle.std.specs.Prelude.{◌≡◌, ◌&&◌, ◌||◌, ◌==◌, ◌++◌, ◌∷◌, if◌then◌else◌, [], List, IfOk, None};
+ghost use Rattle.std.specs.Prelude.{map, option_map};
 ghost use Rattle.std.specs.List.{filter, last_or, list_any};
 ghost use Rattle.nc_message.specs.declared.tree.Elem.{Elem};
 ghost use Rattle.nc_names.specs.declared.path.Row.{Row};
@@ -37,7 +38,8 @@ fn turn<'a>(
 }
 
 fn push_if<'a>(rows: Many<&'a Row>, selected: bool, row: &'a Row) -> Result<Many<&'a Row>, Memory>
-    ensures { IfOk result (λ it. map (λ row. row.now) it ≡ (if selected then map (λ row. row.now) rows.entry ++ row.now ∷ [] else map (λ row. row.now) rows.entry)) }
+    ensures { IfOk result (λ it. map (λ row. row.now) it ≡ (if selected
+        then map (λ row. row.now) rows.entry ++ row.now ∷ [] else map (λ row. row.now) rows.entry)) }
 {
     let mut rows = rows;
     if selected {
@@ -64,7 +66,8 @@ fn chosen<'a>(
     filter: &'a Elem,
     rows: &'a [Row],
 ) -> Result<Many<&'a Row>, Memory>
-    ensures { IfOk result (λ it. IsIndex index.now.table rows.now → map (λ row. row.now) it ≡ meant.chosen schema.now filter.now rows.now) }
+    ensures { IfOk result (λ it. IsIndex index.now.table rows.now → map (λ row. row.now) it
+        ≡ meant.chosen schema.now filter.now rows.now) }
 {
     let mut walk = Walk::new(alloc, schema, index, filter)?;
     let mut found = Many::new(alloc);
@@ -84,7 +87,8 @@ fn has_key(node: &Node, number: u32) -> bool
 
 // Whether a data node is a key of the list entry to which the steps lead.
 fn is_key_in(schema: &Schema, above: &[Step], number: u32) -> bool
-    ensures { result ≡ list_any (λ key. key == number) (keys_above schema.now (option_map (λ over. over.node) (last_or None above.now))) }
+    ensures { result ≡ list_any (λ key. key == number)
+        (keys_above schema.now (option_map (λ over. over.node) (last_or None above.now))) }
 {
     match last_step(above) {
         Some(over) => match schema.node(over.node) {
@@ -112,7 +116,8 @@ fn is_either(stands_above: bool, is_key: bool, is_of_entry: bool) -> bool
 
 // Whether a row comes with those that are selected.
 fn is_kept<'a>(schema: &Schema, places: &Places<'a>, row: &'a Row) -> bool
-    ensures { (rows : List Row) → ArePlaces places.now.items rows → result ≡ list_any (λ other. meant.comes_with schema.now other row.now) rows }
+    ensures { (rows : List Row) → ArePlaces places.now.items rows → result
+        ≡ list_any (λ other. meant.comes_with schema.now other row.now) rows }
 {
     let steps = row.path.steps.as_slice();
     let stands_above = places.has(steps);
@@ -153,8 +158,8 @@ fn selected_rows<'a>(
     Ok(out)
 }
 
-/// The rows of a configuration that a subtree filter keeps, in their order (RFC 6241 6). The children of `filter`
-/// are its elements at the top.
+/// The rows of a configuration that a subtree filter keeps, in their order (RFC 6241 6). The
+/// children of `filter` are its elements at the top.
 pub fn select(
     alloc: Global,
     schema: &Schema,

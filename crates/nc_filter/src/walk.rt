@@ -57,7 +57,8 @@ fn common_count(steps: &[Step], others: &[Step]) -> usize
     common(steps, others)
 }
 
-// What the filter says of a node in one of which it says what the frame does. `above` are the steps to the node.
+// What the filter says of a node in one of which it says what the frame does. `above` are the steps
+// to the node.
 fn stepped<'a>(
     alloc: Global,
     schema: &Schema,
@@ -67,7 +68,8 @@ fn stepped<'a>(
     step: &Step,
 ) -> Result<Frame<'a>, Memory>
     ensures { IfOk result (λ it. (rows : List Row) → IsIndex index.now.table rows →
-        state_of it ≡ frames.after_step schema.now (frames.children rows above.now) step.now (state_of frame.now)) }
+        state_of it ≡ frames.after_step schema.now (frames.children rows above.now) step.now
+        (state_of frame.now)) }
 {
     match index.children(above) {
         Some(inside) => Ok(frame.next(alloc, schema, inside.as_slice(), step)?),
@@ -84,8 +86,10 @@ fn pushed<'a>(
     above: &'a [Step],
     step: &Step,
 ) -> Result<Many<Frame<'a>>, Memory>
-    ensures { IfOk result (λ it. (rows : List Row) (filter : Elem) (before : List Step) → IsIndex index.now.table rows →
-        above.now ≡ before ++ step.now ∷ [] → IsWalk schema.now rows filter before frames.entry → IsWalk schema.now rows filter above.now it) }
+    ensures { IfOk result (λ it. (rows : List Row) (filter : Elem) (before : List Step) →
+        IsIndex index.now.table rows →
+        above.now ≡ before ++ step.now ∷ [] → IsWalk schema.now rows filter before frames.entry →
+        IsWalk schema.now rows filter above.now it) }
 {
     let mut frames = frames;
     let Some(last) = frames.last() else {
@@ -103,7 +107,8 @@ fn opening<'a>(
     index: &Index<'a>,
     filter: &'a Elem,
 ) -> Result<Frame<'a>, Memory>
-    ensures { IfOk result (λ it. (rows : List Row) → IsIndex index.now.table rows → state_of it ≡ frames.opening schema.now rows filter.now) }
+    ensures { IfOk result (λ it. (rows : List Row) → IsIndex index.now.table rows → state_of it
+        ≡ frames.opening schema.now rows filter.now) }
 {
     match index.children(&[]) {
         Some(inside) => Ok(Frame::open(alloc, schema, inside.as_slice(), filter)?),
@@ -119,7 +124,8 @@ impl<'a> Walk<'a> {
         index: &Index<'a>,
         filter: &'a Elem,
     ) -> Result<Walk<'a>, Memory>
-        ensures { IfOk result (λ it. (rows : List Row) → IsIndex index.now.table rows → IsWalk schema.now rows filter.now it.steps.now it.frames) }
+        ensures { IfOk result (λ it. (rows : List Row) → IsIndex index.now.table rows →
+            IsWalk schema.now rows filter.now it.steps.now it.frames) }
     {
         let mut frames = Many::new(alloc);
         frames.push(opening(alloc, schema, index, filter)?)?;
@@ -135,7 +141,8 @@ impl<'a> Walk<'a> {
         steps: &'a [Step],
     ) -> Result<Walk<'a>, Memory>
         ensures { IfOk result (λ it. (rows : List Row) (filter : Elem) → IsIndex index.now.table rows →
-            IsWalk schema.now rows filter self.entry.steps.now self.entry.frames → IsWalk schema.now rows filter steps.now it.frames × (it.steps.now ≡ steps.now)) }
+            IsWalk schema.now rows filter self.entry.steps.now self.entry.frames →
+            IsWalk schema.now rows filter steps.now it.frames × (it.steps.now ≡ steps.now)) }
     {
         let mut at = common_count(self.steps, steps);
         let mut frames = self.frames;
@@ -154,8 +161,10 @@ impl<'a> Walk<'a> {
         schema: &Schema,
         row: &Row,
     ) -> Result<bool, Memory>
-        ensures { IfOk result (λ it. (rows : List Row) (filter : Elem) → IsWalk schema.now rows filter self.now.steps.now self.now.frames →
-            it ≡ frames.is_selected schema.now (frames.at_end schema.now rows (frames.opening schema.now rows filter) [] self.now.steps.now) row.now) }
+        ensures { IfOk result (λ it. (rows : List Row) (filter : Elem) →
+            IsWalk schema.now rows filter self.now.steps.now self.now.frames →
+            it ≡ frames.is_selected schema.now (frames.at_end schema.now rows
+            (frames.opening schema.now rows filter) [] self.now.steps.now) row.now) }
     {
         match self.frames.last() {
             Some(frame) => Ok(frame.is_selected(alloc, schema, row)?),

@@ -2,14 +2,13 @@
 ghost use Rattle.std.specs.Prelude.{◌≡◌, ◌++◌, ◌∷◌, ◌<◌, ◌≤◌, [], Some, length, option_map, IfOk, IfSome};
 ghost use Rattle.std.specs.Option.{option_copied, option_or};
 ghost use Rattle.std.specs.BTreeMap.{get};
-ghost use Rattle.nc_schema.specs.Kinds as kinds;
 ghost use Rattle.nc_schema.specs.Places as places;
 ghost use Rattle.nc_defaults.specs.Within.{IsWithin, place_here};
 ghost use Rattle.nc_refs.specs.inner.Branches.{AddsFirst, AreBranches, step_order};
 
-use nc_defaults::{Here, next_of, place_below, place_of, run_end};
+use nc_defaults::{Here, has_places, next_of, place_below, place_of, run_end};
 use nc_names::{Memory, Step};
-use nc_schema::{Kind, Schema};
+use nc_schema::Schema;
 use nc_tree::Config;
 use std::alloc::Global;
 use std::collections::BTreeMap;
@@ -97,15 +96,5 @@ impl<'a> Branches<'a> {
             Some(span) => Some(place_of(schema, config, steps, here, node, span)),
             None => place_below(schema, config, steps, here, step),
         }
-    }
-}
-
-// Whether instances of data nodes of that kind are places.
-fn has_places(kind: Kind) -> bool
-    ensures { result ≡ kinds.holds_nodes kind }
-{
-    match kind {
-        Kind::Container { .. } | Kind::List => true,
-        Kind::Leaf | Kind::LeafList => false,
     }
 }

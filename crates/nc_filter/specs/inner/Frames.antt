@@ -1,5 +1,6 @@
 -- How the rows that a filter selects are found, from the top of the data tree down.
-use Rattle.std.specs.Prelude.{◌&&◌, ◌||◌, Bool, true, false, not, if◌then◌else◌, List, [], ◌∷◌, ◌++◌, None, fold, is_some}
+use Rattle.std.specs.Prelude.{◌&&◌, ◌||◌, Bool, true, false, not, if◌then◌else◌, List, [], ◌∷◌, ◌++◌, None, fold}
+use Rattle.std.specs.Prelude.{is_some}
 use Rattle.std.specs.List.{filter, last_or, list_all, list_any}
 use Rattle.std.specs.Option.{option_map_or}
 use Rattle.nc_names.specs.Same.{is_same_path}
@@ -50,7 +51,8 @@ contained state elem =
 abbrev pub entered : Tables → List Row → Step → State → Elem → State
 entered tables inside step state elem =
     if state.whole || not (is_of_node tables elem step) then state
-    else (if is_content_match elem then record { whole = state.whole; matches = state.matches ++ elem ∷ []; elems = state.elems }
+    else (if is_content_match elem then
+    record { whole = state.whole; matches = state.matches ++ elem ∷ []; elems = state.elems }
     else (if not (is_containment elem) then record { whole = true; matches = state.matches; elems = state.elems }
     else (if list_all (is_part_met tables inside) elem.parts then contained state elem else state)))
 
@@ -65,7 +67,8 @@ next tables rows above step state = after_step tables (children rows (above ++ s
 -- what it says of the root
 abbrev pub opened : Tables → List Row → Elem → State
 opened tables inside filter =
-    if list_all (is_part_met tables inside) filter.parts then contained (record { whole = false; matches = []; elems = [] }) filter
+    if list_all (is_part_met tables inside) filter.parts
+    then contained (record { whole = false; matches = []; elems = [] }) filter
     else record { whole = false; matches = []; elems = [] }
 
 abbrev pub opening : Tables → List Row → Elem → State
@@ -74,7 +77,8 @@ opening tables rows filter = opened tables (children rows []) filter
 -- what it says of each node on the way down, the first among them
 abbrev pub states : Tables → List Row → State → List Step → List Step → List State
 states tables rows state above [] = state ∷ []
-states tables rows state above (step ∷ steps) = state ∷ states tables rows (next tables rows above step state) (above ++ step ∷ []) steps
+states tables rows state above (step ∷ steps) =
+    state ∷ states tables rows (next tables rows above step state) (above ++ step ∷ []) steps
 
 -- a filter that says this of a row's node selects the row
 abbrev pub is_selected : Tables → State → Row → Bool
@@ -83,4 +87,5 @@ is_selected tables state row = state.whole || list_any (λ elem. fits tables ele
 -- what it says of the node to which the steps lead
 abbrev pub at_end : Tables → List Row → State → List Step → List Step → State
 at_end tables rows state above [] = state
-at_end tables rows state above (step ∷ steps) = at_end tables rows (next tables rows above step state) (above ++ step ∷ []) steps
+at_end tables rows state above (step ∷ steps) =
+    at_end tables rows (next tables rows above step state) (above ++ step ∷ []) steps

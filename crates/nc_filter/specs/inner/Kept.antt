@@ -8,7 +8,11 @@ use Rattle.nc_filter.specs.declared.frame.Frame.{Frame}
 use Rattle.nc_filter.specs.inner.Frames.{State, opening, states}
 
 abbrev pub state_of : Frame → State
-state_of frame = record { whole = frame.whole; matches = map (λ elem. elem.now) frame.matches; elems = map (λ elem. elem.now) frame.elems }
+state_of frame = record {
+  whole = frame.whole;
+  matches = map (λ elem. elem.now) frame.matches;
+  elems = map (λ elem. elem.now) frame.elems;
+}
 
 -- the frames on the way to a node, from the root
 abbrev pub IsWalk : Tables → List Row → Elem → List Step → List Frame → Type 0

@@ -26,18 +26,23 @@ abbrev pub IsIndex : BTreeMap (Bor (List Step)) (List (Bor Row)) → List Row �
 IsIndex table rows = (key : Bor (List Step)) → map (λ row. row.now) (in_table table key) ≡ children rows key.now
 
 -- a table has nothing at a key, and at the others what it had
-abbrev pub without : Bor (List Step) → BTreeMap (Bor (List Step)) (List (Bor Row)) → BTreeMap (Bor (List Step)) (List (Bor Row)) → Type 0
-without key before now = (other : Bor (List Step)) → get order now other ≡ cond (is_eq (order key other)) None (get order before other)
+abbrev pub without : Bor (List Step) → BTreeMap (Bor (List Step)) (List (Bor Row)) →
+    BTreeMap (Bor (List Step)) (List (Bor Row)) → Type 0
+without key before now =
+    (other : Bor (List Step)) → get order now other ≡ cond (is_eq (order key other)) None (get order before other)
 
 -- the set has each node at which a row stands or below which one stands
 abbrev pub ArePlaces : BTreeSet (Bor (List Step)) → List Row → Type 0
-ArePlaces places rows = (key : Bor (List Step)) → contains order places key ≡ list_any (λ row. is_at_or_below key.now row.path) rows
+ArePlaces places rows =
+    (key : Bor (List Step)) → contains order places key ≡ list_any (λ row. is_at_or_below key.now row.path) rows
 
 -- a set has one place more
 abbrev pub AddsPlace : BTreeSet (Bor (List Step)) → BTreeSet (Bor (List Step)) → List Step → Type 0
-AddsPlace before now steps = (key : Bor (List Step)) → contains order now key ≡ (is_same_path steps key.now || contains order before key)
+AddsPlace before now steps =
+    (key : Bor (List Step)) → contains order now key ≡ (is_same_path steps key.now || contains order before key)
 
 -- a set has a node more, and those above it
 abbrev pub AddsPlaces : BTreeSet (Bor (List Step)) → BTreeSet (Bor (List Step)) → List Step → Type 0
 AddsPlaces before now steps =
-    (key : Bor (List Step)) → contains order now key ≡ (contains order before key || is_at_or_below key.now (record { steps = steps }))
+    (key : Bor (List Step)) → contains order now key
+    ≡ (contains order before key || is_at_or_below key.now (record { steps = steps }))

@@ -1,0 +1,10 @@
+use Rattle.std.proofs.Common.{◌≡◌, ◌++◌, map, take}
+use Rattle.nc_model.specs.Content as content
+use Rattle.nc_model.specs.Reply as reply
+use Rattle.nc_model.specs.Words as w
+use Rattle.nc_errors.proofs.replies.push_nodes.Given as goal
+
+abbrev pub invariant-loop-node : goal.invariant-loop-node
+invariant-loop-node l =
+    l.parts
+    ≡ l.initial.parts ++ map (reply.path_part l.schema (content.partial_lock_name w.locked_node_word)) (take l.node-index l.nodes)

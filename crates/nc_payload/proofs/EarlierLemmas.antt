@@ -1,0 +1,112 @@
+-- Steps that were put into a set, and numbers beside them.
+use Rattle.std.proofs.Common.{◌≡◌, ◌==◌, ◌||◌, ◌&&◌, ℕ, Bool, true, false, cond, List, [], ◌∷◌, ◌++◌, refl, sym, ap, ◌∙◌}
+use Rattle.std.proofs.lemmas.Bool.{eqb-true}
+use Rattle.std.proofs.lemmas.List.Folds.{list_any-append}
+use Rattle.std.specs.List.{list_any}
+use Rattle.std.specs.BTreeSet.{BTreeSet, contains}
+use Rattle.std.specs.Cmp.Lexicographic.{lists_ties, slice_cmp}
+use Rattle.std.specs.Ordering.{is_eq, nat_cmp, ordering_then}
+use Rattle.std.specs.Cmp.{unsigned_tied}
+use Rattle.std.specs.declared.cmp.Ordering.{Ordering}
+use Rattle.std.specs.declared.cmp.Ordering.TheVariants.{Less, Equal, Greater}
+use Rattle.std.proofs.lemmas.Map.Text.{is_eq-slice_cmp}
+use Rattle.nc_names.specs.contracts.path.StepOrd.TheImpl.{ghosts}
+use Rattle.nc_names.specs.Same.{is_same_step}
+use Rattle.nc_names.specs.declared.path.Step.{Step}
+use Rattle.nc_schema.specs.Standing.{cases_differ, cases_of}
+use Rattle.nc_schema.specs.Tables.{Tables}
+use Rattle.nc_schema.specs.declared.node.Case.{Case}
+use Rattle.nc_schema.specs.declared.node.Node.{Node}
+use Rattle.nc_model.specs.Faults.{clashes, stands_once}
+use Rattle.nc_model.specs.declared.position.Under.{Under}
+use Rattle.nc_payload.specs.inner.Earlier.{AddsNumber, AddsStep, AreNumbersOf, AreStepsOf}
+
+is_eq_then : (a b : Ordering) → is_eq (ordering_then a b) ≡ (is_eq a && is_eq b)
+is_eq_then Less b = refl
+is_eq_then Equal b = refl
+is_eq_then Greater b = refl
+
+-- the order says that two steps are the same where they are
+pub step_ties : (x y : Step) → is_eq (ghosts.cmp x y) ≡ is_same_step x y
+step_ties x y = is_eq_then (nat_cmp x.node y.node) (slice_cmp (slice_cmp nat_cmp) x.keys y.keys)
+    ∙ (λ i. unsigned_tied x.node y.node i && sym (lists_ties (slice_cmp nat_cmp) (λ a b. sym (is_eq-slice_cmp a b)) x.keys y.keys) i)
+
+turned : (s b : Bool) → cond s true b ≡ (b || s)
+turned true true = refl
+turned true false = refl
+turned false true = refl
+turned false false = refl
+
+pub step_added : (before after : BTreeSet Step) (step : Step) → ((other : Step) → contains ghosts.cmp after other ≡ cond (is_eq (ghosts.cmp step other)) true (contains ghosts.cmp before other)) →
+    AddsStep before after step
+step_added before after step put other =
+    put other ∙ ap (λ b. cond b true (contains ghosts.cmp before other)) (step_ties step other) ∙ turned (is_same_step step other) (contains ghosts.cmp before other)
+
+or_false : (b : Bool) → (b || false) ≡ b
+or_false true = refl
+or_false false = refl
+
+-- one step more, in the list and beside it
+pub steps_more : (list : List Step) (before after : BTreeSet Step) (step : Step) → AreStepsOf list before → AddsStep before after step → AreStepsOf (list ++ step ∷ []) after
+steps_more list before after step are added other =
+    added other ∙ ap (λ b. b || is_same_step step other) (are other)
+    ∙ ap (λ b. list_any (λ one. is_same_step one other) list || b) (sym (or_false (is_same_step step other)))
+    ∙ sym (list_any-append (λ one. is_same_step one other) list (step ∷ []))
+
+pub numbers_more : (list : List Step) (before after : List ℕ) (step : Step) → AreNumbersOf list before → AddsNumber before after step.node → AreNumbersOf (list ++ step ∷ []) after
+numbers_more list before after step are added test =
+    added test ∙ ap (λ b. b || test step.node) (are test)
+    ∙ ap (λ b. list_any (λ (one : Step). test one.node) list || b) (sym (or_false (test step.node)))
+    ∙ sym (list_any-append (λ (one : Step). test one.node) list (step ∷ []))
+
+-- a number that is there already adds nothing
+pub number_there : (number : ℕ) (numbers : List ℕ) → list_any (λ other. other == number) numbers ≡ true → AddsNumber numbers numbers number
+number_there number [] e test = absurd (let clash : false ≡ true = e in cc)
+number_there number (other ∷ numbers) e test = by (other == number) refl e (λ rest. number_there number numbers rest test)
+  where
+    twice : (t x : Bool) → (t || x) ≡ ((t || x) || t)
+    twice true x = refl
+    twice false true = refl
+    twice false false = refl
+
+    behind : (t x n : Bool) → x ≡ (x || n) → (t || x) ≡ ((t || x) || n)
+    behind true x n e = refl
+    behind false x n e = e
+
+    by : (b : Bool) → (other == number) ≡ b → (b || list_any (λ one. one == number) numbers) ≡ true →
+        (list_any (λ one. one == number) numbers ≡ true → list_any test numbers ≡ (list_any test numbers || test number)) →
+        (test other || list_any test numbers) ≡ ((test other || list_any test numbers) || test number)
+    by true is e rest = twice (test other) (list_any test numbers) ∙ ap (λ n. (test other || list_any test numbers) || test n) (eqb-true other number is)
+    by false is e rest = behind (test other) (list_any test numbers) (test number) (rest e)
+
+pub number_pushed : (number : ℕ) (numbers : List ℕ) → AddsNumber numbers (numbers ++ number ∷ []) number
+number_pushed number numbers test = list_any-append test numbers (number ∷ []) ∙ ap (λ b. list_any test numbers || b) (or_false (test number))
+
+-- a step clashes where it is among those that stand once, or is of another case
+pub any_clash : (tables : Tables) (under : Under) (node : Node) (step : Step) (list : List Step) →
+    list_any (clashes tables under node step) list
+    ≡ ((stands_once under node.kind && list_any (λ other. is_same_step other step) list) || list_any (λ other. cases_differ node.cases (cases_of tables other.node)) list)
+any_clash tables under node step [] = none (stands_once under node.kind)
+  where
+    none : (b : Bool) → false ≡ ((b && false) || false)
+    none true = refl
+    none false = refl
+any_clash tables under node step (other ∷ list) =
+    ap (λ b. clashes tables under node step other || b) (any_clash tables under node step list)
+    ∙ mixed (stands_once under node.kind) (is_same_step other step) (cases_differ node.cases (cases_of tables other.node))
+    (list_any (λ one. is_same_step one step) list) (list_any (λ one. cases_differ node.cases (cases_of tables one.node)) list)
+  where
+    mixed : (once same differ sames differs : Bool) → (((once && same) || differ) || ((once && sames) || differs)) ≡ ((once && (same || sames)) || (differ || differs))
+    mixed true true differ sames differs = refl
+    mixed true false true true differs = refl
+    mixed true false true false differs = refl
+    mixed true false false true differs = refl
+    mixed true false false false differs = refl
+    mixed false same true sames differs = refl
+    mixed false same false sames differs = refl
+
+-- a node without cases is of no other case than another
+pub no_cases : (tables : Tables) (cases : List Case) (list : List Step) → cases ≡ [] → list_any (λ other. cases_differ cases (cases_of tables other.node)) list ≡ false
+no_cases tables cases [] none = refl
+no_cases tables cases (step ∷ list) none =
+    (λ i. cases_differ (none i) (cases_of tables step.node) || list_any (λ other. cases_differ cases (cases_of tables other.node)) list) ∙ no_cases tables cases list none

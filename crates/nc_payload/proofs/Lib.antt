@@ -1,0 +1,5 @@
+pub mod EarlierLemmas
+pub mod Naming
+pub mod PlacesLemmas
+pub mod Recursion
+pub mod GatherLemmas

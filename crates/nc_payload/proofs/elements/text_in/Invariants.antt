@@ -1,0 +1,7 @@
+use Rattle.std.proofs.Common.{◌≡◌, take}
+use Rattle.std.specs.List.{flat_map}
+use Rattle.nc_model.specs.Elements.{text_of}
+use Rattle.nc_payload.proofs.elements.text_in.Given as goal
+
+abbrev pub invariant-loop-part : goal.invariant-loop-part
+invariant-loop-part l = l.text ≡ flat_map text_of (take l.part-index l.part-items)

@@ -1,0 +1,4 @@
+pub mod Earlier
+pub mod Gathered
+pub mod Places
+pub mod Reads

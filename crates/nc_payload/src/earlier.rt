@@ -1,0 +1,147 @@
+//! The steps of the elements of one parent, so far, in an order in which they are looked up.
+ghost use Rattle.std.specs.Prelude.{◌≡◌, ◌==◌, ◌&&◌, ◌∷◌, ◌++◌, [], not, IfOk};
+ghost use Rattle.std.specs.List.{list_any};
+ghost use Rattle.nc_names.specs.Same as same;
+ghost use Rattle.nc_schema.specs.Standing as standing;
+ghost use Rattle.nc_payload.specs.inner.Earlier.{AddsNumber, AddsStep};
+
+use nc_names::{Copies, Many, Memory, Step};
+use nc_schema::{Case, Node, Schema};
+use std::alloc::Global;
+use std::collections::BTreeSet;
+use std::marker::Model;
+
+/// Steps in the order in which they came. Contracts see their list.
+#[derive(Drop)]
+pub(crate) struct Earlier {
+    list: Many<Step>,
+    steps: BTreeSet<Step>,
+    numbers: Many<u32>,
+}
+
+impl Model for Earlier {
+    ghost use Rattle.std.specs.Prelude.{List};
+    ghost use Rattle.nc_names.specs.declared.path.Step.{Step};
+    ghost use Rattle.nc_payload.specs.inner.Earlier.{AreNumbersOf, AreStepsOf};
+
+    ghost Value = { List Step };
+
+    ghost view = { λ e. e.list };
+
+    ghost invariant = { λ e. AreStepsOf e.list e.steps × AreNumbersOf e.list e.numbers };
+}
+
+fn has_number(numbers: &Many<u32>, number: u32) -> bool
+    ensures { result ≡ list_any (λ other. other == number) numbers.now }
+{
+    numbers.as_slice().iter().any(|other| *other == number)
+}
+
+// The numbers with one more, unless it is there.
+fn with_number(numbers: Many<u32>, number: u32) -> Result<Many<u32>, Memory>
+    ensures { IfOk result (λ it. AddsNumber numbers it number) }
+{
+    if has_number(&numbers, number) {
+        return Ok(numbers);
+    }
+    let mut numbers = numbers;
+    numbers.push(number)?;
+    Ok(numbers)
+}
+
+// The set with a step more.
+#[tactic(auto, using(crate::proofs::EarlierLemmas::step_added))]
+fn with_step(steps: BTreeSet<Step>, step: &Step) -> Result<BTreeSet<Step>, Memory>
+    ensures { IfOk result (λ it. AddsStep steps it step.now) }
+{
+    let mut steps = steps;
+    steps.insert(step.copy()?)?;
+    Ok(steps)
+}
+
+fn differs(one: &Case, others: &Many<Case>) -> bool
+    ensures { result ≡
+        list_any (λ other. one.now.choice == other.choice && not (one.now.case == other.case)) others.now }
+{
+    others.as_slice().iter().any(|other| one.choice == other.choice && one.case != other.case)
+}
+
+fn cases_differ(some: &Many<Case>, others: &Many<Case>) -> bool
+    ensures { result ≡ standing.cases_differ some.now others.now }
+{
+    some.as_slice().iter().any(|one| differs(one, others))
+}
+
+/// Whether a node belongs to another case of a choice than the node beside it.
+#[tactic(auto, using(crate::proofs::Naming::none_differ))]
+fn is_of_other_case(schema: &Schema, node: &Node, other: u32) -> bool
+    ensures { result ≡ standing.cases_differ node.now.cases (standing.cases_of schema.now other) }
+{
+    match schema.node(other) {
+        Some(found) => cases_differ(&node.cases, &found.cases),
+        None => false,
+    }
+}
+
+fn is_any_of_other_case(schema: &Schema, node: &Node, numbers: &Many<u32>) -> bool
+    ensures { result ≡ list_any
+        (λ other. standing.cases_differ node.now.cases (standing.cases_of schema.now other)) numbers.now }
+{
+    numbers
+        .as_slice()
+        .iter()
+        .any(|other| is_of_other_case(schema, node, *other))
+}
+
+impl Earlier {
+    /// No steps. It takes no memory.
+    pub(crate) fn new(alloc: Global) -> Earlier
+        ensures { result ≡ [] }
+    {
+        Earlier {
+            list: Many::new(alloc),
+            steps: BTreeSet::new(alloc),
+            numbers: Many::new(alloc),
+        }
+    }
+
+    /// The steps with one more, the last.
+    #[tactic(auto, using(crate::proofs::EarlierLemmas::steps_more, crate::proofs::EarlierLemmas::numbers_more))]
+    pub(crate) fn with(self, step: Step) -> Result<Earlier, Memory>
+        ensures { IfOk result (λ it. it ≡ self ++ step ∷ []) }
+    {
+        let Earlier {
+            list,
+            steps,
+            numbers,
+        } = self;
+        let numbers = with_number(numbers, step.node)?;
+        let steps = with_step(steps, &step)?;
+        let mut list = list;
+        list.push(step)?;
+        Ok(Earlier {
+            list,
+            steps,
+            numbers,
+        })
+    }
+
+    /// Whether a step is among them.
+    pub(crate) fn has(&self, step: &Step) -> bool
+        ensures { result ≡ list_any (λ other. same.is_same_step other step.now) self.now }
+    {
+        self.steps.contains(step)
+    }
+
+    /// Whether one of them leads to a node of another case than a node beside it.
+    pub(crate) fn has_other_case(&self, schema: &Schema, node: &Node) -> bool
+        ensures { result ≡ list_any
+            (λ other. standing.cases_differ node.now.cases (standing.cases_of schema.now other.node))
+            self.now }
+    {
+        if node.cases.is_empty() {
+            return false;
+        }
+        is_any_of_other_case(schema, node, &self.numbers)
+    }
+}

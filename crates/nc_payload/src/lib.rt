@@ -1,0 +1,26 @@
+//! Payloads of edit-config, copy-config and validate (RFC 6241 7.2, 7.3 and 8.6.4): `edits` reads the
+//! edits of an edit-config's `config`, `rows` the configuration that an inline `config` holds, and `Names`
+//! is the paths that the payload of a request names. It stands on the trees of `nc_message`, the schema of
+//! `nc_schema` with `nc_paths` and `nc_types`, the definitions of `nc_model`, the configurations of
+//! `nc_tree` and the edits of `nc_edit`.
+//!
+//! The first two answer exactly what `edits_of` and `rows_of` define: the edits or rows, or the first fault
+//! in document order. `Names` answers for each path what `names_path` defines. Want of memory alone is
+//! free. The crate trials_payloads tests it.
+#![tactic(auto)]
+
+mod attributes;
+mod causes;
+mod earlier;
+mod elements;
+mod faults;
+mod gather;
+mod made;
+mod own;
+mod payload;
+mod payload_paths;
+mod texts;
+mod words;
+
+pub use payload::{PayloadFault, edits, rows};
+pub use payload_paths::Names;

@@ -1,0 +1,154 @@
+//! The edits of an element, from its operation and the edits of what is in it.
+ghost use Rattle.std.specs.Prelude.{◌≡◌, ◌∷◌, IfOk};
+ghost use Rattle.nc_model.specs.Payload as meant;
+ghost use Rattle.nc_payload.specs.inner.Reads.{edit_at};
+
+use crate::gather::in_order;
+use nc_edit::make;
+use nc_model::{Action, Edit, EditOperation, Under};
+use nc_names::{Copies, Many, Memory, Path, Place, Row};
+use nc_schema::Schema;
+use nc_tree::Config;
+use std::alloc::Global;
+
+/// The edits of an element where it stands.
+pub(crate) fn made_from(
+    alloc: Global,
+    schema: &Schema,
+    under: Under,
+    operation: EditOperation,
+    merge: Edit,
+    place: Place,
+    below: Many<Edit>,
+) -> Result<Many<Edit>, Memory>
+    ensures { IfOk result (λ it. it ≡ meant.made schema.now under operation merge place below) }
+{
+    match under {
+        Under::Edited { .. } => edited_from(alloc, schema, operation, merge, place, below),
+        Under::Rows { .. } | Under::Inline => before_all(alloc, merge, below),
+        Under::Dropped { .. } | Under::BelowDropped => Ok(Many::new(alloc)),
+    }
+}
+
+fn before_all(alloc: Global, edit: Edit, below: Many<Edit>) -> Result<Many<Edit>, Memory>
+    ensures { IfOk result (λ it. it ≡ edit ∷ below) }
+{
+    let mut edits = Many::new(alloc);
+    edits.push(edit)?;
+    edits.append(below)?;
+    Ok(edits)
+}
+
+fn edited_from(
+    alloc: Global,
+    schema: &Schema,
+    operation: EditOperation,
+    merge: Edit,
+    place: Place,
+    below: Many<Edit>,
+) -> Result<Many<Edit>, Memory>
+    ensures { IfOk result (λ it. it ≡
+        edit_at merge.path (meant.action_by schema.now operation merge.action (merge ∷ below)) place
+        ∷ meant.stays_by operation below) }
+{
+    match operation {
+        EditOperation::Merge => with_action(alloc, merge.path, merge.action, place, below),
+        EditOperation::Nothing => with_action(alloc, merge.path, Action::Nothing, place, below),
+        EditOperation::Delete => with_action(
+            alloc,
+            merge.path,
+            Action::Delete,
+            place,
+            Many::new(alloc),
+        ),
+        EditOperation::Remove => with_action(
+            alloc,
+            merge.path,
+            Action::Remove,
+            place,
+            Many::new(alloc),
+        ),
+        EditOperation::Create => {
+            let path = merge.path.copy()?;
+            let rows = subtree(alloc, schema, merge, below)?;
+            with_action(
+                alloc,
+                path,
+                Action::Create { rows },
+                place,
+                Many::new(alloc),
+            )
+        }
+        EditOperation::Replace => {
+            let path = merge.path.copy()?;
+            let rows = subtree(alloc, schema, merge, below)?;
+            with_action(
+                alloc,
+                path,
+                Action::Replace { rows },
+                place,
+                Many::new(alloc),
+            )
+        }
+    }
+}
+
+fn with_action(
+    alloc: Global,
+    path: Path,
+    action: Action,
+    place: Place,
+    below: Many<Edit>,
+) -> Result<Many<Edit>, Memory>
+    ensures { IfOk result (λ it. it ≡ edit_at path action place ∷ below) }
+{
+    before_all(
+        alloc,
+        Edit {
+            path,
+            action,
+            place,
+        },
+        below,
+    )
+}
+
+/// The configuration of the rows that merges leave, made one after another, from nothing.
+pub(crate) fn config_merged(
+    alloc: Global,
+    schema: &Schema,
+    merges: &Many<Edit>,
+) -> Result<Config, Memory>
+    ensures { IfOk result (λ it. it ≡ meant.rows_merged schema.now merges.now) }
+{
+    let mut config = Config::empty(alloc);
+    for merge in merges.as_slice() {
+        make(alloc, schema, &mut config, merge)?;
+    }
+    Ok(config)
+}
+
+fn subtree(
+    alloc: Global,
+    schema: &Schema,
+    merge: Edit,
+    below: Many<Edit>,
+) -> Result<Many<Row>, Memory>
+    ensures { IfOk result (λ it. it ≡ meant.rows_merged schema.now (merge ∷ below)) }
+{
+    rows_merged(alloc, schema, &before_all(alloc, merge, below)?)
+}
+
+/// The rows of a subtree: what merges leave that are made one after another, from nothing.
+pub(crate) fn rows_merged(
+    alloc: Global,
+    schema: &Schema,
+    merges: &Many<Edit>,
+) -> Result<Many<Row>, Memory>
+    ensures { IfOk result (λ it. it ≡ meant.rows_merged schema.now merges.now) }
+{
+    match in_order(alloc, schema, merges)? {
+        Some(rows) => Ok(rows),
+        None => Ok(config_merged(alloc, schema, merges)?.into_rows()),
+    }
+}

@@ -1,0 +1,160 @@
+//! The edits of a payload.
+ghost use Rattle.std.specs.Prelude.{◌≡◌, [], ◌∷◌};
+ghost use Rattle.nc_model.specs.Payload as meant;
+ghost use Rattle.nc_model.specs.Payload.{elem_edits, part_edits, list_edits};
+ghost use Rattle.nc_payload.specs.inner.Reads.{Answers};
+ghost use Rattle.nc_model.specs.Payload.{reading_of};
+
+use crate::causes::{cause_in, one_name};
+use crate::earlier::Earlier;
+use crate::elements::{has_text, remember};
+use crate::made::{config_merged, made_from};
+use crate::own::own;
+use nc_message::{Elem, Part};
+use nc_model::{Cause, Default3, Edit, EditOperation, Position, Under};
+use nc_names::{CauseKind, Many, Memory, Step};
+use nc_schema::Schema;
+use nc_tree::Config;
+use std::alloc::Global;
+
+/// Why a payload is not read.
+#[derive(Debug, Drop)]
+pub enum PayloadFault {
+    /// Its first fault.
+    Bad(Cause),
+    /// Want of memory.
+    Memory,
+}
+
+impl From<Memory> for PayloadFault {
+    ghost use Rattle.nc_payload.specs.declared.payload.PayloadFault.TheVariants.{Memory as PayloadMemory};
+
+    ghost from_gives = { λ _ e. e ≡ PayloadMemory };
+
+    fn from(_: Memory) -> PayloadFault {
+        PayloadFault::Memory
+    }
+}
+
+#[cycle(read)]
+fn read_elem(
+    alloc: Global,
+    schema: &Schema,
+    at: &Position,
+    earlier: &Earlier,
+    elem: &Elem,
+) -> Result<Many<Edit>, PayloadFault>
+    ensures { Answers (elem_edits (reading_of schema.now) at.now earlier.now elem.now) result }
+{
+    let found = own(alloc, schema, at, earlier, elem)?;
+    let below = read_parts(alloc, schema, &found.within, &elem.parts)?;
+    Ok(made_from(
+        alloc,
+        schema,
+        at.under,
+        found.operation,
+        found.merge,
+        found.place,
+        below,
+    )?)
+}
+
+#[cycle(read)]
+fn read_part(
+    alloc: Global,
+    schema: &Schema,
+    at: &Position,
+    earlier: &Earlier,
+    part: &Part,
+) -> Result<Many<Edit>, PayloadFault>
+    ensures { Answers (part_edits (reading_of schema.now) at.now earlier.now part.now) result }
+{
+    match part {
+        Part::Child(elem) => read_elem(alloc, schema, at, earlier, elem.get()),
+        Part::Chars(_) => Ok(Many::new(alloc)),
+    }
+}
+
+#[cycle(read)]
+fn read_parts(
+    alloc: Global,
+    schema: &Schema,
+    at: &Position,
+    parts: &Many<Part>,
+) -> Result<Many<Edit>, PayloadFault>
+    ensures { Answers (list_edits (reading_of schema.now) at.now [] parts.now) result }
+{
+    let mut edits = Many::new(alloc);
+    let mut earlier = Earlier::new(alloc);
+    for part in parts.as_slice() {
+        edits.append(read_part(alloc, schema, at, &earlier, part)?)?;
+        earlier = remember(alloc, schema, at, part, earlier)?;
+    }
+    Ok(edits)
+}
+
+/// The edits of a whole `config`, whose own attributes say nothing.
+pub(crate) fn config_edits(
+    alloc: Global,
+    schema: &Schema,
+    under: Under,
+    config: &Elem,
+) -> Result<Many<Edit>, PayloadFault>
+    ensures { Answers (meant.config_edits (reading_of schema.now) under config.now) result }
+{
+    if has_text(&config.parts) {
+        let names = one_name(alloc, &config.name.name)?;
+        return Err(PayloadFault::Bad(cause_in(CauseKind::BadElement, Many::new(alloc), names)));
+    }
+    let top = Position {
+        above: Many::new(alloc),
+        parent: None,
+        under,
+    };
+    read_parts(alloc, schema, &top, &config.parts)
+}
+
+fn by_default(default_operation: Default3) -> EditOperation
+    ensures { result ≡ meant.by_default default_operation }
+{
+    match default_operation {
+        Default3::Merge => EditOperation::Merge,
+        Default3::Replace => EditOperation::Replace,
+        Default3::Nothing => EditOperation::Nothing,
+    }
+}
+
+/// The edits of an edit-config's payload (RFC 6241 7.2).
+///
+/// # Errors
+///
+/// `Bad` with the first fault in document order.
+pub fn edits(
+    alloc: Global,
+    schema: &Schema,
+    config: &Elem,
+    default_operation: Default3,
+) -> Result<Many<Edit>, PayloadFault>
+    ensures { Answers (meant.edits_of schema.now default_operation config.now) result }
+{
+    config_edits(
+        alloc,
+        schema,
+        Under::Edited {
+            operation: by_default(default_operation),
+        },
+        config,
+    )
+}
+
+/// The rows of an inline configuration (RFC 6241 7.3).
+///
+/// # Errors
+///
+/// `Bad` with the first fault in document order.
+pub fn rows(alloc: Global, schema: &Schema, config: &Elem) -> Result<Config, PayloadFault>
+    ensures { Answers (meant.rows_of schema.now config.now) result }
+{
+    let merges = config_edits(alloc, schema, Under::Inline, config)?;
+    Ok(config_merged(alloc, schema, &merges)?)
+}

@@ -1,0 +1,4 @@
+pub mod FirstLemmas
+pub mod ChildrenLemmas
+pub mod TuplesLemmas
+pub mod UniqueLemmas

@@ -1,0 +1,4 @@
+pub mod First
+pub mod Parts
+pub mod Children
+pub mod Tuples

@@ -1,0 +1,100 @@
+//! Mandatory choices (RFC 7950 7.9.4).
+ghost use Rattle.std.specs.Prelude.{◌≡◌, ◌≤◌, ◌==◌, false, length, slice_get, IfOk};
+ghost use Rattle.std.specs.List.{list_any};
+ghost use Rattle.std.specs.Option.{option_map_or};
+ghost use Rattle.nc_schema.specs.Violations as violations;
+ghost use Rattle.nc_defaults.specs.Within.{IsWithin, place_here};
+ghost use Rattle.nc_validate.specs.inner.First.{first};
+ghost use Rattle.nc_validate.specs.inner.Children.{begun_violations, choice_lacks};
+
+use crate::faults::violation;
+use nc_defaults::{Here, all_chosen, is_made};
+use nc_names::{CauseKind, Memory, Step};
+use nc_schema::{Case, Node, Schema, Violation};
+use nc_tree::Config;
+use std::alloc::Global;
+
+/// Whether nodes of these cases have to stand in a place.
+pub(crate) fn is_required(
+    schema: &Schema,
+    config: &Config,
+    steps: &[Step],
+    here: Here,
+    cases: &[Case],
+) -> bool
+    requires { IsWithin config.now here }
+    ensures { result ≡ violations.is_required schema.now (place_here config.now steps.now here) cases.now }
+{
+    here.required && all_chosen(schema, config, steps, here, cases)
+}
+
+// Whether a choice is mandatory in a place and no node of it exists there.
+fn lacks(schema: &Schema, config: &Config, steps: &[Step], here: Here, choice: u32) -> bool
+    requires { IsWithin config.now here }
+    ensures { result ≡ choice_lacks schema.now (place_here config.now steps.now here) choice }
+{
+    match schema.choice(choice) {
+        Some(known) => {
+            known.mandatory
+                && !is_made(schema, config, steps, here, choice)
+                && is_required(schema, config, steps, here, known.within.as_slice())
+        }
+        None => false,
+    }
+}
+
+fn has_choice(node: &Node, choice: u32) -> bool
+    ensures { result ≡ list_any (λ one. one.choice == choice) node.now.cases }
+{
+    node.cases
+        .as_slice()
+        .iter()
+        .any(|case| case.choice == choice)
+}
+
+fn node_has_choice(schema: &Schema, number: u32, choice: u32) -> bool
+    ensures { result ≡ option_map_or (λ node. list_any (λ one. one.choice == choice) node.cases)
+        (slice_get schema.now.nodes number) false }
+{
+    match schema.node(number) {
+        Some(node) => has_choice(node, choice),
+        None => false,
+    }
+}
+
+/// Whether a data node of the choice is among the first so many.
+pub(crate) fn is_choice_before(schema: &Schema, number: u32, choice: u32) -> bool
+    requires { number ≤ length schema.now.nodes }
+    ensures { result ≡ violations.is_choice_before schema.now number choice }
+{
+    for at in 0..number {
+        if node_has_choice(schema, at, choice) {
+            return true;
+        }
+    }
+    false
+}
+
+/// The violation of a choice, unless one of the first so many data nodes is of it.
+pub(crate) fn first_of_choice(
+    alloc: Global,
+    schema: &Schema,
+    config: &Config,
+    steps: &[Step],
+    here: Here,
+    which: (u32, u32),
+) -> Result<Option<Violation>, Memory>
+    requires here { IsWithin config.now here }
+    requires known { which.0 ≤ length schema.now.nodes }
+    ensures { IfOk result (λ it. it
+        ≡ first (begun_violations schema.now (place_here config.now steps.now here) which.0 which.1)) }
+{
+    let (number, choice) = which;
+    if !lacks(schema, config, steps, here, choice) {
+        return Ok(None);
+    }
+    if is_choice_before(schema, number, choice) {
+        return Ok(None);
+    }
+    Ok(Some(violation(alloc, CauseKind::MandatoryChoice, steps)?))
+}

@@ -1,0 +1,19 @@
+//! What a configuration breaks of the constraints on which nodes stand (RFC 7950 8.1): mandatory
+//! leafs and choices, the number of entries, and `unique`. It stands on the schema and on the
+//! places of a configuration, which `nc_defaults` lists.
+//!
+//! `first_structural` gives exactly the first of the violations that the definition
+//! `structural_violations` lists, whatever the schema and the rows are. It looks at one place after
+//! another and stops at the first violation. Entries are compared by an ordered set of their
+//! values, and not one with each.
+#![tactic(auto)]
+
+mod choices;
+mod counts;
+mod entries;
+mod faults;
+mod structural;
+mod tuples;
+mod unique;
+
+pub use structural::first_structural;

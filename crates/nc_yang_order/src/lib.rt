@@ -1,0 +1,18 @@
+//! An order of numbers in which each stands after those to which it has an edge.
+//!
+//! What modules define in terms of each other (typedefs, groupings, identities, features, imports, leafrefs) may not lead
+//! back to itself (RFC 7950 5.1, 7.3, 7.12, 7.18.2, 7.20.2, 9.9.2). Each of these questions is one graph of numbers, and
+//! one call answers it: `targets_first` gives such an order, or an edge on a circle. By the law `order_has_no_circle`
+//! no graph has both.
+//!
+//! It stands on the plain types of nc_names. A call takes steps in proportion to the numbers and edges, and does not
+//! recurse. The crate `trials_modules` tests it.
+#![tactic(auto)]
+
+mod laws;
+mod mark;
+mod order;
+mod search;
+
+pub use laws::order_has_no_circle;
+pub use order::{Ordered, is_within, targets_first};

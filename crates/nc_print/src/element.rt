@@ -31,7 +31,8 @@ fn bounds_of(
     number: u32,
     value: Option<&Text>,
 ) -> Result<Bounds, Memory>
-    ensures { IfOk result (λ it. it ≡ option_map_or (names.value_bounds schema.now number) (option_copied value.entry) []) }
+    ensures { IfOk result (λ it. it
+        ≡ option_map_or (names.value_bounds schema.now number) (option_copied value.entry) []) }
 {
     match value {
         Some(text) => value_bounds(alloc, schema, number, text),
@@ -48,7 +49,8 @@ pub(crate) fn node_part(
     value: Option<&Text>,
     below: Many<Part>,
 ) -> Result<Part, Memory>
-    ensures { IfOk result (λ it. it ≡ printed.node_part schema.now number (option_copied value.entry) below node.now) }
+    ensures { IfOk result (λ it. it
+        ≡ printed.node_part schema.now number (option_copied value.entry) below node.now) }
 {
     let mut parts = value_parts(alloc, value)?;
     parts.append(below)?;

@@ -31,7 +31,8 @@ fn push_step(
     below: Many<Part>,
     parts: &mut Many<Part>,
 ) -> Result<(), Memory>
-    ensures { IfOk result (λ _. parts.new ≡ parts.old ++ printed.step_parts schema.now (option_copied value.entry) below (Some step.now)) }
+    ensures { IfOk result (λ _. parts.new
+        ≡ parts.old ++ printed.step_parts schema.now (option_copied value.entry) below (Some step.now)) }
 {
     if let Some(node) = schema.node(step.node) {
         parts.push(node_part(alloc, schema, step.node, node, value, below)?)?;
@@ -50,7 +51,8 @@ fn push_run(
     parts: &mut Many<Part>,
 ) -> Result<(), Memory>
     requires { depth + 1 + levels < 2 ^ 64 }
-    ensures { IfOk result (λ _. parts.new ≡ parts.old ++ printed.run_parts schema.now (printed.parts_at schema.now levels (depth + 1)) depth rows.now) }
+    ensures { IfOk result (λ _. parts.new ≡ parts.old
+        ++ printed.run_parts schema.now (printed.parts_at schema.now levels (depth + 1)) depth rows.now) }
 {
     let Some(row) = rows.first() else {
         return Ok(());
@@ -111,8 +113,8 @@ fn tail(rows: &[Row], count: usize) -> &[Row]
     &rows[count..]
 }
 
-/// The rows of a configuration as elements, in document order (RFC 7950 7.5.7, 7.6.5, 7.7.8 and 7.8.5). Want of memory
-/// alone is an error.
+/// The rows of a configuration as elements, in document order (RFC 7950 7.5.7, 7.6.5, 7.7.8 and 7.8.5). Want of
+/// memory alone is an error.
 pub fn print(alloc: Global, schema: &Schema, rows: &[Row]) -> Result<Many<Part>, Memory>
     ensures { IfOk result (λ it. it ≡ printed.printed schema.now rows.now) }
 {

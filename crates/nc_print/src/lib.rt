@@ -1,16 +1,23 @@
 //! Rows of a configuration as elements (RFC 7950 7.5.7, 7.6.5, 7.7.8 and 7.8.5).
 //!
-//! `print` gives exactly the elements that nc_model's definition `printed` has for rows in document order: one for each
-//! row, and for each container without presence that has a row below it. Where a value may have module names as
-//! prefixes these are bound on its element. Each row is looked at once for each step of its path. `path_bounds` gives the
-//! bindings that a path text needs.
+//! `print` gives exactly the elements that nc_model's definition `printed` has for rows in document order: one
+//! for each row, and for each container without presence that has a row below it. Where a value may have module
+//! names as prefixes these are bound on its element. Each row is looked at once for each step of its path.
+//! `names_bound` gives the bindings that a path text needs. The laws say that an element so made for a data node is
+//! read back as that node, by nc_model's definition of a payload.
 #![tactic(auto)]
 
 mod element;
 mod elements;
+mod laws;
 mod module_names;
 mod runs;
 mod value_types;
 
 pub use elements::print;
+pub use laws::{
+    container_is_read_back, leaf_is_read_back, leaf_list_is_read_back, list_entry_is_read_back,
+    nothing_below_its_end, printed_holds_no_text, printed_is_named, printed_keys_are_read,
+    printed_value_is_read,
+};
 pub use module_names::names_bound;

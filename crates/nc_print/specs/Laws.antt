@@ -1,0 +1,142 @@
+-- What follows from how rows are printed, in the words of what reads a payload.
+use Rattle.std.specs.Prelude.{◌≡◌, ◌≢◌, ◌≤◌, ℕ, Bool, false, List, [], ◌∷◌, ◌++◌, Option, Some, None, Ok, length, slice_get}
+use Rattle.std.specs.List.{AllPairs, flat_map, list_any, zip}
+use Rattle.std.specs.Option.{option_map_or}
+use Rattle.nc_names.specs.declared.path.Place.TheVariants.{Kept}
+use Rattle.nc_names.specs.declared.path.Row.{Row}
+use Rattle.nc_names.specs.declared.path.Step.{Step}
+use Rattle.nc_message.specs.declared.tree.Elem.{Elem}
+use Rattle.nc_message.specs.declared.tree.Part.{Part}
+use Rattle.nc_schema.specs.Proper.{IsProperSchema}
+use Rattle.nc_schema.specs.Tables.{Tables}
+use Rattle.nc_schema.specs.declared.node.Kind.TheVariants.{Container, Leaf, LeafList, List as ListKind}
+use Rattle.nc_schema.specs.declared.node.Node.{Node}
+use Rattle.nc_model.specs.declared.edit.Action.TheVariants.{Merge}
+use Rattle.nc_model.specs.declared.edit.Edit.{Edit}
+use Rattle.nc_model.specs.declared.position.Position.{Position}
+use Rattle.nc_model.specs.declared.position.Under.TheVariants.{Inline}
+use Rattle.nc_model.specs.Content.{text_parts}
+use Rattle.nc_model.specs.Elements.{Reading, Named, has_text, key_values, named_part, value_in}
+use Rattle.nc_model.specs.Faults.{clashes}
+use Rattle.nc_model.specs.ModuleNames.{value_bounds}
+use Rattle.nc_model.specs.Payload.{if_read, list_edits, part_edits}
+use Rattle.nc_model.specs.Printed.{node_part, parts_at, step_parts}
+
+-- the element that is printed for a data node
+abbrev pub printed_elem : Tables → ℕ → Option (List ℕ) → List Part → Node → Elem
+printed_elem tables number value below node = record {
+  name = node.name;
+  bounds = option_map_or (value_bounds tables number) value [];
+  attrs = [];
+  parts = option_map_or text_parts value [] ++ below;
+}
+
+-- it is read as that data node
+abbrev pub PrintedIsNamed : Type 0
+PrintedIsNamed =
+    (reading : Reading) (number : ℕ) (node : Node) (value : Option (List ℕ)) (below : List Part) →
+    IsProperSchema reading.tables → slice_get reading.tables.nodes number ≡ Some node →
+    named_part reading node.parent (node_part reading.tables number value below node)
+    ≡ Some (record { number = number; node = node; elem = printed_elem reading.tables number value below node })
+
+-- its text is read as it is, under the bindings of the module names in it
+abbrev pub PrintedValueIsRead : Type 0
+PrintedValueIsRead =
+    (reading : Reading) (number : ℕ) (node : Node) (text : List ℕ) →
+    value_in reading
+    (record { number = number; node = node; elem = printed_elem reading.tables number (Some text) [] node })
+    ≡ reading.value number text (value_bounds reading.tables number text)
+
+-- where an inline configuration is read, below a data node or at the top
+abbrev pub inline_at : List Step → Option ℕ → Position
+inline_at above parent = record { above = above; parent = parent; under = Inline }
+
+-- the merge of a value, or of none, at a path
+abbrev pub merge_at : List Step → Step → Option (List ℕ) → Edit
+merge_at above step value =
+    record { path = record { steps = above ++ step ∷ [] }; action = Merge value; place = Kept }
+
+-- no element before excludes the node
+abbrev pub StandsFree : Tables → List Step → Node → Step → Type 0
+StandsFree tables earlier node step = list_any (clashes tables Inline node step) earlier ≡ false
+
+-- a leaf is read back as its row: one merge of its value at its path
+abbrev pub LeafIsReadBack : Type 0
+LeafIsReadBack =
+    (reading : Reading) (above earlier : List Step) (number : ℕ) (node : Node) (text : List ℕ) →
+    let step : Step = record { node = number; keys = [] } in
+    IsProperSchema reading.tables → slice_get reading.tables.nodes number ≡ Some node → node.kind ≡ Leaf →
+    reading.value number text (value_bounds reading.tables number text) ≡ Some text →
+    StandsFree reading.tables earlier node step →
+    part_edits reading (inline_at above node.parent) earlier (node_part reading.tables number (Some text) [] node)
+    ≡ Ok (merge_at above step (Some text) ∷ [])
+
+-- so is a leaf-list entry, whose path has its value
+abbrev pub LeafListIsReadBack : Type 0
+LeafListIsReadBack =
+    (reading : Reading) (above earlier : List Step) (number : ℕ) (node : Node) (text : List ℕ) →
+    let step : Step = record { node = number; keys = text ∷ [] } in
+    IsProperSchema reading.tables → slice_get reading.tables.nodes number ≡ Some node → node.kind ≡ LeafList →
+    reading.value number text (value_bounds reading.tables number text) ≡ Some text →
+    StandsFree reading.tables earlier node step →
+    part_edits reading (inline_at above node.parent) earlier (node_part reading.tables number (Some text) [] node)
+    ≡ Ok (merge_at above step (Some text) ∷ [])
+
+-- a container is read back as a merge at its path, and what is read back of the elements in it
+abbrev pub ContainerIsReadBack : Type 0
+ContainerIsReadBack =
+    (reading : Reading) (above earlier : List Step) (number : ℕ) (node : Node) (presence : Bool) (below : List Part) →
+    let step : Step = record { node = number; keys = [] } in
+    IsProperSchema reading.tables → slice_get reading.tables.nodes number ≡ Some node → node.kind ≡ Container presence →
+    has_text below ≡ false →
+    StandsFree reading.tables earlier node step →
+    part_edits reading (inline_at above node.parent) earlier (node_part reading.tables number None below node)
+    ≡ if_read (λ edits. merge_at above step None ∷ edits)
+    (list_edits reading (inline_at (above ++ step ∷ []) (Some number)) [] below)
+
+-- what is printed is elements alone, without text between them
+abbrev pub PrintedHoldsNoText : Type 0
+PrintedHoldsNoText =
+    (tables : Tables) (levels depth : ℕ) (rows : List Row) → has_text (parts_at tables levels depth rows) ≡ false
+
+-- a row has no elements below the node where its path ends
+abbrev pub NothingBelowItsEnd : Type 0
+NothingBelowItsEnd =
+    (tables : Tables) (levels depth : ℕ) (row : Row) → length row.path.steps ≤ depth →
+    parts_at tables levels depth (row ∷ []) ≡ []
+
+-- a list entry is read back as a merge at its path, with its keys in it, and what is read back of the elements in it
+abbrev pub ListEntryIsReadBack : Type 0
+ListEntryIsReadBack =
+    (reading : Reading) (above earlier : List Step) (number : ℕ) (node : Node) (values : List (List ℕ))
+    (below : List Part) (edits : List Edit) →
+    let step : Step = record { node = number; keys = values } in
+    let it : Named = record { number = number; node = node; elem = printed_elem reading.tables number None below node } in
+    IsProperSchema reading.tables → slice_get reading.tables.nodes number ≡ Some node → node.kind ≡ ListKind →
+    has_text below ≡ false → key_values reading it node.keys ≡ Some values →
+    list_edits reading (inline_at (above ++ step ∷ []) (Some number)) [] below ≡ Ok edits →
+    StandsFree reading.tables earlier node step →
+    part_edits reading (inline_at above node.parent) earlier (node_part reading.tables number None below node)
+    ≡ Ok (merge_at above step None ∷ edits)
+
+-- a key of an entry is a leaf in its list whose value is read back (RFC 7950 7.8.2)
+pub record IsKeyReadBack (reading : Reading) (number key : ℕ) (value : List ℕ) : Type 0 where
+  pub node : Node
+  pub at : slice_get reading.tables.nodes key ≡ Some node
+  pub parent : node.parent ≡ Some number
+  pub read : reading.value key value (value_bounds reading.tables key value) ≡ Some value
+
+-- the elements of an entry's keys
+abbrev pub key_parts : Tables → List ℕ → List (List ℕ) → List Part
+key_parts tables keys values =
+    flat_map (λ pair. step_parts tables (Some pair.1) [] (Some (record { node = pair.0; keys = [] }))) (zip keys values)
+
+-- where they stand first in an entry, its keys are read as they are
+abbrev pub PrintedKeysAreRead : Type 0
+PrintedKeysAreRead =
+    (reading : Reading) (it : Named) (values : List (List ℕ)) (more : List Part) →
+    IsProperSchema reading.tables → AllPairs (λ key later. key ≢ later) it.node.keys → length values ≡ length it.node.keys →
+    ((place key : ℕ) (value : List ℕ) → slice_get it.node.keys place ≡ Some key → slice_get values place ≡ Some value →
+    IsKeyReadBack reading it.number key value) →
+    it.elem.parts ≡ key_parts reading.tables it.node.keys values ++ more →
+    key_values reading it it.node.keys ≡ Some values

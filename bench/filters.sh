@@ -1,0 +1,196 @@
+#!/usr/bin/env bash
+# Times `nc_filter::select` over a list of 10,000 entries: a filter of 1,000 entries by their keys, and filters of 4 MB
+# that are made to be slow. It clones this repository into a temporary folder, puts a small program beside the crates
+# there, proves it and runs it.
+set -euo pipefail
+top=$(git -C "$(dirname "$0")" rev-parse --show-toplevel)
+work=$(mktemp -d)
+trap 'rm -rf "$work"' EXIT
+git clone -q "$top" "$work/clone"
+cd "$work/clone"
+rt new crates/bench_filters start_io >/dev/null 2>&1
+rm -rf crates/bench_filters/src crates/bench_filters/specs crates/bench_filters/proofs
+rm -f crates/bench_filters/stdin crates/bench_filters/stdout crates/bench_filters/BUILD.bazel
+mkdir -p crates/bench_filters/src
+echo 'bench_filters: nc_names nc_message nc_message_read nc_schema nc_tree nc_filter' >>crates.txt
+cat >crates/bench_filters/src/main.rt <<'RT'
+//! Times filters over a list of 10,000 entries, each with a key and a leaf.
+#![tactic(auto)]
+
+use nc_filter::select;
+use nc_message_read::read_message;
+use nc_names::{Many, Memory, Path, Place, QName, Row, Step, Text};
+use nc_schema::{Deny, Kind, Node, Schema};
+use nc_tree::Config;
+use std::alloc::Global;
+use std::io;
+use std::time::Instant;
+
+fn text(alloc: Global, chars: &str) -> Result<Text, Memory> {
+    Text::from_text(alloc, chars)
+}
+
+fn node(alloc: Global, name: &str, above: Option<u32>, kind: Kind) -> Result<Node, Memory> {
+    let mut keys = Many::new(alloc);
+    if name == "user" {
+        keys.push(2)?;
+    }
+    Ok(Node {
+        name: QName {
+            space: text(alloc, "urn:ex")?,
+            name: text(alloc, name)?,
+        },
+        module: 0,
+        parent: above,
+        kind,
+        kind_of_value: 0,
+        keys,
+        uniques: Many::new(alloc),
+        mandatory: false,
+        defaults: Many::new(alloc),
+        least: 0,
+        most: None,
+        by_user: false,
+        cases: Many::new(alloc),
+        deny: Deny::Nothing,
+    })
+}
+
+fn put(schema: &mut Schema, node: Node) -> Result<(), Memory> {
+    let count = schema.nodes();
+    if count > 1000 {
+        return Err(Memory);
+    }
+    if let Some(above) = node.parent {
+        if above >= count {
+            return Err(Memory);
+        }
+    }
+    schema.add_node(node)?;
+    Ok(())
+}
+
+fn schema(alloc: Global) -> Result<Schema, Memory> {
+    let mut schema = Schema::new(alloc);
+    put(&mut schema, node(alloc, "users", None, Kind::Container { presence: false })?)?;
+    put(&mut schema, node(alloc, "user", Some(0), Kind::List)?)?;
+    put(&mut schema, node(alloc, "name", Some(1), Kind::Leaf)?)?;
+    put(&mut schema, node(alloc, "type", Some(1), Kind::Leaf)?)?;
+    Ok(schema)
+}
+
+fn step(alloc: Global, node: u32) -> Step {
+    Step {
+        node,
+        keys: Many::new(alloc),
+    }
+}
+
+fn steps(alloc: Global, name: &str, leaf: Option<u32>) -> Result<Path, Memory> {
+    let mut keys = Many::new(alloc);
+    keys.push(text(alloc, name)?)?;
+    let mut steps = Many::new(alloc);
+    steps.push(step(alloc, 0))?;
+    steps.push(Step { node: 1, keys })?;
+    if let Some(leaf) = leaf {
+        steps.push(step(alloc, leaf))?;
+    }
+    Ok(Path { steps })
+}
+
+fn push_entry(alloc: Global, rows: &mut Many<Row>, name: &str) -> Result<(), Memory> {
+    rows.push(Row {
+        path: steps(alloc, name, None)?,
+        value: None,
+    })?;
+    rows.push(Row {
+        path: steps(alloc, name, Some(2))?,
+        value: Some(text(alloc, name)?),
+    })?;
+    rows.push(Row {
+        path: steps(alloc, name, Some(3))?,
+        value: Some(text(alloc, "admin")?),
+    })
+}
+
+fn config(alloc: Global, schema: &Schema, count: u64) -> Result<Config, Memory> {
+    let mut rows = Many::new(alloc);
+    for number in 0..count {
+        let name = format!(in alloc; "u{}", number.saturating_add(100_000))?;
+        push_entry(alloc, &mut rows, name.as_str())?;
+    }
+    let mut config = Config::empty(alloc);
+    let top = Path {
+        steps: Many::new(alloc),
+    };
+    config.set_block(schema, &top, &Place::Kept, rows)?;
+    Ok(config)
+}
+
+/// A filter of so many copies of an element, in which `#` is the number of the copy.
+fn filter(alloc: Global, element: &str, count: u64) -> Result<String, Memory> {
+    let mut out = format!(in alloc; "<filter xmlns=\"urn:ex\"><users>")?;
+    let (front, back) = element.split_once('#').unwrap_or((element, ""));
+    for number in 0..count {
+        if back.is_empty() {
+            out.push_str(front)?;
+        } else {
+            let part = format!(in alloc; "{}{}{}", front, number.saturating_add(100_000), back)?;
+            out.push_str(part.as_str())?;
+        }
+    }
+    out.push_str("</users></filter>")?;
+    Ok(out)
+}
+
+fn timed(
+    alloc: Global,
+    rt: &HostRuntime,
+    schema: &Schema,
+    config: &Config,
+    element: &str,
+    count: u64,
+) -> io::Result<()> {
+    let Ok(filter) = filter(alloc, element, count) else {
+        return println!(rt; "out of memory");
+    };
+    let Ok(tree) = read_message(alloc, filter.as_str().as_bytes()) else {
+        return println!(rt; "not read");
+    };
+    let start = Instant::now(rt)?;
+    let kept = match select(alloc, schema, &tree.root, config) {
+        Ok(rows) => rows.len(),
+        Err(_) => 0,
+    };
+    let micros = start.elapsed(rt)?.as_micros();
+    println!(rt; "{count} of {element}: {kept} rows in {micros} us")
+}
+
+const ELEMENTS: [(&str, u64); 8] = [
+    ("<user><name>u#</name></user>", 1_000),
+    ("<user><name>u#</name></user>", 10_000),
+    ("<a/>", 10_000),
+    ("<user><a/></user>", 10_000),
+    ("<user><name/></user>", 10_000),
+    ("<user><type>admin</type><a/></user>", 10_000),
+    ("<user><type>admin</type><name>u#</name></user>", 10_000),
+    ("<user><type>x#</type><a/></user>", 10_000),
+];
+
+fn main(rt: HostRuntime) -> io::Result<()> {
+    let alloc = rt.alloc();
+    let Ok(schema) = schema(alloc) else {
+        return println!(rt; "out of memory");
+    };
+    let Ok(config) = config(alloc, &schema, 10_000) else {
+        return println!(rt; "out of memory");
+    };
+    for (element, count) in ELEMENTS {
+        timed(alloc, &rt, &schema, &config, element, count)?;
+    }
+    Ok(())
+}
+RT
+cd crates/bench_filters
+rt run >"$work/log" 2>&1 || { tail -20 "$work/log"; exit 1; }
+grep " us" "$work/log"

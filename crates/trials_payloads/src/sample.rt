@@ -101,6 +101,7 @@ fn put_module(rt: &impl Abort, alloc: Global, schema: &mut Schema) {
         revision: Text::new(alloc),
         features: Many::new(alloc),
     };
+    assert!(rt; schema.modules().len() < 1000);
     schema.add_module(ex).expect(rt, "memory");
 }
 
@@ -135,7 +136,6 @@ fn put_types(rt: &impl Abort, alloc: Global, schema: &mut Schema) {
 /// The schema.
 pub fn schema(rt: &impl Abort, alloc: Global) -> Schema {
     let mut schema = Schema::new(alloc);
-    put_module(rt, alloc, &mut schema);
     let choice = Choice {
         parent: Some(0),
         mandatory: false,
@@ -143,6 +143,7 @@ pub fn schema(rt: &impl Abort, alloc: Global) -> Schema {
         within: Many::new(alloc),
     };
     schema.add_choice(choice).expect(rt, "memory");
+    put_module(rt, alloc, &mut schema);
     put_types(rt, alloc, &mut schema);
     for line in NODES {
         put_node(rt, alloc, &mut schema, line);

@@ -189,17 +189,23 @@ fn choice(rt: &impl Abort, alloc: Global, parent: u32, within: bool) -> Choice {
     }
 }
 
-fn add_choices(rt: &impl Abort, alloc: Global, schema: &mut Schema) {
-    for (parent, within) in [(18, false), (18, true), (27, false)] {
-        let choice = choice(rt, alloc, parent, within);
-        schema.add_choice(choice).expect(rt, "memory");
-    }
+fn with_choices(rt: &impl Abort, alloc: Global) -> Schema {
+    let mut schema = Schema::new(alloc);
+    schema
+        .add_choice(choice(rt, alloc, 18, false))
+        .expect(rt, "memory");
+    schema
+        .add_choice(choice(rt, alloc, 18, true))
+        .expect(rt, "memory");
+    schema
+        .add_choice(choice(rt, alloc, 27, false))
+        .expect(rt, "memory");
+    schema
 }
 
 /// The schema.
 pub fn schema(rt: &impl Abort, alloc: Global) -> Schema {
-    let mut schema = Schema::new(alloc);
-    add_choices(rt, alloc, &mut schema);
+    let mut schema = with_choices(rt, alloc);
     for row in NODES {
         let count = schema.nodes();
         assert!(rt; count < 1000);

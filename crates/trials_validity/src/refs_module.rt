@@ -106,8 +106,10 @@ fn add_tables(rt: &impl Abort, alloc: Global, schema: &mut Schema) {
         revision: text(rt, alloc, ""),
         features: Many::new(alloc),
     };
+    assert!(rt; schema.modules().len() < 1000);
     schema.add_module(module).expect(rt, "memory");
     for value_type in types(alloc) {
+        assert!(rt; schema.types().len() < 1000);
         schema.add_type(value_type).expect(rt, "memory");
     }
 }

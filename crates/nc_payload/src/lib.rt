@@ -6,7 +6,7 @@
 //!
 //! The first two answer exactly what `edits_of` and `rows_of` define: the edits or rows, or the first fault
 //! in document order. `Names` answers for each path what `names_path` defines. Want of memory alone is
-//! free. The crate trials_payloads tests it.
+//! free.
 #![tactic(auto)]
 
 mod attributes;

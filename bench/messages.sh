@@ -1,6 +1,6 @@
 #!/usr/bin/env bash
 # Reads messages of 1 KB, 100 KB and 4 MB, of elements, of long text, and of attributes with prefixes, and then
-# messages that are made to be slow, and prints MB/s and the peak memory of each; xmllint's beside, where it is
+# messages that are made to be slow, and prints MB a second of processor and the peak memory of each; xmllint's beside, where it is
 # there. It makes a program in a clone of the repository, in a temporary folder, proves it and runs it there.
 set -euo pipefail
 top=$(cd "$(dirname "$0")/.." && pwd)
@@ -54,11 +54,13 @@ times() {
 measure() {
   local name=$1 file=$2 bytes seconds memory
   bytes=$(stat -c %s "$file")
-  read -r seconds memory < <({ /usr/bin/time -f '%e %M' "$program" <"$file" >"$work/said"; } 2>&1)
+  /usr/bin/time -o "$work/used" -f '%U %S %M' "$program" <"$file" >"$work/said"
+  read -r seconds memory < <(awk '{ print $1 + $2, $3 }' "$work/used")
   printf '%-36s %8d bytes %7.2f MB/s %7d KB  %s\n' "$name" "$bytes" \
     "$(echo "$bytes $seconds" | awk '{ print $1 / 1000000 / ($2 > 0 ? $2 : 0.01) }')" "$memory" "$(cat "$work/said")"
   if command -v xmllint >/dev/null && [ "$(wc -l <"$file")" = 1 ]; then
-    read -r seconds memory < <({ /usr/bin/time -f '%e %M' xmllint --huge --noout "$file" 2>/dev/null; } 2>&1)
+    /usr/bin/time -o "$work/used" -f '%U %S %M' xmllint --huge --noout "$file" 2>/dev/null || true
+    read -r seconds memory < <(awk '{ print $1 + $2, $3 }' "$work/used")
     printf '%-36s %8s       %7.2f MB/s %7d KB\n' "  xmllint" "" \
       "$(echo "$bytes $seconds" | awk '{ print $1 / 1000000 / ($2 > 0 ? $2 : 0.01) }')" "$memory"
   fi

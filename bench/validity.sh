@@ -1,24 +1,15 @@
 #!/usr/bin/env bash
-# Times `nc_validate::first_structural` over lists of 1,000, 10,000 and 100,000 entries with two `unique` statements and
-# bounds. It clones this repository into a temporary folder, puts a small program beside the crates there, proves it and
-# runs it.
+# Times `nc_validate::first_structural` and `nc_refs::first_reference` over lists of 1,000, 10,000 and 100,000 entries
+# with two `unique` statements, `min-elements` and `max-elements`, and as many leafrefs into them.
 set -euo pipefail
-top=$(git -C "$(dirname "$0")" rev-parse --show-toplevel)
-work=$(mktemp -d)
-trap 'rm -rf "$work"' EXIT
-git clone -q "$top" "$work/clone"
-cd "$work/clone"
-rt new crates/bench_validity start_io >/dev/null 2>&1
-rm -rf crates/bench_validity/src crates/bench_validity/specs crates/bench_validity/proofs
-rm -f crates/bench_validity/stdin crates/bench_validity/stdout crates/bench_validity/BUILD.bazel
-mkdir -p crates/bench_validity/src
-echo 'bench_validity: nc_names nc_schema nc_tree nc_validate' >>crates.txt
-cat >crates/bench_validity/src/main.rt <<'RT'
-//! Times the structural constraints over a list of entries with `unique`, `min-elements` and `max-elements`.
+exec "$(dirname "$0")/program" validity 'nc_names nc_schema nc_tree nc_validate nc_refs' <<'RT'
+//! Times the constraints over a list of ports with `unique`, `min-elements` and `max-elements`, and a list of links
+//! with a leafref each.
 #![tactic(auto)]
 
-use nc_names::{Many, Memory, Path, Place, QName, Row, Step, Text};
-use nc_schema::{Deny, Kind, Node, Schema};
+use nc_names::{Many, Memory, Path, QName, Row, Step, Text};
+use nc_refs::first_reference;
+use nc_schema::{Deny, Kind, Node, Schema, ValueType};
 use nc_tree::Config;
 use nc_validate::first_structural;
 use std::alloc::Global;
@@ -51,7 +42,7 @@ fn node(alloc: Global, name: &str, above: Option<u32>, kind: Kind) -> Result<Nod
     })
 }
 
-fn list(alloc: Global) -> Result<Node, Memory> {
+fn ports(alloc: Global) -> Result<Node, Memory> {
     let mut list = node(alloc, "port", None, Kind::List)?;
     list.keys.push(1)?;
     let mut first = Many::new(alloc);
@@ -62,7 +53,13 @@ fn list(alloc: Global) -> Result<Node, Memory> {
     second.push(3)?;
     list.uniques.push(second)?;
     list.least = 1;
-    list.most = Some(20_000);
+    list.most = Some(200_000);
+    Ok(list)
+}
+
+fn links(alloc: Global) -> Result<Node, Memory> {
+    let mut list = node(alloc, "link", None, Kind::List)?;
+    list.keys.push(5)?;
     Ok(list)
 }
 
@@ -80,20 +77,40 @@ fn put(schema: &mut Schema, node: Node) -> Result<(), Memory> {
     Ok(())
 }
 
+fn put_type(schema: &mut Schema, value_type: ValueType) -> Result<u32, Memory> {
+    if schema.types().len() > 1000 {
+        return Err(Memory);
+    }
+    schema.add_type(value_type)
+}
+
 fn schema(alloc: Global) -> Result<Schema, Memory> {
     let mut schema = Schema::new(alloc);
-    put(&mut schema, list(alloc)?)?;
+    put_type(&mut schema, ValueType::Chars {
+        lengths: Many::new(alloc),
+        starless: false,
+    })?;
+    let to_port = put_type(&mut schema, ValueType::Leafref {
+        target: 1,
+        above: None,
+        required: true,
+    })?;
+    put(&mut schema, ports(alloc)?)?;
     put(&mut schema, node(alloc, "name", Some(0), Kind::Leaf)?)?;
     put(&mut schema, node(alloc, "tag", Some(0), Kind::Leaf)?)?;
     put(&mut schema, node(alloc, "zone", Some(0), Kind::Leaf)?)?;
+    put(&mut schema, links(alloc)?)?;
+    let mut key = node(alloc, "port", Some(4), Kind::Leaf)?;
+    key.kind_of_value = to_port;
+    put(&mut schema, key)?;
     Ok(schema)
 }
 
-fn steps(alloc: Global, name: &str, leaf: Option<u32>) -> Result<Path, Memory> {
+fn path(alloc: Global, list: u32, name: &str, leaf: Option<u32>) -> Result<Path, Memory> {
     let mut keys = Many::new(alloc);
     keys.push(text(alloc, name)?)?;
     let mut steps = Many::new(alloc);
-    steps.push(Step { node: 0, keys })?;
+    steps.push(Step { node: list, keys })?;
     if let Some(node) = leaf {
         steps.push(Step {
             node,
@@ -103,48 +120,74 @@ fn steps(alloc: Global, name: &str, leaf: Option<u32>) -> Result<Path, Memory> {
     Ok(Path { steps })
 }
 
-fn push_leaf(alloc: Global, rows: &mut Many<Row>, name: &str, leaf: u32, value: &str) -> Result<(), Memory> {
-    rows.push(Row {
-        path: steps(alloc, name, Some(leaf))?,
+fn entry(alloc: Global, list: u32, name: &str) -> Result<Row, Memory> {
+    Ok(Row {
+        path: path(alloc, list, name, None)?,
+        value: None,
+    })
+}
+
+fn leaf(alloc: Global, list: u32, name: &str, leaf: u32, value: &str) -> Result<Row, Memory> {
+    Ok(Row {
+        path: path(alloc, list, name, Some(leaf))?,
         value: Some(text(alloc, value)?),
     })
 }
 
-fn push_entry(alloc: Global, rows: &mut Many<Row>, name: &str) -> Result<(), Memory> {
-    rows.push(Row {
-        path: steps(alloc, name, None)?,
-        value: None,
-    })?;
-    push_leaf(alloc, rows, name, 1, name)?;
-    push_leaf(alloc, rows, name, 2, name)?;
-    push_leaf(alloc, rows, name, 3, "z")
+fn push_port(alloc: Global, rows: &mut Many<Row>, name: &str) -> Result<(), Memory> {
+    rows.push(entry(alloc, 0, name)?)?;
+    rows.push(leaf(alloc, 0, name, 1, name)?)?;
+    rows.push(leaf(alloc, 0, name, 2, name)?)?;
+    rows.push(leaf(alloc, 0, name, 3, "z")?)
 }
 
-fn config(alloc: Global, schema: &Schema, count: u64) -> Result<Config, Memory> {
+fn push_link(alloc: Global, rows: &mut Many<Row>, name: &str) -> Result<(), Memory> {
+    rows.push(entry(alloc, 4, name)?)?;
+    rows.push(leaf(alloc, 4, name, 5, name)?)
+}
+
+fn name_of(alloc: Global, number: u64) -> Result<Text, Memory> {
+    let name = format!(in alloc; "p{}", number.saturating_add(1_000_000))?;
+    text(alloc, name.as_str())
+}
+
+fn config(alloc: Global, count: u64) -> Result<Config, Memory> {
     let mut rows = Many::new(alloc);
     for number in 0..count {
-        let name = format!(in alloc; "p{}", number.saturating_add(100_000))?;
-        push_entry(alloc, &mut rows, name.as_str())?;
+        push_port(alloc, &mut rows, name_of(alloc, number)?.as_str())?;
     }
-    let mut config = Config::empty(alloc);
-    let top = Path {
-        steps: Many::new(alloc),
-    };
-    config.set_block(schema, &top, &Place::Kept, rows)?;
-    Ok(config)
+    for number in 0..count {
+        push_link(alloc, &mut rows, name_of(alloc, number)?.as_str())?;
+    }
+    Ok(Config::from_rows(rows))
 }
 
-fn timed(alloc: Global, rt: &HostRuntime, schema: &Schema, count: u64) -> io::Result<()> {
-    let Ok(config) = config(alloc, schema, count) else {
-        return println!(rt; "out of memory");
-    };
+fn structure(alloc: Global, rt: &HostRuntime, schema: &Schema, config: &Config, count: u64) -> io::Result<()> {
     let start = Instant::now(rt)?;
-    let is_valid = match first_structural(alloc, schema, &config) {
+    let is_valid = match first_structural(alloc, schema, config) {
         Ok(found) => found.is_none(),
         Err(_) => false,
     };
     let micros = start.elapsed(rt)?.as_micros();
-    println!(rt; "{count} entries in {micros} us, valid: {is_valid}")
+    println!(rt; "structure, {count} ports: {micros} us, valid: {is_valid}")
+}
+
+fn references(alloc: Global, rt: &HostRuntime, schema: &Schema, config: &Config, count: u64) -> io::Result<()> {
+    let start = Instant::now(rt)?;
+    let is_valid = match first_reference(alloc, schema, config) {
+        Ok(found) => found.is_none(),
+        Err(_) => false,
+    };
+    let micros = start.elapsed(rt)?.as_micros();
+    println!(rt; "references, {count} links: {micros} us, valid: {is_valid}")
+}
+
+fn timed(alloc: Global, rt: &HostRuntime, schema: &Schema, count: u64) -> io::Result<()> {
+    let Ok(config) = config(alloc, count) else {
+        return println!(rt; "out of memory");
+    };
+    structure(alloc, rt, schema, &config, count)?;
+    references(alloc, rt, schema, &config, count)
 }
 
 fn main(rt: HostRuntime) -> io::Result<()> {
@@ -158,6 +201,3 @@ fn main(rt: HostRuntime) -> io::Result<()> {
     Ok(())
 }
 RT
-cd crates/bench_validity
-rt run >"$work/log" 2>&1 || { tail -20 "$work/log"; exit 1; }
-grep " us" "$work/log"

@@ -1,20 +1,8 @@
 #!/usr/bin/env bash
 # Times `nc_types::canonical` over 1,000,000 short integers, and over one string of 1, 2 and 4 MB, one set of
-# bits and one union of as much text. It clones this repository into a temporary folder, puts a small program
-# beside the crates there, proves it and runs it.
+# bits and one union of as much text.
 set -euo pipefail
-
-top=$(git -C "$(dirname "$0")" rev-parse --show-toplevel)
-work=$(mktemp -d)
-trap 'rm -rf "$work"' EXIT
-git clone -q "$top" "$work/clone"
-cd "$work/clone"
-rt new crates/bench_values start_io >/dev/null 2>&1
-rm -rf crates/bench_values/src crates/bench_values/specs crates/bench_values/proofs
-rm -f crates/bench_values/stdin crates/bench_values/stdout crates/bench_values/BUILD.bazel
-mkdir -p crates/bench_values/src
-echo 'bench_values: nc_names nc_schema nc_types' >>crates.txt
-cat >crates/bench_values/src/main.rt <<'RT'
+exec "$(dirname "$0")/program" values 'nc_names nc_schema nc_types' <<'RT'
 // Times the canonical texts of values.
 #![tactic(auto)]
 
@@ -138,6 +126,3 @@ fn main(rt: HostRuntime) -> io::Result<()> {
     measure_long(&rt, &schema, "a union", 3, "0123456789")
 }
 RT
-cd crates/bench_values
-rt run >"$work/log" 2>&1 || { tail -20 "$work/log"; exit 1; }
-grep " us$" "$work/log"

@@ -1,8 +1,7 @@
 -- What stands at a path below a node, and what becomes of it.
-use Rattle.std.proofs.Common.{◌≡◌, ◌||◌, Bool, true, false, cond, not, List, [], ◌∷◌, Option, Some, None, refl, sym, ap, ◌∙◌}
+use Rattle.std.proofs.Common.{◌≡◌, ◌||◌, Bool, true, false, cond, not, List, [], ◌∷◌, Some, None, refl, ap, ◌∙◌}
 use Rattle.std.specs.Option.{is_none, option_map_or}
-use Rattle.std.specs.Cmp.Lexicographic.{pointwise_decides}
-use Rattle.nc_names.proofs.SameLemmas.{step_decide}
+use Rattle.nc_names.proofs.StepOrder.{same_path}
 use Rattle.nc_names.specs.Same.{is_at_or_below, is_same_path, is_same_value}
 use Rattle.nc_names.specs.declared.path.Path.{Path}
 use Rattle.nc_names.specs.declared.path.Right.TheVariants.{Create as MayCreate, Update as MayUpdate}
@@ -11,12 +10,9 @@ use Rattle.nc_names.specs.declared.path.Step.{Step}
 use Rattle.nc_schema.specs.Blocks.{row_at}
 use Rattle.nc_schema.specs.Standing.{block_at}
 use Rattle.nc_schema.specs.Tables.{Tables}
-use Rattle.nc_model.specs.Changes.{has_moved, is_missing}
-use Rattle.nc_model.specs.Edited.{Change, change_at}
+use Rattle.nc_model.specs.Changes.{has_moved}
+use Rattle.nc_model.specs.Edited.{change_at}
 use Rattle.nc_changes.proofs.FoundLemmas.{missing_is}
-
-same_path : (a b : List Step) → is_same_path a b ≡ true → a ≡ b
-same_path a b e = (pointwise_decides step_decide a b).0 e
 
 -- the row at a path below a node is one of those at and below it
 pub found_below : (rows : List Row) (steps : List Step) (path : Path) → is_at_or_below steps path ≡ true → row_at (block_at rows steps) path.steps ≡ row_at rows path.steps

@@ -6,13 +6,13 @@ use Rattle.std.specs.BTreeMap.{BTreeMap, get}
 use Rattle.std.specs.Ordering.{is_eq}
 use Rattle.std.proofs.lemmas.List.{append-nil}
 use Rattle.std.proofs.lemmas.List.Elements.{filter-append}
+use Rattle.nc_names.proofs.StepOrder.{order_ties, same_path}
 use Rattle.nc_names.specs.Same.{is_same_path}
 use Rattle.nc_names.specs.declared.path.Row.{Row}
 use Rattle.nc_names.specs.declared.path.Step.{Step}
 use Rattle.nc_schema.specs.Blocks.{above_last}
 use Rattle.nc_filter.specs.inner.Frames.{children}
 use Rattle.nc_filter.specs.inner.Tables.{IsIndex, in_table, order, without}
-use Rattle.nc_filter.proofs.StepLemmas.{order_ties, same_path}
 
 pub nothing_indexed : (table : BTreeMap (Bor (List Step)) (List (Bor Row))) → ((key : Bor (List Step)) → get order table key ≡ None) → IsIndex table []
 nothing_indexed table none key = ap (λ o. map (λ row. row.now) (option_map_or (λ inside. inside) o [])) (none key)
@@ -29,7 +29,7 @@ module _ (table left now : BTreeMap (Bor (List Step)) (List (Bor Row))) (key : B
     where
       looked : (b : Bool) → is_same_path key.now other.now ≡ b → get order now other ≡ cond b (Some (in_table table key ++ row ∷ [])) (cond b None (get order table other))
       looked b e =
-          let is : is_eq (order key other) ≡ b = order_ties key other ∙ e in
+          let is : is_eq (order key other) ≡ b = order_ties key.now other.now ∙ e in
           put other ∙ (λ i. cond (is i) (Some (in_table table key ++ row ∷ [])) (get order left other)) ∙ ap (λ o. cond b (Some (in_table table key ++ row ∷ [])) o)
           (taken other ∙ (λ i. cond (is i) None (get order table other)))
 

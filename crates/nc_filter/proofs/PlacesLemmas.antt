@@ -6,15 +6,16 @@ use Rattle.std.specs.BTreeSet.{BTreeSet, contains}
 use Rattle.std.specs.Ordering.{is_eq}
 use Rattle.std.proofs.lemmas.List.{take_more}
 use Rattle.std.proofs.lemmas.List.Folds.{list_any-append}
+use Rattle.nc_names.proofs.StepOrder.{order_ties}
 use Rattle.nc_names.specs.Same.{is_at_or_below, is_same_path}
 use Rattle.nc_names.specs.declared.path.Row.{Row}
 use Rattle.nc_names.specs.declared.path.Step.{Step}
 use Rattle.nc_filter.specs.inner.Tables.{AddsPlace, AddsPlaces, ArePlaces, order}
-use Rattle.nc_filter.proofs.StepLemmas.{below_push, below_root, order_ties}
+use Rattle.nc_filter.proofs.StepLemmas.{below_push, below_root}
 
 pub place_added : (before now : BTreeSet (Bor (List Step))) (steps : Bor (List Step)) →
     ((key : Bor (List Step)) → contains order now key ≡ cond (is_eq (order steps key)) true (contains order before key)) → AddsPlace before now steps.now
-place_added before now steps put key = put key ∙ ap (λ b. cond b true (contains order before key)) (order_ties steps key) ∙ by (is_same_path steps.now key.now) (contains order before key)
+place_added before now steps put key = put key ∙ ap (λ b. cond b true (contains order before key)) (order_ties steps.now key.now) ∙ by (is_same_path steps.now key.now) (contains order before key)
   where
     by : (b c : Bool) → cond b true c ≡ (b || c)
     by true c = refl

@@ -6,6 +6,7 @@ use Rattle.std.specs.Option.{option_map_or}
 use Rattle.std.proofs.lemmas.List.{append_assoc}
 use Rattle.std.proofs.lemmas.List.Folds.{list_any-append}
 use Rattle.nc_message.specs.declared.tree.Elem.{Elem}
+use Rattle.nc_names.proofs.StepOrder.{same_path, same_itself}
 use Rattle.nc_names.specs.Same.{is_same_path}
 use Rattle.nc_names.specs.declared.path.Row.{Row}
 use Rattle.nc_names.specs.declared.path.Step.{Step}
@@ -16,7 +17,6 @@ use Rattle.nc_model.proofs.FilterLemmas.{above_of_last, above_longer}
 use Rattle.nc_model.proofs.ListLemmas.{too_long}
 use Rattle.nc_filter.specs.inner.Frames.{State, at_end, children, entered, fits, is_part_met, is_selected, next, opening}
 use Rattle.nc_filter.proofs.LevelLemmas.{level_holds}
-use Rattle.nc_filter.proofs.StepLemmas.{same_path, same_itself}
 
 or_false : (b : Bool) → (b || false) ≡ b
 or_false true = refl

@@ -1,21 +1,13 @@
 -- Steps to nodes: the steps but the last, and whether two lists of steps are the same.
-use Rattle.std.proofs.Common.{◌≡◌, ◌-◌, ◌||◌, ◌&&◌, ℕ, suc, Bool, true, false, List, [], ◌∷◌, ◌++◌, take, length, refl, sym, ap, ◌∙◌, ◌⊎◌, inl, inr, arith, Bor}
+use Rattle.std.proofs.Common.{◌≡◌, ◌-◌, ◌||◌, ◌&&◌, ℕ, suc, Bool, true, false, List, [], ◌∷◌, ◌++◌, take, length, refl, sym, ap, ◌∙◌, ◌⊎◌, inl, inr, arith}
 use Rattle.std.proofs.lemmas.List.{append-nil, append_assoc}
-use Rattle.std.specs.Cmp.Lexicographic.{lists_ties, pointwise_decides, slice_cmp}
-use Rattle.std.specs.Ordering.{is_eq, nat_cmp, eq_by_cmp, ordering_then}
-use Rattle.std.specs.Cmp.{unsigned_tied}
-use Rattle.std.specs.declared.cmp.Ordering.{Ordering}
-use Rattle.std.specs.declared.cmp.Ordering.TheVariants.{Less, Equal, Greater}
-use Rattle.std.proofs.lemmas.Map.Text.{is_eq-slice_cmp}
-use Rattle.nc_names.specs.contracts.path.StepOrd.TheImpl.{ghosts}
-use Rattle.nc_names.proofs.SameLemmas.{step_decide}
-use Rattle.nc_names.specs.Same.{is_at_or_below, is_same_path, is_same_step}
+use Rattle.nc_names.proofs.StepOrder.{same_path}
+use Rattle.nc_names.specs.Same.{is_at_or_below, is_same_path}
 use Rattle.nc_names.specs.declared.path.Path.{Path}
 use Rattle.nc_names.specs.declared.path.Step.{Step}
 use Rattle.nc_schema.specs.Blocks.{above_last, above_from}
 use Rattle.nc_model.proofs.ListLemmas.{last_cut}
 use Rattle.nc_model.proofs.PlaceLemmas.{below_is_below}
-use Rattle.nc_filter.specs.inner.Tables.{order}
 
 take_from : (step : Step) (steps : List Step) → take (length steps) (step ∷ steps) ≡ above_from step steps
 take_from step [] = refl
@@ -30,25 +22,6 @@ take_above (step ∷ steps) = ap (λ n. take n (step ∷ steps)) less ∙ take_f
   where
     less : length (step ∷ steps) - 1 ≡ length steps
     less = omega arith
-
-is_eq_then : (a b : Ordering) → is_eq (ordering_then a b) ≡ (is_eq a && is_eq b)
-is_eq_then Less b = refl
-is_eq_then Equal b = refl
-is_eq_then Greater b = refl
-
-step_ties : (x y : Step) → is_same_step x y ≡ eq_by_cmp ghosts.cmp x y
-step_ties x y = sym (is_eq_then (nat_cmp x.node y.node) (slice_cmp (slice_cmp nat_cmp) x.keys y.keys)
-    ∙ (λ i. unsigned_tied x.node y.node i && sym (lists_ties (slice_cmp nat_cmp) (λ a b. sym (is_eq-slice_cmp a b)) x.keys y.keys) i))
-
--- the order says that two lists of steps are the same where they are
-pub order_ties : (key other : Bor (List Step)) → is_eq (order key other) ≡ is_same_path key.now other.now
-order_ties key other = sym (lists_ties ghosts.cmp step_ties key.now other.now)
-
-pub same_path : (a b : List Step) → is_same_path a b ≡ true → a ≡ b
-same_path a b e = (pointwise_decides step_decide a b).0 e
-
-pub same_itself : (a b : List Step) → a ≡ b → is_same_path a b ≡ true
-same_itself a b e = (pointwise_decides step_decide a b).1 e
 
 -- two tests say the same where each implies the other
 pub same_test : (a b : Bool) → (a ≡ true → b ≡ true) → (b ≡ true → a ≡ true) → a ≡ b

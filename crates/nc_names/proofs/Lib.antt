@@ -1,3 +1,4 @@
 pub mod Extending
 pub mod SameLemmas
+pub mod StepOrder
 pub mod Worked

@@ -4,12 +4,8 @@ use Rattle.std.proofs.lemmas.Bool.{eqb-true}
 use Rattle.std.proofs.lemmas.List.Folds.{list_any-append}
 use Rattle.std.specs.List.{list_any}
 use Rattle.std.specs.BTreeSet.{BTreeSet, contains}
-use Rattle.std.specs.Cmp.Lexicographic.{lists_ties, slice_cmp}
-use Rattle.std.specs.Ordering.{is_eq, nat_cmp, ordering_then}
-use Rattle.std.specs.Cmp.{unsigned_tied}
-use Rattle.std.specs.declared.cmp.Ordering.{Ordering}
-use Rattle.std.specs.declared.cmp.Ordering.TheVariants.{Less, Equal, Greater}
-use Rattle.std.proofs.lemmas.Map.Text.{is_eq-slice_cmp}
+use Rattle.std.specs.Ordering.{is_eq}
+use Rattle.nc_names.proofs.StepOrder.{step_ties}
 use Rattle.nc_names.specs.contracts.path.StepOrd.TheImpl.{ghosts}
 use Rattle.nc_names.specs.Same.{is_same_step}
 use Rattle.nc_names.specs.declared.path.Step.{Step}
@@ -20,16 +16,6 @@ use Rattle.nc_schema.specs.declared.node.Node.{Node}
 use Rattle.nc_model.specs.Faults.{clashes, stands_once}
 use Rattle.nc_model.specs.declared.position.Under.{Under}
 use Rattle.nc_payload.specs.inner.Earlier.{AddsNumber, AddsStep, AreNumbersOf, AreStepsOf}
-
-is_eq_then : (a b : Ordering) → is_eq (ordering_then a b) ≡ (is_eq a && is_eq b)
-is_eq_then Less b = refl
-is_eq_then Equal b = refl
-is_eq_then Greater b = refl
-
--- the order says that two steps are the same where they are
-pub step_ties : (x y : Step) → is_eq (ghosts.cmp x y) ≡ is_same_step x y
-step_ties x y = is_eq_then (nat_cmp x.node y.node) (slice_cmp (slice_cmp nat_cmp) x.keys y.keys)
-    ∙ (λ i. unsigned_tied x.node y.node i && sym (lists_ties (slice_cmp nat_cmp) (λ a b. sym (is_eq-slice_cmp a b)) x.keys y.keys) i)
 
 turned : (s b : Bool) → cond s true b ≡ (b || s)
 turned true true = refl

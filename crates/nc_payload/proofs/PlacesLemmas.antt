@@ -5,10 +5,8 @@ use Rattle.std.proofs.lemmas.List.Folds.{list_any-append}
 use Rattle.std.specs.List.{flat_map}
 use Rattle.std.specs.Prelude.{Result, Ok, Err, IfOk, option_map}
 use Rattle.std.specs.BTreeSet.{BTreeSet, contains}
-use Rattle.std.specs.Cmp.Lexicographic.{lists_ties, pointwise_decides}
 use Rattle.std.specs.Ordering.{is_eq}
-use Rattle.nc_names.specs.contracts.path.StepOrd.TheImpl.{ghosts}
-use Rattle.nc_names.proofs.SameLemmas.{step_decide}
+use Rattle.nc_names.proofs.StepOrder.{order_ties, same_itself, same_path}
 use Rattle.nc_names.specs.Same.{is_at_or_below, is_same_path}
 use Rattle.nc_names.specs.declared.memory.Memory.{Memory as NoMemory}
 use Rattle.nc_names.specs.declared.path.Path.{Path}
@@ -27,11 +25,6 @@ use Rattle.nc_model.proofs.ListLemmas.{last_cut}
 use Rattle.nc_model.proofs.PlaceLemmas.{below_is_below}
 use Rattle.nc_payload.specs.declared.payload_paths.Places.{Places}
 use Rattle.nc_payload.specs.inner.Places.{AddsPlace, AddsPlaces, HasAbove, ends_at, has, inside_places, is_above_any, order}
-use Rattle.nc_payload.proofs.EarlierLemmas.{step_ties}
-
--- the order says that two lists of steps are the same where they are
-order_ties : (key other : List Step) → is_eq (order key other) ≡ is_same_path key other
-order_ties key other = sym (lists_ties ghosts.cmp (λ x y. sym (step_ties x y)) key other)
 
 turned : (s b : Bool) → cond s true b ≡ (b || s)
 turned true true = refl
@@ -45,12 +38,6 @@ items_added before after steps put key =
     put key ∙ ap (λ b. cond b true (contains order before key)) (order_ties steps key) ∙ turned (is_same_path steps key) (contains order before key)
 
 -- ---- a node and those above it
-same_path : (a b : List Step) → is_same_path a b ≡ true → a ≡ b
-same_path a b e = (pointwise_decides step_decide a b).0 e
-
-same_itself : (a b : List Step) → a ≡ b → is_same_path a b ≡ true
-same_itself a b e = (pointwise_decides step_decide a b).1 e
-
 same_test : (a b : Bool) → (a ≡ true → b ≡ true) → (b ≡ true → a ≡ true) → a ≡ b
 same_test true b there back = sym (there refl)
 same_test false true there back = back refl

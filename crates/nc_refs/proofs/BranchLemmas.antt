@@ -3,14 +3,10 @@ use Rattle.std.proofs.Common.{◌≡◌, ◌&&◌, ℕ, Bool, true, false, cond,
 use Rattle.std.specs.Prelude.{is_some, IfSome, option_map, if◌then◌else◌}
 use Rattle.std.specs.List.{filter}
 use Rattle.std.specs.BTreeMap.{get, get_by}
-use Rattle.std.specs.Cmp.{unsigned_tied}
-use Rattle.std.specs.Cmp.Lexicographic.{lists_ties, slice_cmp}
 use Rattle.std.specs.Option.{option_or}
-use Rattle.std.specs.Ordering.{is_eq, nat_cmp, ordering_then}
-use Rattle.std.specs.declared.cmp.Ordering.{Ordering}
-use Rattle.std.specs.declared.cmp.Ordering.TheVariants.{Less, Equal, Greater}
+use Rattle.std.specs.Ordering.{is_eq}
 use Rattle.std.proofs.lemmas.Bool.Decides.{Decides-eqb}
-use Rattle.std.proofs.lemmas.Map.Text.{is_eq-slice_cmp}
+use Rattle.nc_names.proofs.StepOrder.{step_ties}
 use Rattle.nc_names.proofs.SameLemmas.{step_decide}
 use Rattle.nc_names.specs.Same.{is_same_step}
 use Rattle.nc_names.specs.contracts.path.StepOrd.TheImpl.{ghosts}
@@ -23,16 +19,6 @@ use Rattle.nc_schema.specs.declared.node.Kind.{Kind}
 use Rattle.nc_schema.specs.declared.node.Kind.TheVariants.{Container, Leaf, LeafList, List as ListKind}
 use Rattle.nc_defaults.specs.Within.{rows_between}
 use Rattle.nc_refs.specs.inner.Branches.{AddsFirst, IsSpan, Spans, first_part, part_at, step_order}
-
-is_eq_then : (a b : Ordering) → is_eq (ordering_then a b) ≡ (is_eq a && is_eq b)
-is_eq_then Less b = refl
-is_eq_then Equal b = refl
-is_eq_then Greater b = refl
-
--- the order says that two steps are the same where they are
-pub step_ties : (x y : Step) → is_eq (ghosts.cmp x y) ≡ is_same_step x y
-step_ties x y = is_eq_then (nat_cmp x.node y.node) (slice_cmp (slice_cmp nat_cmp) x.keys y.keys)
-    ∙ (λ i. unsigned_tied x.node y.node i && sym (lists_ties (slice_cmp nat_cmp) (λ a b. sym (is_eq-slice_cmp a b)) x.keys y.keys) i)
 
 or_none : {X : Type 0} (o : Option X) → option_or o None ≡ o
 or_none None = refl

@@ -5,6 +5,7 @@ use Rattle.std.specs.BTreeSet.{BTreeSet, contains}
 use Rattle.std.specs.Cmp.Lexicographic.{pointwise_decides}
 use Rattle.std.specs.List.{list_any, starts_with}
 use Rattle.std.specs.Ordering.{is_eq}
+use Rattle.nc_names.proofs.StepOrder.{order_ties}
 use Rattle.nc_names.proofs.SameLemmas.{first_true, second_true, both_true, step_decide, step_itself}
 use Rattle.nc_names.specs.Same.{is_at_or_below, is_same_path, is_same_step}
 use Rattle.nc_names.specs.declared.memory.Memory.{Memory}
@@ -15,7 +16,6 @@ use Rattle.nc_schema.specs.Tables.{Tables}
 use Rattle.nc_schema.specs.Violations.{is_named_node}
 use Rattle.nc_refs.specs.inner.Named.{AllExist, left_above, names, names_along}
 use Rattle.nc_refs.specs.inner.Trails.{order}
-use Rattle.nc_refs.proofs.TrailLemmas.{order_ties}
 
 -- what is below a node is below those above it
 shorter : (n : ℕ) (steps whole : List Step) → starts_with is_same_step whole steps ≡ true → starts_with is_same_step whole (take n steps) ≡ true
@@ -63,7 +63,7 @@ node_added before now steps rows put all there key has = by (is_same_path steps.
   where
     by : (same : Bool) → is_same_path steps.now key.now ≡ same → exists rows key.now ≡ true
     by true e = subst (λ (ss : List Step). exists rows ss ≡ true) ((pointwise_decides step_decide steps.now key.now).0 e) there
-    by false e = all key (sym (put key ∙ ap (λ b. cond b true (contains order before key)) (order_ties steps key ∙ e)) ∙ has)
+    by false e = all key (sym (put key ∙ ap (λ b. cond b true (contains order before key)) (order_ties steps.now key.now ∙ e)) ∙ has)
 
 -- a text that names one of the nodes above a row, or the row's own, is among those along it
 any_map : {X Y : Type 0} (p : Y → Bool) (f : X → Y) (xs : List X) → list_any p (map f xs) ≡ list_any (λ x. p (f x)) xs

@@ -2,12 +2,12 @@
 use Rattle.std.proofs.Common.{◌≡◌, ◌+◌, ◌++◌, ◌<◌, ℕ, zero, suc, Bool, true, false, cond, List, [], ◌∷◌, Option, Some, None, length, take, get_or, refl, sym, ap, subst, ◌∙◌, Bor}
 use Rattle.std.specs.Prelude.{IfSome, option_map, option_and_then}
 use Rattle.std.specs.BTreeMap.{BTreeMap, get}
-use Rattle.std.specs.Cmp.Lexicographic.{lists_ties, pointwise_decides}
+use Rattle.std.specs.Cmp.Lexicographic.{pointwise_decides}
 use Rattle.std.specs.Ordering.{is_eq}
 use Rattle.std.proofs.lemmas.List.{take_more}
+use Rattle.nc_names.proofs.StepOrder.{order_ties}
 use Rattle.nc_names.proofs.SameLemmas.{step_decide}
 use Rattle.nc_names.specs.Same.{is_same_path}
-use Rattle.nc_names.specs.contracts.path.StepOrd.TheImpl.{ghosts}
 use Rattle.nc_names.specs.declared.path.Row.{Row}
 use Rattle.nc_names.specs.declared.path.Step.{Step}
 use Rattle.nc_schema.specs.Places.{Place, place_at, place_below, top_place}
@@ -15,10 +15,6 @@ use Rattle.nc_schema.specs.Tables.{Tables}
 use Rattle.nc_defaults.specs.declared.here.Here.{Here}
 use Rattle.nc_defaults.specs.Within.{IsWithin, place_here}
 use Rattle.nc_refs.specs.inner.Trails.{IsReached, order}
-use Rattle.nc_refs.proofs.BranchLemmas.{step_ties}
-
-pub order_ties : (key other : Bor (List Step)) → is_eq (order key other) ≡ is_same_path key.now other.now
-order_ties key other = sym (lists_ties ghosts.cmp (λ x y. sym (step_ties x y)) key.now other.now)
 
 -- what holds at each key still does with one entry more for which it does
 pub with_entry : {X : Type 0} (P : List Step → X → Type 0) (before now : BTreeMap (Bor (List Step)) X) (key : Bor (List Step)) (it : X) → P key.now it →
@@ -28,10 +24,10 @@ with_entry P before now key it is put each other = by (is_same_path key.now othe
   where
     by : (same : Bool) → is_same_path key.now other.now ≡ same → IfSome (get order now other) (P other.now)
     by true e =
-        let found = put other ∙ ap (λ b. cond b (Some it) (get order before other)) (order_ties key other ∙ e) in
+        let found = put other ∙ ap (λ b. cond b (Some it) (get order before other)) (order_ties key.now other.now ∙ e) in
         subst (λ o. IfSome o (P other.now)) (sym found) (subst (λ (steps : List Step). P steps it) ((pointwise_decides step_decide key.now other.now).0 e) is)
     by false e =
-        let found = put other ∙ ap (λ b. cond b (Some it) (get order before other)) (order_ties key other ∙ e) in
+        let found = put other ∙ ap (λ b. cond b (Some it) (get order before other)) (order_ties key.now other.now ∙ e) in
         subst (λ o. IfSome o (P other.now)) (sym found) (each other)
 
 and_some : {X : Type 0} (o : Option X) → option_and_then Some o ≡ o

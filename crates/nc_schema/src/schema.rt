@@ -56,6 +56,13 @@ impl Schema {
         self.modules.as_slice()
     }
 
+    /// The choices by their numbers.
+    pub fn choices(&self) -> &[Choice]
+        ensures { result.now ≡ self.now.choices }
+    {
+        self.choices.as_slice()
+    }
+
     /// The types by their numbers.
     pub fn types(&self) -> &[ValueType]
         ensures { result.now ≡ self.now.types }

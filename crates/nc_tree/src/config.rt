@@ -46,6 +46,13 @@ impl Config {
         }
     }
 
+    /// The configuration that has these rows. It takes no memory.
+    pub fn from_rows(rows: Many<Row>) -> Config
+        ensures { result ≡ rows }
+    {
+        Config { items: rows }
+    }
+
     /// The list of the rows. It takes no memory.
     pub fn into_rows(self) -> Many<Row>
         ensures { result ≡ self }

@@ -1,20 +1,7 @@
 #!/usr/bin/env bash
 # Times `nc_yang_words::statements` over a generated module text of 4 MB and prints MB/s.
-# It clones this repository into a temporary folder, puts a small program beside the crates there,
-# proves it and runs it.
 set -euo pipefail
-
-top=$(git -C "$(dirname "$0")" rev-parse --show-toplevel)
-work=$(mktemp -d)
-trap 'rm -rf "$work"' EXIT
-git clone -q "$top" "$work/clone"
-cd "$work/clone"
-rt new crates/bench_words start_io >/dev/null 2>&1
-rm -rf crates/bench_words/src crates/bench_words/specs crates/bench_words/proofs
-rm -f crates/bench_words/stdin crates/bench_words/stdout crates/bench_words/BUILD.bazel
-mkdir -p crates/bench_words/src
-echo 'bench_words: nc_names nc_yang_words' >>crates.txt
-cat >crates/bench_words/src/main.rt <<'RT'
+exec "$(dirname "$0")/program" words 'nc_names nc_yang_words' <<'RT'
 // Times the reading of a generated module text.
 #![tactic(auto)]
 
@@ -51,6 +38,3 @@ fn main(rt: HostRuntime) -> io::Result<()> {
     Ok(())
 }
 RT
-cd crates/bench_words
-rt run >"$work/log" 2>&1 || { tail -20 "$work/log"; exit 1; }
-grep "MB/s" "$work/log"

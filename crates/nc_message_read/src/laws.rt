@@ -1,5 +1,5 @@
 //! Laws of messages, without code.
-ghost use Rattle.nc_message_read.specs.Laws.{OneTree, NoTreeAtFault};
+ghost use Rattle.nc_message_read.specs.Laws.{OneTree, NoTreeAtFault, WrittenIsRead};
 
 /// A message has one tree.
 pub fn one_tree()
@@ -9,4 +9,9 @@ pub fn one_tree()
 /// A message with a fault has no tree.
 pub fn no_tree_at_fault()
     ensures { NoTreeAtFault }
+{}
+
+/// What is written of a tree is read back.
+pub fn written_is_read()
+    ensures { WrittenIsRead }
 {}

@@ -4,6 +4,8 @@
 //! It stands on the definition of what bytes spell in nc_message. It goes once through the message, token by
 //! token, with a stack of the elements that are open. Namespaces, bindings and names that repeat are shared in
 //! the tree, and what a client names is looked up by order, so time and memory stay near-linear in the message.
+//!
+//! Laws: a message has one tree, a fault none, and what nc_message writes of a tree is read back.
 #![tactic(auto)]
 
 mod declared;
@@ -20,6 +22,6 @@ mod stop;
 mod text;
 mod written;
 
-pub use laws::{no_tree_at_fault, one_tree};
+pub use laws::{no_tree_at_fault, one_tree, written_is_read};
 pub use read::read_message;
 pub use stop::MessageFault;

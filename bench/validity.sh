@@ -20,16 +20,20 @@ fn text(alloc: Global, chars: &str) -> Result<Text, Memory> {
     Text::from_text(alloc, chars)
 }
 
-fn node(alloc: Global, name: &str, above: Option<u32>, kind: Kind) -> Result<Node, Memory> {
-    Ok(Node {
-        name: QName {
-            space: text(alloc, "urn:ex")?,
-            name: text(alloc, name)?,
-        },
+fn name(alloc: Global, name: &str) -> Result<QName, Memory> {
+    Ok(QName {
+        space: text(alloc, "urn:ex")?,
+        name: text(alloc, name)?,
+    })
+}
+
+fn leaf_node(alloc: Global, name: QName, above: u32, of_value: u32) -> Node {
+    Node {
+        name,
         module: 0,
-        parent: above,
-        kind,
-        kind_of_value: 0,
+        parent: Some(above),
+        kind: Kind::Leaf,
+        kind_of_value: of_value,
         keys: Many::new(alloc),
         uniques: Many::new(alloc),
         mandatory: false,
@@ -39,28 +43,41 @@ fn node(alloc: Global, name: &str, above: Option<u32>, kind: Kind) -> Result<Nod
         by_user: false,
         cases: Many::new(alloc),
         deny: Deny::Nothing,
-    })
+    }
 }
 
-fn ports(alloc: Global) -> Result<Node, Memory> {
-    let mut list = node(alloc, "port", None, Kind::List)?;
-    list.keys.push(1)?;
-    let mut first = Many::new(alloc);
-    first.push(2)?;
-    list.uniques.push(first)?;
-    let mut second = Many::new(alloc);
-    second.push(2)?;
-    second.push(3)?;
-    list.uniques.push(second)?;
-    list.least = 1;
-    list.most = Some(200_000);
-    Ok(list)
+fn list_node(alloc: Global, name: QName, keys: Many<u32>, uniques: Many<Many<u32>>) -> Node {
+    Node {
+        name,
+        module: 0,
+        parent: None,
+        kind: Kind::List,
+        kind_of_value: 0,
+        keys,
+        uniques,
+        mandatory: false,
+        defaults: Many::new(alloc),
+        least: 1,
+        most: Some(200_000),
+        by_user: false,
+        cases: Many::new(alloc),
+        deny: Deny::Nothing,
+    }
 }
 
-fn links(alloc: Global) -> Result<Node, Memory> {
-    let mut list = node(alloc, "link", None, Kind::List)?;
-    list.keys.push(5)?;
-    Ok(list)
+fn numbers(alloc: Global, given: &[u32]) -> Result<Many<u32>, Memory> {
+    let mut numbers = Many::new(alloc);
+    for number in given {
+        numbers.push(*number)?;
+    }
+    Ok(numbers)
+}
+
+fn uniques(alloc: Global) -> Result<Many<Many<u32>>, Memory> {
+    let mut uniques = Many::new(alloc);
+    uniques.push(numbers(alloc, &[2])?)?;
+    uniques.push(numbers(alloc, &[2, 3])?)?;
+    Ok(uniques)
 }
 
 fn put(schema: &mut Schema, node: Node) -> Result<(), Memory> {
@@ -84,25 +101,39 @@ fn put_type(schema: &mut Schema, value_type: ValueType) -> Result<u32, Memory> {
     schema.add_type(value_type)
 }
 
-fn schema(alloc: Global) -> Result<Schema, Memory> {
-    let mut schema = Schema::new(alloc);
-    put_type(&mut schema, ValueType::Chars {
+fn put_types(alloc: Global, schema: &mut Schema) -> Result<u32, Memory> {
+    put_type(schema, ValueType::Chars {
         lengths: Many::new(alloc),
         starless: false,
     })?;
-    let to_port = put_type(&mut schema, ValueType::Leafref {
+    put_type(schema, ValueType::Leafref {
         target: 1,
         above: None,
         required: true,
-    })?;
-    put(&mut schema, ports(alloc)?)?;
-    put(&mut schema, node(alloc, "name", Some(0), Kind::Leaf)?)?;
-    put(&mut schema, node(alloc, "tag", Some(0), Kind::Leaf)?)?;
-    put(&mut schema, node(alloc, "zone", Some(0), Kind::Leaf)?)?;
-    put(&mut schema, links(alloc)?)?;
-    let mut key = node(alloc, "port", Some(4), Kind::Leaf)?;
-    key.kind_of_value = to_port;
-    put(&mut schema, key)?;
+    })
+}
+
+fn put_ports(alloc: Global, schema: &mut Schema) -> Result<(), Memory> {
+    let keys = numbers(alloc, &[1])?;
+    let uniques = uniques(alloc)?;
+    put(schema, list_node(alloc, name(alloc, "port")?, keys, uniques))?;
+    for leaf in ["name", "tag", "zone"] {
+        put(schema, leaf_node(alloc, name(alloc, leaf)?, 0, 0))?;
+    }
+    Ok(())
+}
+
+fn put_links(alloc: Global, schema: &mut Schema, to_port: u32) -> Result<(), Memory> {
+    let keys = numbers(alloc, &[5])?;
+    put(schema, list_node(alloc, name(alloc, "link")?, keys, Many::new(alloc)))?;
+    put(schema, leaf_node(alloc, name(alloc, "port")?, 4, to_port))
+}
+
+fn schema(alloc: Global) -> Result<Schema, Memory> {
+    let mut schema = Schema::new(alloc);
+    let to_port = put_types(alloc, &mut schema)?;
+    put_ports(alloc, &mut schema)?;
+    put_links(alloc, &mut schema, to_port)?;
     Ok(schema)
 }
 

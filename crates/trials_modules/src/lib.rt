@@ -3,3 +3,9 @@
 
 #[cfg(test)]
 mod order_tests;
+#[cfg(test)]
+mod scopes_tests;
+#[cfg(test)]
+mod statements_tests;
+#[cfg(test)]
+mod types_tests;

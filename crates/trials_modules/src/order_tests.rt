@@ -90,7 +90,7 @@ fn chain(rt: &impl Abort, alloc: Global, count: u32, last: Option<u32>) -> Many<
 
 /// The first number of the order of the chain, or the number from which the edge on its circle leads.
 fn first_of(rt: &impl Abort, alloc: Global, last: Option<u32>) -> u32 {
-    let graph = chain(rt, alloc, 100_000, last);
+    let graph = chain(rt, alloc, 20_000, last);
     assert!(rt; graph.len() < 1_000_000);
     assert!(rt; is_within(graph.as_slice()));
     match targets_first(alloc, graph.as_slice()).expect(rt, "memory") {
@@ -102,6 +102,6 @@ fn first_of(rt: &impl Abort, alloc: Global, last: Option<u32>) -> u32 {
 #[test]
 fn a_long_chain_takes_no_recursion(rt: HostRuntime) {
     let alloc = rt.alloc();
-    assert_eq!(rt; first_of(&rt, alloc, None), 99_999);
-    assert_eq!(rt; first_of(&rt, alloc, Some(99_999)), 99_999);
+    assert_eq!(rt; first_of(&rt, alloc, None), 19_999);
+    assert_eq!(rt; first_of(&rt, alloc, Some(19_999)), 19_999);
 }

@@ -1,0 +1,5 @@
+pub mod Tables
+pub mod Frames
+pub mod Numberings
+pub mod Names
+pub mod Books

@@ -1,0 +1,14 @@
+use Rattle.std.proofs.Common.{ℕ, rules}
+use Rattle.std.specs.Prelude.{◌==◌}
+use Rattle.std.proofs.lemmas.Iterator.Search.{all_from_yields_List}
+use Rattle.std.proofs.lemmas.Iterator.Splits.{YieldsList-from_slice_split}
+use borrow.Author.Tests.{tests}
+use Rattle.nc_names.specs.Identifiers.{is_identifier}
+use Rattle.nc_names.specs.Signs.{colon}
+use Rattle.nc_yang_statements.proofs.argument.are_identifiers.Goals as goal
+
+pub returns : goal.returns
+returns c =
+    all_from_yields_List is_identifier _ _ c.all.result c.all.ensures.ran
+    (YieldsList-from_slice_split _ (λ (b : ℕ). b == colon) c.args.text.now c.split.ensures.rest c.split.ensures.done c.split.ensures.closure (λ x r q k. search (rules, tests)))
+    (λ x b q k. search (rules, tests))

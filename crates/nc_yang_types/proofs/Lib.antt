@@ -1,0 +1,7 @@
+pub mod TrimLemmas
+pub mod CutLemmas
+pub mod RangeLemmas
+pub mod Firsts
+pub mod KnownLemmas
+pub mod InsideLemmas
+pub mod LawLemmas

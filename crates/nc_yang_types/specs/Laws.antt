@@ -1,0 +1,35 @@
+-- What the laws say.
+use Rattle.std.specs.Prelude.{◌≡◌, ℕ, Bool, true, false, List, [], ℤ, Some, IsSome}
+use Rattle.nc_schema.specs.NumberTexts.{is_among}
+use Rattle.nc_schema.specs.declared.value_type.Between.{Between}
+use Rattle.nc_schema.specs.declared.value_type.ValueType.{ValueType}
+use Rattle.nc_yang_words.specs.declared.statement.Statement.{Statement}
+use Rattle.nc_yang_statements.specs.declared.built_in.BuiltIn.{BuiltIn}
+use Rattle.nc_yang_statements.specs.declared.built_in.BuiltIn.TheVariants.{IdentityRef, LeafRef, Union}
+use Rattle.nc_yang_statements.specs.Statements.{below}
+use Rattle.nc_yang_types.specs.declared.bound.Counted.{Counted}
+use Rattle.nc_yang_types.specs.Entries.{narrowed, narrowed_faults, own, own_faults}
+use Rattle.nc_yang_types.specs.Ranges.{restriction}
+
+-- a range or a length admits no number that its base does not (RFC 7950 9.2.4, 9.4.4)
+abbrev pub RestrictionsNarrow : Type 0
+RestrictionsNarrow =
+    (counted : Counted) (base parts : List Between) (text : List ℕ) (number : ℤ) →
+    restriction counted base text ≡ Some parts → is_among parts number ≡ true → is_among base number ≡ true
+
+-- a type whose entry rests on other names
+abbrev pub needs_names : BuiltIn → Bool
+needs_names IdentityRef = true
+needs_names LeafRef = true
+needs_names Union = true
+needs_names built_in = false
+
+-- every other built-in type has an entry where no rule is broken
+abbrev pub OwnGives : Type 0
+OwnGives =
+    (stands : Statement → Bool) (built_in : BuiltIn) (s : Statement) →
+    needs_names built_in ≡ false → own_faults built_in s ≡ [] → IsSome (own stands built_in (below s))
+
+-- so has a type over another
+abbrev pub NarrowedGives : Type 0
+NarrowedGives = (base : ValueType) (ss : List Statement) → narrowed_faults base ss ≡ [] → IsSome (narrowed base ss)

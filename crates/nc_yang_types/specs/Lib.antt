@@ -1,0 +1,7 @@
+pub mod Ranges
+pub mod Parts
+pub mod Members
+pub mod Entries
+pub mod Laws
+pub mod Stops
+pub mod inner

@@ -1,0 +1,131 @@
+-- The names of enumerations and of bits with their numbers (RFC 7950 9.6.4, 9.7.4).
+use Rattle.std.specs.Prelude.{ℕ, ◌&&◌, Bool, if◌then◌else◌, List, [], ◌∷◌, ◌++◌, map, ℤ, pos, negsuc, true, int_le, int_lt, ◌+ℤ◌, Option, Some, None}
+use Rattle.std.specs.List.{flat_map, list_any}
+use Rattle.std.specs.Ordering.{int_cmp, int_eq}
+use Rattle.std.specs.BTreeMap.{insert_entry}
+use Rattle.nc_names.specs.Same.{is_same_text}
+use Rattle.nc_schema.specs.NumberTexts.{number_of}
+use Rattle.nc_yang_words.specs.declared.statement.Statement.{Statement}
+use Rattle.nc_yang_statements.specs.declared.fault.Fault.{Fault}
+use Rattle.nc_yang_statements.specs.declared.fault.ModuleWhy.TheVariants.{Twice, BadArgument}
+use Rattle.nc_yang_statements.specs.declared.keyword.Keyword.{Keyword}
+use Rattle.nc_yang_statements.specs.declared.keyword.Keyword.TheVariants.{EnumName, Bit, Value, Position}
+use Rattle.nc_yang_statements.specs.Keywords.{is_same_keyword}
+use Rattle.nc_yang_statements.specs.Rules.{at_if}
+use Rattle.nc_yang_statements.specs.Statements.{below, kind, name, part}
+use Rattle.nc_yang_types.specs.declared.member.Listed.{Listed}
+use Rattle.nc_yang_types.specs.declared.member.Listed.TheVariants.{Enums, Flags}
+
+-- the statement of a name, and the one below it that gives the number
+abbrev pub member_word : Listed → Keyword
+member_word Enums = EnumName
+member_word Flags = Bit
+
+abbrev pub number_word : Listed → Keyword
+number_word Enums = Value
+number_word Flags = Position
+
+-- the numbers that there are: 32 bits, with a sign in enumerations (RFC 7950 9.6.4.2, 9.7.4.2)
+abbrev pub least : Listed → ℤ
+least Enums = negsuc 2147483647
+least Flags = pos 0
+
+abbrev pub most : Listed → ℤ
+most Enums = pos 2147483647
+most Flags = pos 4294967295
+
+abbrev pub is_member : Listed → Statement → Bool
+is_member listed s = is_same_keyword (member_word listed) (kind s)
+
+-- one of the statements gives that name
+abbrev pub gives_name : Listed → List ℕ → Statement → Bool
+gives_name listed text s = is_member listed s && is_same_text (name s) text
+
+abbrev pub has_name : Listed → List ℕ → List Statement → Bool
+has_name listed text ss = list_any (gives_name listed text) ss
+
+-- a name stands once (RFC 7950 9.6.4, 9.7.4)
+abbrev pub renamed : Listed → List Statement → List Statement → List Fault
+renamed listed before [] = []
+renamed listed before (s ∷ ss) =
+    at_if (is_member listed s && has_name listed (name s) before) s Twice ++ renamed listed (before ++ s ∷ []) ss
+
+-- a number that is written, where there is such a number
+abbrev pub in_bounds : Listed → Option ℤ → Option ℤ
+in_bounds listed None = None
+in_bounds listed (Some n) = if int_le (least listed) n && int_le n (most listed) then Some n else None
+
+-- one more than the highest number before, 0 where there is none; none past the last number
+abbrev pub next_number : Listed → Option ℤ → Option ℤ
+next_number listed None = Some (pos 0)
+next_number listed (Some high) = if int_lt high (most listed) then Some (high +ℤ pos 1) else None
+
+-- the number of a name: the one that it is given, or the next (RFC 7950 9.6.4.2, 9.7.4.2)
+abbrev pub number_by : Listed → Option ℤ → Option Statement → Option ℤ
+number_by listed high None = next_number listed high
+number_by listed high (Some given) = in_bounds listed (number_of (name given))
+
+abbrev pub number_at : Listed → Option ℤ → Statement → Option ℤ
+number_at listed high s = number_by listed high (part (number_word listed) (below s))
+
+-- the higher of the highest before and of one more
+abbrev pub higher : Option ℤ → Option ℤ → Option ℤ
+higher high None = high
+higher None (Some n) = Some n
+higher (Some high) (Some n) = if int_le high n then Some n else Some high
+
+-- the names with their numbers, after others of which the highest is given
+abbrev pub numbered : Listed → Option ℤ → List Statement → List (Statement × Option ℤ)
+numbered listed high [] = []
+numbered listed high (s ∷ ss) =
+    if is_member listed s
+    then (s, number_at listed high s) ∷ numbered listed (higher high (number_at listed high s)) ss
+    else numbered listed high ss
+
+-- the statement that is at fault where a number is
+abbrev pub numbering : Listed → Statement → Option Statement → Statement
+numbering listed s None = s
+numbering listed s (Some given) = given
+
+abbrev pub at_number : Listed → Statement → Bool → List Fault
+at_number listed s bad = at_if bad (numbering listed s (part (number_word listed) (below s))) BadArgument
+
+-- there is no number, or another name has it
+abbrev pub is_unfit : List ℤ → Option ℤ → Bool
+is_unfit before None = true
+is_unfit before (Some n) = list_any (λ other. int_eq other n) before
+
+abbrev pub with_number : List ℤ → Option ℤ → List ℤ
+with_number before None = before
+with_number before (Some n) = before ++ n ∷ []
+
+-- each name has a number that no other has (RFC 7950 9.6.4.2, 9.7.4.2)
+abbrev pub misnumbered : Listed → List ℤ → List (Statement × Option ℤ) → List Fault
+misnumbered listed before [] = []
+misnumbered listed before (p ∷ ps) =
+    at_number listed p.0 (is_unfit before p.1) ++ misnumbered listed (with_number before p.1) ps
+
+-- all rules of the names and numbers
+abbrev pub ill_listed : Listed → List Statement → List Fault
+ill_listed listed ss = renamed listed [] ss ++ misnumbered listed [] (numbered listed None ss)
+
+-- the names of an enumeration whose conditions hold, in the order of the text (RFC 7950 7.20.2)
+abbrev pub enum_name : (Statement → Bool) → Statement → List (List ℕ)
+enum_name stands s = if is_member Enums s && stands s then name s ∷ [] else []
+
+abbrev pub enum_names : (Statement → Bool) → List Statement → List (List ℕ)
+enum_names stands ss = flat_map (enum_name stands) ss
+
+-- a bit at its place among those before, by its position
+abbrev pub with_bit : (Statement → Bool) → List (ℤ × List ℕ) → Statement × Option ℤ → List (ℤ × List ℕ)
+with_bit stands before (s, None) = before
+with_bit stands before (s, Some position) =
+    if stands s then insert_entry int_cmp before position (name s) else before
+
+abbrev pub with_bits : (Statement → Bool) → List (ℤ × List ℕ) → List (Statement × Option ℤ) → List (ℤ × List ℕ)
+with_bits stands before [] = before
+with_bits stands before (p ∷ ps) = with_bits stands (with_bit stands before p) ps
+
+-- the names of the bits whose conditions hold, in the order of their positions (RFC 7950 9.7.4.2)
+abbrev pub bit_names : (Statement → Bool) → List Statement → List (List ℕ)
+bit_names stands ss = map (λ entry. entry.1) (with_bits stands [] (numbered Flags None ss))

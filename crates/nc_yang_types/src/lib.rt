@@ -1,0 +1,36 @@
+//! What a `type` statement says by its own parts (RFC 7950 7.4, 9): which parts a type may have and has to have, the
+//! numbers that ranges and lengths leave, the names of enumerations and bits with their numbers, and the entry that
+//! comes of them, over a built-in type that needs no other name or over the entry of another type.
+//!
+//! It stands on the statements of nc_yang_words, the rules of single ones in nc_yang_statements, which are kept, and on
+//! the types of nc_schema. Nothing here looks a name up.
+//!
+//! `own` and `narrowed` promise the entry exactly where the definitions list no fault, and else the first fault of their
+//! list. The crate `trials_modules` tests them.
+#![tactic(auto)]
+
+mod bound;
+mod conditions;
+mod inside;
+mod integer;
+mod laws;
+mod listed;
+mod member;
+mod names;
+mod numbers;
+mod over_built_in;
+mod over_type;
+mod part;
+mod range;
+mod restricted;
+mod stop;
+mod trim;
+
+pub use bound::Counted;
+pub use conditions::{Always, Conditions};
+pub use laws::{narrowed_gives, own_gives, restrictions_narrow};
+pub use over_built_in::own;
+pub use over_type::narrowed;
+pub use part::{misshapen, narrows, needs, takes};
+pub use range::restriction;
+pub use stop::TypeStop;

@@ -1,0 +1,146 @@
+//! The entries of types over others (RFC 7950 7.3.4, 9).
+ghost use Rattle.std.specs.Prelude.{◌≡◌, [], Some, IfOk, IfErr, OnOk, unwrap_or};
+ghost use Rattle.nc_schema.specs.declared.value_type.ValueType.TheVariants.{Whole, Decimal, Chars, Binary};
+ghost use Rattle.nc_yang_statements.specs.Rules as rules;
+ghost use Rattle.nc_yang_types.specs.Entries as entries;
+ghost use Rattle.nc_yang_types.specs.Stops.{OnBroken};
+
+use crate::bound::Counted;
+use crate::part::foreign_over;
+use crate::restricted::{narrower, required};
+use crate::stop::TypeStop;
+use nc_names::Many;
+use nc_schema::{Between, ValueType};
+use nc_yang_statements::Keyword;
+use nc_yang_words::Statement;
+use std::alloc::Global;
+
+// The entry over an integer type.
+fn over_whole(
+    alloc: Global,
+    among: &Many<Between>,
+    below: &[Statement],
+) -> Result<Option<ValueType>, TypeStop>
+    ensures ok { IfOk result (λ it.
+        entries.narrowed (Whole among.now) below.now ≡ Some (unwrap_or it (Whole among.now))) }
+    ensures kept { OnOk result (entries.misnarrowed (Whole among.now) below.now ≡ []) }
+    ensures fault { IfErr result (λ stop. OnBroken stop (λ fault.
+        rules.first (entries.misnarrowed (Whole among.now) below.now) ≡ Some fault)) }
+{
+    let counted = Counted::Units(0);
+    match narrower(alloc, counted, Keyword::Range, among.as_slice(), below)? {
+        Some(among) => Ok(Some(ValueType::Whole { among })),
+        None => Ok(None),
+    }
+}
+
+// The entry over a `decimal64`.
+fn over_decimal(
+    alloc: Global,
+    digits: u32,
+    among: &Many<Between>,
+    below: &[Statement],
+) -> Result<Option<ValueType>, TypeStop>
+    ensures ok { IfOk result (λ it.
+        entries.narrowed (Decimal digits among.now) below.now ≡ Some (unwrap_or it (Decimal digits among.now))) }
+    ensures kept { OnOk result (entries.misnarrowed (Decimal digits among.now) below.now ≡ []) }
+    ensures fault { IfErr result (λ stop. OnBroken stop (λ fault.
+        rules.first (entries.misnarrowed (Decimal digits among.now) below.now) ≡ Some fault)) }
+{
+    let counted = Counted::Units(digits);
+    match narrower(alloc, counted, Keyword::Range, among.as_slice(), below)? {
+        Some(among) => Ok(Some(ValueType::Decimal { digits, among })),
+        None => Ok(None),
+    }
+}
+
+// The entry over a string.
+fn over_chars(
+    alloc: Global,
+    lengths: &Many<Between>,
+    starless: bool,
+    below: &[Statement],
+) -> Result<Option<ValueType>, TypeStop>
+    ensures ok { IfOk result (λ it.
+        entries.narrowed (Chars lengths.now starless) below.now ≡ Some (unwrap_or it (Chars lengths.now starless))) }
+    ensures kept { OnOk result (entries.misnarrowed (Chars lengths.now starless) below.now ≡ []) }
+    ensures fault { IfErr result (λ stop. OnBroken stop (λ fault.
+        rules.first (entries.misnarrowed (Chars lengths.now starless) below.now) ≡ Some fault)) }
+{
+    let counted = Counted::Lengths;
+    match narrower(alloc, counted, Keyword::Length, lengths.as_slice(), below)? {
+        Some(lengths) => Ok(Some(ValueType::Chars { lengths, starless })),
+        None => Ok(None),
+    }
+}
+
+// The entry over a `binary`.
+fn over_binary(
+    alloc: Global,
+    lengths: &Many<Between>,
+    below: &[Statement],
+) -> Result<Option<ValueType>, TypeStop>
+    ensures ok { IfOk result (λ it.
+        entries.narrowed (Binary lengths.now) below.now ≡ Some (unwrap_or it (Binary lengths.now))) }
+    ensures kept { OnOk result (entries.misnarrowed (Binary lengths.now) below.now ≡ []) }
+    ensures fault { IfErr result (λ stop. OnBroken stop (λ fault.
+        rules.first (entries.misnarrowed (Binary lengths.now) below.now) ≡ Some fault)) }
+{
+    let counted = Counted::Lengths;
+    match narrower(alloc, counted, Keyword::Length, lengths.as_slice(), below)? {
+        Some(lengths) => Ok(Some(ValueType::Binary { lengths })),
+        None => Ok(None),
+    }
+}
+
+// The entry by the parts that narrow a type.
+fn entry_over(
+    alloc: Global,
+    base: &ValueType,
+    below: &[Statement],
+) -> Result<Option<ValueType>, TypeStop>
+    ensures ok { IfOk result (λ it. entries.narrowed base.now below.now ≡ Some (unwrap_or it base.now)) }
+    ensures kept { OnOk result (entries.misnarrowed base.now below.now ≡ []) }
+    ensures fault { IfErr result (λ stop. OnBroken stop (λ fault.
+        rules.first (entries.misnarrowed base.now below.now) ≡ Some fault)) }
+{
+    match base {
+        ValueType::Whole { among } => over_whole(alloc, among, below),
+        ValueType::Decimal { digits, among } => over_decimal(alloc, *digits, among, below),
+        ValueType::Chars { lengths, starless } => over_chars(alloc, lengths, *starless, below),
+        ValueType::Binary { lengths } => over_binary(alloc, lengths, below),
+        ValueType::Leafref {
+            target,
+            above,
+            required: need,
+        } => Ok(Some(ValueType::Leafref {
+            target: *target,
+            above: *above,
+            required: required(*need, below),
+        })),
+        ValueType::Instance { required: need } => Ok(Some(ValueType::Instance {
+            required: required(*need, below),
+        })),
+        _ => Ok(None),
+    }
+}
+
+/// The entry of a `type` statement over another type whose entry is `base`, by its own parts; `None` where nothing
+/// narrows it, and it is that of the other type (RFC 7950 9.2.3, 9.3.3, 9.4.3, 9.8.1, 9.9.3, 9.13.1). The fault is the
+/// first of those that it has: a part that the type has not, and then a range or a length that may not stand there.
+#[tactic(auto, using(crate::proofs::Firsts::first_some, crate::proofs::Firsts::first_none, crate::proofs::Firsts::nothing_first, crate::proofs::Firsts::nothing_more))]
+pub fn narrowed(
+    alloc: Global,
+    base: &ValueType,
+    below: &[Statement],
+) -> Result<Option<ValueType>, TypeStop>
+    ensures ok { IfOk result (λ it. entries.narrowed base.now below.now ≡ Some (unwrap_or it base.now)) }
+    ensures kept { OnOk result (entries.narrowed_faults base.now below.now ≡ []) }
+    ensures fault { IfErr result (λ stop. OnBroken stop (λ fault.
+        rules.first (entries.narrowed_faults base.now below.now) ≡ Some fault)) }
+{
+    if let Some(fault) = foreign_over(base, below) {
+        return Err(TypeStop::Broken(fault));
+    }
+    entry_over(alloc, base, below)
+}

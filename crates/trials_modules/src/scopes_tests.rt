@@ -1,0 +1,139 @@
+//! What names mean in module texts: each reference with the definition to which it leads.
+ghost use Rattle.std.specs.Prelude.{IfSome, IsTrue};
+ghost use Rattle.nc_yang_scopes.specs.Scopes.{is_defining};
+
+use nc_names::Many;
+use nc_yang_scopes::Scopes;
+use nc_yang_statements::{Keyword, kind, name};
+use nc_yang_words::{Statement, statements};
+use std::alloc::Global;
+use std::process::Abort;
+
+/// The statements of texts.
+fn read(rt: &impl Abort, alloc: Global, texts: &[&str]) -> Many<Statement> {
+    let mut roots = Many::new(alloc);
+    for text in texts {
+        let root = statements(alloc, text).expect(rt, "statements");
+        roots.push(root).expect(rt, "memory");
+    }
+    roots
+}
+
+/// What a statement of that keyword names.
+fn named_by(keyword: Keyword) -> Option<Keyword>
+    ensures { IfSome result (λ k. IsTrue (is_defining k)) }
+{
+    match keyword {
+        Keyword::Uses => Some(Keyword::Grouping),
+        Keyword::TypeName => Some(Keyword::Typedef),
+        Keyword::Base => Some(Keyword::Identity),
+        Keyword::IfFeature => Some(Keyword::Feature),
+        _ => None,
+    }
+}
+
+/// The text and the line of a statement.
+fn place(rt: &impl Abort, alloc: Global, scopes: &Scopes, number: Option<usize>) -> String {
+    let Some(found) = number else {
+        return format!(in alloc; "nothing").expect(rt, "memory");
+    };
+    let text = scopes.text(found).expect(rt, "a text");
+    let line = scopes.statement(found).expect(rt, "a statement").line;
+    format!(in alloc; "{text}:{line}").expect(rt, "memory")
+}
+
+/// Where the reference in the statement of a number leads, or nothing where it has none.
+fn lead(rt: &impl Abort, alloc: Global, scopes: &Scopes, number: usize) -> String {
+    let statement = scopes.statement(number).expect(rt, "a statement");
+    let Some(keyword) = named_by(kind(statement)) else {
+        return String::new(alloc);
+    };
+    let from = place(rt, alloc, scopes, Some(number));
+    let to = place(
+        rt,
+        alloc,
+        scopes,
+        scopes.resolve(keyword, number, name(statement)),
+    );
+    format!(in alloc; "{from}>{to} ").expect(rt, "memory")
+}
+
+/// Each reference in the texts, those of outer blocks first.
+fn leads(rt: &impl Abort, alloc: Global, texts: &[&str]) -> String {
+    let roots = read(rt, alloc, texts);
+    let scopes = Scopes::of(alloc, roots.as_slice()).expect(rt, "memory");
+    let mut out = String::new(alloc);
+    for number in 0..1000 {
+        if scopes.statement(number).is_none() {
+            return out;
+        }
+        let next = lead(rt, alloc, &scopes, number);
+        out.push_str(next.as_str()).expect(rt, "memory");
+    }
+    out
+}
+
+#[test]
+fn definitions_are_found_in_the_nearest_block(rt: HostRuntime) {
+    let cases = [
+        // a definition is seen where it stands, and further in
+        (
+            "module a { prefix p;\n typedef t { type string; }\n container c {\n leaf x { type t; } } }",
+            "0:2>nothing 0:4>0:2 ",
+        ),
+        // but not outside
+        (
+            "module a { prefix p;\n leaf x { type t; }\n container c {\n typedef t { type u; } } }",
+            "0:2>nothing 0:4>nothing ",
+        ),
+        // the nearest is taken, also by the module's own prefix
+        (
+            "module a { prefix p;\n grouping g;\n container c {\n grouping g;\n uses g;\n uses p:g; }\n uses p:g; }",
+            "0:7>0:2 0:5>0:4 0:6>0:4 ",
+        ),
+        // groupings, typedefs, identities and features have names of their own
+        (
+            "module a { prefix p;\n grouping n;\n identity n;\n feature n;\n identity m { base n; if-feature n; }\n uses n; leaf n { type n; } }",
+            "0:6>0:2 0:5>0:3 0:5>0:4 0:6>nothing ",
+        ),
+        // an unknown prefix leads nowhere
+        (
+            "module a { prefix p;\n grouping g;\n uses q:g; }",
+            "0:3>nothing ",
+        ),
+    ];
+    for (text, wanted) in cases {
+        let got = leads(&rt, rt.alloc(), &[text]);
+        assert_eq!(rt; got.as_str(), wanted, "in {text}");
+    }
+}
+
+#[test]
+fn prefixes_are_those_of_the_module_that_has_them(rt: HostRuntime) {
+    let a = "module a { prefix p;\n grouping g {\n grouping h; }\n typedef t { type string; }\n}";
+    let cases = [
+        // what stands at the top of the other module is seen, and nothing in its blocks
+        (
+            "module b { prefix q; import a { prefix x; }\n uses x:g;\n uses x:h;\n uses g;\n}",
+            "0:4>nothing 1:2>0:2 1:3>nothing 1:4>nothing ",
+        ),
+        // a prefix of its own hides that of an import, and the first import of a prefix counts
+        (
+            "module b { prefix x; import a { prefix x; }\n uses x:g;\n}",
+            "0:4>nothing 1:2>nothing ",
+        ),
+        (
+            "module b { prefix q; import c { prefix x; } import a { prefix x; }\n uses x:g;\n}",
+            "0:4>nothing 1:2>nothing ",
+        ),
+        // the prefix that the other module has for itself says nothing here
+        (
+            "module b { prefix q; import a { prefix x; }\n uses p:g;\n}",
+            "0:4>nothing 1:2>nothing ",
+        ),
+    ];
+    for (b, wanted) in cases {
+        let got = leads(&rt, rt.alloc(), &[a, b]);
+        assert_eq!(rt; got.as_str(), wanted, "in {b}");
+    }
+}

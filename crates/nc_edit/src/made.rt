@@ -17,7 +17,7 @@ fn has_value(kind: Kind) -> bool
     matches!(kind, Kind::Leaf | Kind::LeafList)
 }
 
-// Whether a leaf or a leaf-list entry is at the path.
+/// Whether a leaf or a leaf-list entry is at the path.
 pub(crate) fn is_value_at(schema: &Schema, path: &Path) -> bool
     ensures { result ≡ blocks.at_node schema.now path.now kinds.has_value }
 {

@@ -1,6 +1,3 @@
-pub mod NarrowReadings
-pub mod Pieces
-pub mod Searched
-pub mod Sending
-pub mod Turn
-pub mod Waiting
+pub mod Unseen
+pub mod Steps
+pub mod Turns

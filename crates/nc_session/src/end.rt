@@ -1,51 +1,81 @@
 //! How a session ends.
 ghost use Rattle.std.specs.Prelude.{◌≡◌};
-ghost use Rattle.nc_session.specs.declared.end.SessionEnd.TheVariants.{Memory as EndMemory, WriteFault as EndWriteFault};
+ghost use Rattle.nc_session.specs.Serves as serves;
+ghost use Rattle.nc_session.specs.declared.end.SessionEnd.TheVariants.{Memory as EndMemory};
 
 use nc_message::Why;
 use nc_names::Memory;
-use nc_outside::Failed;
 
-/// Why the client's first message is no hello of this server's (RFC 6241 8.1).
+/// Why the client's first message is no hello that the server takes (RFC 6241 8.1).
 #[derive(Clone, Copy, Debug, PartialEq, Eq)]
 pub enum HelloFault {
-    /// The message has no valid reading.
+    /// It spells no tree.
     NotRead,
-    /// Its root is not `hello` with one `capabilities` of `capability` elements.
+    /// It is no `hello` with one list of capabilities.
     NotHello,
-    /// It has a session-id, which only a server's hello has.
+    /// It has a session-id, which the server alone sends.
     HasSessionId,
-    /// It has no base capability.
+    /// It has neither version of the protocol.
     NoBase,
 }
 
-/// How a session ended.
+/// Why the bytes of a message spell no request, and where that shows, counted from their first.
+#[derive(Clone, Copy, Debug, PartialEq, Eq)]
+pub struct BadMessage {
+    /// The place.
+    pub at: u64,
+    /// Why no more fits there.
+    pub why: Why,
+}
+
+/// How a session ended. Places are those of bytes, counted from 0.
 #[derive(Clone, Copy, Debug, PartialEq, Eq)]
 pub enum SessionEnd {
-    /// A close-session was answered.
+    /// Its close-session was done and answered (RFC 6241 7.8).
     Closed,
-    /// The input ended, between messages or within one: a read gave its end in this call.
+    /// The source gave its end, also within a message.
     InputEnded,
-    /// The first message is no hello that the server takes.
-    BadHello { why: HelloFault },
-    /// The framing is broken at this byte of the session, counted from 0.
-    BadFrame { at: u64 },
-    /// A later message has no valid reading, at this byte of the message, counted from 0.
-    Malformed { at: u64, why: Why },
-    /// A message is larger than 4,194,304 bytes. `at` is the place in the session, counted from 0,
-    /// at which that shows; it stands still at 2^64 - 1.
-    TooBig { at: u64 },
-    /// Another session ended this one.
+    /// The client's first message is no hello that the server takes.
+    BadHello {
+        /// Why not.
+        why: HelloFault,
+    },
+    /// The bytes are not in chunks (RFC 6242 4.2).
+    BadFrame {
+        /// The place of the first byte that fits none, from the session's begin.
+        at: u64,
+    },
+    /// A message of a base:1.0 session is no request.
+    Malformed {
+        /// Where that shows, from the message's begin.
+        at: u64,
+        /// Why.
+        why: Why,
+    },
+    /// A message is longer than the limit.
+    TooBig {
+        /// Where that shows, from the session's begin.
+        at: u64,
+    },
+    /// The session was ended by another (RFC 6241 7.9).
     Killed,
-    /// A read failed, and the source's count of faults rose in this call.
+    /// A read failed.
     ReadFault,
-    /// A write failed, and the sink's count of faults rose in this call.
+    /// A write failed.
     WriteFault,
-    /// No further session could begin: so many are live, and this session-id was the last given.
-    Full { live: u32, last: u32 },
-    /// The server has answered as many requests as it ever does.
-    Spent { ticket: u64 },
-    /// No memory was found.
+    /// There is no place for the session.
+    Full {
+        /// How many sessions are live.
+        live: u32,
+        /// The last session-id that was given.
+        last: u32,
+    },
+    /// The desk can make no entry any more.
+    Spent {
+        /// The number that was reached.
+        ticket: u64,
+    },
+    /// Want of memory.
     Memory,
 }
 
@@ -54,5 +84,14 @@ impl From<Memory> for SessionEnd {
 
     fn from(_: Memory) -> SessionEnd {
         SessionEnd::Memory
+    }
+}
+
+impl SessionEnd {
+    /// Whether the desk can make no entry any more.
+    pub(crate) fn is_spent(&self) -> bool
+        ensures { result ≡ serves.is_spent self.now }
+    {
+        matches!(self, SessionEnd::Spent { .. })
     }
 }

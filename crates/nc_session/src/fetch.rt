@@ -1,16 +1,19 @@
-//! Messages, read piece by piece.
-ghost use Rattle.std.specs.Prelude.{◌≡◌, ◌<◌, ◌≤◌, ◌+◌, ◌^◌, ◌-◌, length, take, min, Err};
-ghost use Rattle.nc_session.specs.Reading.{capped};
-ghost use Rattle.nc_session.specs.inner.Pieces.{ReadsPiece, ReadsMessage};
-ghost use Rattle.nc_names.specs.Limits.{message_limit};
-ghost use Rattle.nc_session.specs.inner.Sending.{CountsReads, end_of};
+//! The next request of a session, out of the pieces that its source gives.
+ghost use Rattle.std.specs.Prelude.{◌≡◌, ◌<◌, ◌≤◌, ℕ, List, length, take};
+ghost use Rattle.nc_model.specs.declared.request.Request.{Request as SpecRequest};
+ghost use Rattle.nc_model.specs.Proper.{IsProper};
+ghost use Rattle.nc_session.specs.declared.base.Base.{Base};
+ghost use Rattle.nc_session.specs.Cores.{IsAt};
+ghost use Rattle.nc_session.specs.inner.Turns.{ReadsOn, StepsOn, Fetches, intake, IsProperStep, IsProperAsk};
 
-use crate::SessionEnd;
-use crate::inbox::Inbox;
-use nc_names::MESSAGE_LIMIT;
+use crate::{SessionCore, SessionEnd, Todo};
+use nc_model::Request;
 use nc_outside::Source;
 
-/// The first bytes of a buffer.
+// More pieces than stand before one request: 25,165,843 bytes give a request or an end.
+const PIECES: u32 = 25_165_844;
+
+// The first bytes of a buffer.
 fn front(bytes: &[u8], len: usize) -> &[u8]
     requires { len ≤ length bytes.now }
     ensures { result.now ≡ take len bytes.now }
@@ -18,17 +21,17 @@ fn front(bytes: &[u8], len: usize) -> &[u8]
     bytes.split_at(len).0
 }
 
-/// Reads one piece into the inbox: at least one byte, or the end of input.
-fn read_piece<S: Source>(
+// Reads a piece and feeds it.
+fn read_on<S: Source>(
+    core: &mut SessionCore,
     source: &mut S,
-    inbox: &mut Inbox,
     buffer: &mut [u8],
 ) -> Result<(), SessionEnd>
     requires { 0 < length buffer.old }
-    ensures piece { ReadsPiece inbox.old inbox.new (S.left source.old) (S.left source.new) result }
-    ensures counts { CountsReads (S.ends source.old) (S.ends source.new)
-        (S.faults source.old) (S.faults source.new)
-        (end_of result) }
+    ensures { (base : Base) (bytes : List ℕ) (given : List SpecRequest) → IsAt core.old base bytes given
+        → ReadsOn (λ it. IsAt core.new base it given) bytes
+        (intake (S.left source.old) (S.ends source.old) (S.faults source.old))
+        (intake (S.left source.new) (S.ends source.new) (S.faults source.new)) result }
 {
     let Ok(len) = source.read(buffer) else {
         return Err(SessionEnd::ReadFault);
@@ -36,41 +39,54 @@ fn read_piece<S: Source>(
     if len == 0 {
         return Err(SessionEnd::InputEnded);
     }
-    inbox.feed(front(buffer, len))?;
+    core.feed(front(buffer, len))?;
     Ok(())
 }
 
-/// The place at which it shows that the message that waits is too big.
-fn too_big_at(inbox: &Inbox) -> u64
-    ensures { result ≡ capped (inbox.now.place + message_limit) }
+// The next request, or nothing where a piece was read for it.
+fn step<S: Source>(
+    core: &mut SessionCore,
+    source: &mut S,
+    buffer: &mut [u8],
+) -> Result<Option<Request>, SessionEnd>
+    requires { 0 < length buffer.old }
+    ensures step { (base : Base) (bytes : List ℕ) (given : List SpecRequest) → IsAt core.old base bytes given
+        → StepsOn core.new base bytes given
+        (intake (S.left source.old) (S.ends source.old) (S.faults source.old))
+        (intake (S.left source.new) (S.ends source.new) (S.faults source.new)) result }
+    ensures proper { IsProperStep result }
 {
-    inbox.place().saturating_add(MESSAGE_LIMIT as u64)
+    match core.next() {
+        Ok(Todo::Ask(request)) => Ok(Some(request)),
+        Ok(Todo::NeedBytes) => match read_on(core, source, buffer) {
+            Ok(()) => Ok(None),
+            Err(end) => Err(end),
+        },
+        Ok(Todo::Over(end)) => Err(end),
+        Err(_) => Err(SessionEnd::Memory),
+    }
 }
 
-/// Reads until a whole message waits, and gives its length.
-pub(crate) fn next_message<S: Source>(
+/// The next request of the session, or the end that its bytes or its source come to. The loop leaves by
+/// `return`: so many pieces hold a request or an end.
+pub(crate) fn fetch<S: Source>(
+    core: &mut SessionCore,
     source: &mut S,
-    inbox: &mut Inbox,
     buffer: &mut [u8],
-) -> Result<usize, SessionEnd>
+) -> Result<Request, SessionEnd>
     requires { 0 < length buffer.old }
-    ensures message { ReadsMessage inbox.old inbox.new (S.left source.old) (S.left source.new) result }
-    ensures counts { CountsReads (S.ends source.old) (S.ends source.new)
-        (S.faults source.old) (S.faults source.new)
-        (end_of result) }
+    ensures fetches { (base : Base) (bytes : List ℕ) (given : List SpecRequest)
+        → IsAt core.old base bytes given → Fetches core.new base bytes given
+        (intake (S.left source.old) (S.ends source.old) (S.faults source.old))
+        (intake (S.left source.new) (S.ends source.new) (S.faults source.new)) result }
+    ensures proper { IsProperAsk result }
 {
-    loop {
-        if let Some(len) = inbox.find() {
-            if len > MESSAGE_LIMIT {
-                let at = too_big_at(inbox);
-                return Err(SessionEnd::TooBig { at });
-            }
-            return Ok(len);
+    for _piece in 0..PIECES {
+        match step(core, source, buffer) {
+            Ok(Some(request)) => return Ok(request),
+            Ok(None) => {}
+            Err(end) => return Err(end),
         }
-        if inbox.len() >= MESSAGE_LIMIT + 6 {
-            let at = too_big_at(inbox);
-            return Err(SessionEnd::TooBig { at });
-        }
-        read_piece(source, inbox, buffer)?;
     }
+    Err(SessionEnd::InputEnded)
 }

@@ -1,137 +1,75 @@
-//! The bytes of a stream of messages that have come and are not yet given (RFC 6242 4.3).
-ghost use Rattle.std.specs.Prelude.{◌≡◌, ℕ, ◌+◌, ◌-◌, ◌*◌, ◌^◌, ◌≤◌, ◌<◌, [], ◌++◌, min, length, take, drop, OnOk, OnErr, MatchOption};
-ghost use Rattle.nc_names.specs.Mark.{HasNoMark, IsMarked, with_mark};
+//! The messages of a session's bytes.
+ghost use Rattle.std.specs.Prelude.{◌≡◌, ℕ, List, [], None, Some};
+ghost use Rattle.nc_frames.specs.Framing.{Mode, Marks, Chunks};
+ghost use Rattle.nc_session.specs.inner.Unseen.{Unseen, Feeds, GivesNext, Gives, IsGone};
 
-use memchr::memmem;
+use nc_frames::{FrameFault, Frames};
 use nc_names::{Bytes, Memory};
 use std::alloc::Global;
 use std::marker::Model;
 
-/// The end-of-message mark.
-pub(crate) const MARK: [u8; 6] = *b"]]>]]>";
-
-/// Bytes that wait, and the place of the first of them in the stream, which stands still at
-/// 2^64 - 1. What was searched for a mark is not searched again.
-#[derive(Debug, Drop)]
+/// The framing of a session's bytes, and a message that was taken from it and is not read yet.
+#[derive(Drop)]
 pub(crate) struct Inbox {
-    bytes: Bytes,
-    start: usize,
-    searched: usize,
-    place: u64,
+    frames: Frames,
+    waiting: Option<Bytes>,
 }
 
 impl Model for Inbox {
-    ghost use Rattle.std.specs.Prelude.{drop};
-    ghost use Rattle.nc_session.specs.inner.Waiting.{Waiting};
+    ghost use Rattle.nc_session.specs.inner.Unseen.{Held};
 
-    ghost Value = { Waiting };
+    ghost Value = { Held };
 
-    ghost use Rattle.nc_session.specs.inner.Searched.{IsSearched};
-
-    ghost view = { λ i. record { place = i.place; bytes = drop i.start i.bytes } };
-
-    ghost invariant = { λ i. IsSearched i };
-}
-
-/// The bytes from a place on.
-fn tail(bytes: &[u8], at: usize) -> &[u8]
-    requires { at ≤ length bytes.now }
-    ensures { result.now ≡ drop at bytes.now }
-{
-    &bytes[at..]
+    ghost view = { λ i. record { frames = i.frames; waiting = i.waiting } };
 }
 
 impl Inbox {
-    /// No bytes, before the stream's first.
+    /// No byte has come.
     pub(crate) fn new(alloc: Global) -> Inbox
-        ensures bytes { result.bytes ≡ [] }
-        ensures place { result.place ≡ 0 }
+        ensures unread { Unseen result Marks 0 [] }
+        ensures gone { result.waiting ≡ None }
     {
         Inbox {
-            bytes: Bytes::new(alloc),
-            start: 0,
-            searched: 0,
-            place: 0,
+            frames: Frames::new(alloc),
+            waiting: None,
         }
     }
 
-    /// How many bytes wait.
-    pub(crate) fn len(&self) -> usize
-        ensures { result ≡ length self.now.bytes }
-    {
-        self.bytes.len() - self.start
-    }
-
-    /// The place of the first byte that waits.
-    pub(crate) fn place(&self) -> u64
-        ensures { result ≡ self.now.place }
-    {
-        self.place
-    }
-
-    /// Puts a piece of the stream behind the bytes that wait.
+    /// Takes the next piece.
     pub(crate) fn feed(&mut self, piece: &[u8]) -> Result<(), Memory>
-        ensures ok { OnOk result (self.new.bytes ≡ self.old.bytes ++ piece.now) }
-        ensures err { OnErr result (self.new.bytes ≡ self.old.bytes) }
-        ensures place { self.new.place ≡ self.old.place }
+        ensures { (mode : Mode) (first : ℕ) (bytes : List ℕ) → Unseen self.old mode first bytes
+            → Feeds (Unseen self.new mode) first bytes piece.now result }
     {
-        self.drop_passed();
-        self.push(piece)
+        self.frames.feed(piece)
     }
 
-    /// Lets go of the bytes that were passed over, if there are any. What waits is moved to their place.
-    fn drop_passed(&mut self)
-        ensures { self.new ≡ self.old }
+    /// The next whole message. `Memory` loses nothing.
+    pub(crate) fn next(&mut self) -> Result<Option<Bytes>, FrameFault>
+        ensures gives { (mode : Mode) (first : ℕ) (bytes : List ℕ) → Unseen self.old mode first bytes
+            → GivesNext (Unseen self.new) mode first bytes result }
+        ensures gone { IsGone self.new result }
     {
-        self.bytes.drop_front(self.start);
-        self.searched -= self.start;
-        self.start = 0;
-    }
-
-    /// Puts bytes behind those that are held.
-    fn push(&mut self, piece: &[u8]) -> Result<(), Memory>
-        ensures ok { OnOk result (self.new.bytes ≡ self.old.bytes ++ piece.now) }
-        ensures err { OnErr result (self.new.bytes ≡ self.old.bytes) }
-        ensures place { self.new.place ≡ self.old.place }
-    {
-        self.bytes.push_slice(piece)?;
-        Ok(())
-    }
-
-    /// The length of the first message, where its mark has come.
-    pub(crate) fn find(&mut self) -> Option<usize>
-        ensures same { self.new ≡ self.old }
-        ensures first { MatchOption result (HasNoMark self.old.bytes) (λ n.
-            IsMarked (take n self.old.bytes)
-            × (self.old.bytes ≡ with_mark (take n self.old.bytes) ++ drop (n + 6) self.old.bytes)) }
-    {
-        match memmem::find(tail(self.bytes.as_slice(), self.searched), &MARK) {
-            Some(at) => Some(self.searched + at - self.start),
-            None => {
-                self.searched = self.start.max(self.bytes.len().saturating_sub(5));
-                None
-            }
+        match self.waiting.take() {
+            Some(message) => Ok(Some(message)),
+            None => self.frames.next(),
         }
     }
 
-    /// The first bytes that wait.
-    pub(crate) fn front(&self, len: usize) -> &[u8]
-        requires { len ≤ length self.now.bytes }
-        ensures { result.now ≡ take len self.now.bytes }
+    /// Takes back a message that `next` gave and nobody has read: `next` gives it again.
+    pub(crate) fn put_back(&mut self, message: Bytes)
+        requires { self.old.waiting ≡ None }
+        ensures { (mode : Mode) (first : ℕ) (bytes : List ℕ)
+            → Gives (Unseen self.old mode) mode first bytes message → Unseen self.new mode first bytes }
     {
-        tail(self.bytes.as_slice(), self.start).split_at(len).0
+        self.waiting = Some(message);
     }
 
-    /// Passes over a message of this length, and its mark.
-    pub(crate) fn skip(&mut self, len: usize)
-        requires { len + 6 ≤ length self.old.bytes }
-        ensures bytes { self.new.bytes ≡ drop (len + 6) self.old.bytes }
-        ensures place { self.new.place ≡ min (self.old.place + (len + 6)) (2 ^ 64 - 1) }
+    /// From here on messages come in chunks (RFC 6242 4.1).
+    pub(crate) fn switch(&mut self)
+        requires { self.old.waiting ≡ None }
+        ensures { (first : ℕ) (bytes : List ℕ) → Unseen self.old Marks first bytes
+            → Unseen self.new Chunks first bytes }
     {
-        let held = self.bytes.len();
-        prove!(self.start <= held);
-        self.start += len + 6;
-        self.searched = self.start;
-        self.place = self.place.saturating_add(len as u64 + 6);
+        self.frames.switch();
     }
 }

@@ -1,27 +1,34 @@
-//! A session from bytes to bytes: the server's hello, the client's, and the reply to each request, in
-//! end-of-message framing (RFC 6241 4, 8.1; RFC 6242 4.3). It stands on nc_names, nc_message and
-//! nc_outside.
+//! A session at any desk: the hellos of both peers, the requests of the session's bytes, and the
+//! replies to them (RFC 6241 4, 8.1; RFC 6242 4).
 //!
-//! `serve_plain` promises what a whole session reads and writes, by the messages that it reads; how it
-//! ends; and that the end of input and a failed read or write are answered where they came in the
-//! call, and are counted nowhere else. `read_tree` promises the one tree of a narrow message.
+//! It stands on the definitions and traits of nc_model and nc_outside, takes messages from nc_frames and
+//! reads them by nc_message_read and nc_requests. `SessionCore` gives the requests of all bytes that were
+//! fed, one by one, however they are cut. `serve_session` promises for any desk, source and sink what is
+//! entered, what is read and what is written, by the end that it answers. `hello` appends the server's
+//! hello. The laws say that the bytes of a session have one reading.
 //!
-//! The crate trials_server tests it, and the tests of the program serve whole sessions.
+//! The crate trials_sessions tests it.
 #![tactic(auto)]
 
-mod ask;
-mod elems;
+mod base;
+mod client_hello;
 mod end;
 mod fetch;
-mod hello;
 mod inbox;
-mod narrow;
-mod plain;
+mod laws;
 mod reply;
-mod respond;
+mod requests;
+mod serve;
+mod server_hello;
+mod session_core;
 mod shape;
+mod standing;
+mod turn;
 mod words;
 
-pub use end::{HelloFault, SessionEnd};
-pub use narrow::{one_tree, read_tree};
-pub use plain::serve_plain;
+pub use base::Base;
+pub use end::{BadMessage, HelloFault, SessionEnd};
+pub use laws::has_one_reading;
+pub use serve::serve_session;
+pub use server_hello::hello;
+pub use session_core::{SessionCore, Todo};

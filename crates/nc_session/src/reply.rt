@@ -1,85 +1,126 @@
-//! Replies, and how they are sent.
-ghost use Rattle.std.specs.Prelude.{◌≡◌, ◌++◌, ◌≤◌, IfOk, OnOk, IfErr, MatchResult};
-ghost use Rattle.std.specs.Io.KnownBytes.{append_known};
-ghost use Rattle.nc_names.specs.Mark.{with_mark};
-ghost use Rattle.nc_message.specs.Written.{written};
-ghost use Rattle.nc_message.specs.declared.tree.Part.TheVariants.{Child};
-ghost use Rattle.nc_outside.specs.Causes.{TookPart};
-ghost use Rattle.nc_session.specs.Reply.{answer_elem, not_supported_elem, reply_tree};
-ghost use Rattle.nc_session.specs.Hello.{text_elem};
-ghost use Rattle.nc_session.specs.inner.Sending.{Sends, IsSendFault, CountsWrites, end_of};
+//! The writing of replies (RFC 6242 4.2 and 4.3).
+ghost use Rattle.std.specs.Prelude.{◌≡◌, ◌++◌, ◌∷◌, ◌<◌, [], length, OnOk, OnErr, IfOk};
+ghost use Rattle.nc_frames.specs.Framing.{announced, chunk, in_chunks};
+ghost use Rattle.nc_names.specs.Signs.{line_feed};
+ghost use Rattle.nc_session.specs.Replies.{cut, framed, reply_text};
+ghost use Rattle.nc_session.specs.declared.base.Base.TheVariants.{Base11};
+ghost use Rattle.nc_session.specs.inner.Turns.{Writes};
 
-use crate::ask::{Asked, Operation};
-use crate::elems::{base_name, base_part, one_part, text_part, two_parts};
-use crate::inbox::MARK;
-use crate::{SessionEnd, words};
-use nc_message::{Bounds, Elem, Part, Tree, write};
-use nc_names::{Bytes, Many, Memory, Text};
+use crate::{Base, SessionEnd};
+use itoa::Buffer;
+use nc_frames::{write_chunks, write_eom};
+use nc_message::{Tree, write};
+use nc_names::{Bytes, Memory, tail};
 use nc_outside::{Sink, write_all};
 use std::alloc::Global;
 
-fn error_part(alloc: Global, name: &str, text: &str) -> Result<Part, Memory>
-    ensures { IfOk result (λ it. it ≡ Child (text_elem name.now text.now)) }
+// How many octets the chunks have, but for the last of a reply.
+const CHUNK: usize = 65_536;
+
+// Appends a body in chunks.
+fn push_chunks(body: &[u8], out: &mut Bytes) -> Result<(), Memory>
+    requires { 0 < length body.now }
+    ensures ok { OnOk result (out.new ≡ out.old ++ framed Base11 body.now) }
+    ensures err { OnErr result (out.new ≡ out.old) }
 {
-    text_part(alloc, name, Text::from_text(alloc, text)?)
+    write_chunks(body, out)
 }
 
-/// The error of an operation that this server lacks (RFC 6241 appendix A).
-fn not_supported(alloc: Global) -> Result<Part, Memory>
-    ensures { IfOk result (λ it. it ≡ Child not_supported_elem) }
+/// Appends a reply, framed. `Memory` changes nothing.
+pub(crate) fn push_reply(
+    alloc: Global,
+    base: Base,
+    reply: &Tree,
+    out: &mut Bytes,
+) -> Result<(), Memory>
+    ensures ok { OnOk result (out.new ≡ out.old ++ reply_text base reply.now) }
+    ensures err { OnErr result (out.new ≡ out.old) }
 {
-    let kind = error_part(alloc, words::error_type_name(), words::protocol_word())?;
-    let tag = error_part(alloc, words::error_tag_name(), words::not_supported_word())?;
-    let severity = error_part(alloc, words::error_severity_name(), words::error_word())?;
-    let mut parts = two_parts(alloc, kind, tag)?;
-    parts.push(severity)?;
-    base_part(alloc, words::rpc_error_name(), parts)
-}
-
-/// What a reply holds: the data of running, which is empty, `ok`, or an error.
-fn answer_part(alloc: Global, operation: Operation) -> Result<Part, Memory>
-    ensures { IfOk result (λ it. it ≡ Child (answer_elem operation)) }
-{
-    match operation {
-        Operation::GetConfig => base_part(alloc, words::data_name(), Many::new(alloc)),
-        Operation::CloseSession => base_part(alloc, words::ok_name(), Many::new(alloc)),
-        Operation::Unknown => not_supported(alloc),
+    let mut body = Bytes::new(alloc);
+    write(reply, &mut body)?;
+    match base {
+        Base::Base10 => write_eom(body.as_slice(), out),
+        Base::Base11 => push_chunks(body.as_slice(), out),
     }
 }
 
-/// The reply to a request.
-pub(crate) fn reply_message(alloc: Global, asked: Asked) -> Result<Tree, Memory>
-    ensures { IfOk result (λ it. it ≡ reply_tree asked) }
+/// Writes bytes.
+pub(crate) fn send<K: Sink>(bytes: &[u8], sink: &mut K) -> Result<(), SessionEnd>
+    ensures { Writes bytes.now (K.taken sink.old) (K.taken sink.new)
+        (K.faults sink.old) (K.faults sink.new) result }
 {
-    let part = answer_part(alloc, asked.operation)?;
-    Ok(Tree {
-        root: Elem {
-            name: base_name(alloc, words::reply_name())?,
-            bounds: Bounds::new(),
-            attrs: asked.attributes,
-            parts: one_part(alloc, part)?,
-        },
-    })
-}
-
-/// Puts the text of a message and the mark after it into `out`, in place of what it held.
-fn frame(tree: &Tree, out: &mut Bytes) -> Result<(), Memory>
-    ensures { OnOk result (out.new ≡ with_mark (written tree.now)) }
-{
-    out.clear();
-    write(tree, out)?;
-    out.push_slice(&MARK)
-}
-
-/// Writes a message and its mark. `out` is a place to work in.
-pub(crate) fn send<K: Sink>(tree: &Tree, out: &mut Bytes, sink: &mut K) -> Result<(), SessionEnd>
-    ensures sent { Sends (K.taken sink.old) (K.taken sink.new) (with_mark (written tree.now)) result }
-    ensures fault { IfErr result IsSendFault }
-    ensures counts { CountsWrites (K.faults sink.old) (K.faults sink.new) (end_of result) }
-{
-    frame(tree, out)?;
-    if write_all(sink, out.as_slice()).is_err() {
+    if write_all(sink, bytes).is_err() {
         return Err(SessionEnd::WriteFault);
     }
     Ok(())
+}
+
+// What stands before the octets of a chunk (RFC 6242 4.2).
+fn header(alloc: Global, size: usize) -> Result<Bytes, Memory>
+    ensures { IfOk result (λ it. it ≡ announced size ++ line_feed ∷ []) }
+{
+    let mut bytes = Bytes::new(alloc);
+    let mut buffer = Buffer::new();
+    bytes.push_slice(b"\n#")?;
+    bytes.push_slice(buffer.format(size).as_bytes())?;
+    bytes.push_slice(b"\n")?;
+    Ok(bytes)
+}
+
+// Writes one chunk.
+fn send_chunk<K: Sink>(alloc: Global, octets: &[u8], sink: &mut K) -> Result<(), SessionEnd>
+    ensures { Writes (chunk octets.now) (K.taken sink.old) (K.taken sink.new)
+        (K.faults sink.old) (K.faults sink.new) result }
+{
+    let header = header(alloc, octets.len())?;
+    match send(header.as_slice(), sink) {
+        Ok(()) => send(octets, sink),
+        Err(end) => Err(end),
+    }
+}
+
+// Writes a body in chunks of so many octets and a last one with the rest, without a copy of it.
+fn send_chunks<K: Sink>(
+    alloc: Global,
+    body: &[u8],
+    size: usize,
+    sink: &mut K,
+) -> Result<(), SessionEnd>
+    requires { 0 < size }
+    ensures { Writes (in_chunks (cut size body.now)) (K.taken sink.old) (K.taken sink.new)
+        (K.faults sink.old) (K.faults sink.new) result }
+{
+    let mut rest = body;
+    while rest.len() > size {
+        if let Err(end) = send_chunk(alloc, &rest[..size], sink) {
+            return Err(end);
+        }
+        rest = tail(rest, size);
+    }
+    match send_chunk(alloc, rest, sink) {
+        Ok(()) => send(b"\n##\n", sink),
+        Err(end) => Err(end),
+    }
+}
+
+/// Writes a reply, framed. Its text is kept once, in `out`.
+pub(crate) fn send_reply<K: Sink>(
+    alloc: Global,
+    base: Base,
+    reply: &Tree,
+    out: &mut Bytes,
+    sink: &mut K,
+) -> Result<(), SessionEnd>
+    ensures { Writes (reply_text base reply.now) (K.taken sink.old) (K.taken sink.new)
+        (K.faults sink.old) (K.faults sink.new) result }
+{
+    out.clear();
+    write(reply, out)?;
+    match base {
+        Base::Base10 => {
+            out.push_slice(b"]]>]]>")?;
+            send(out.as_slice(), sink)
+        }
+        Base::Base11 => send_chunks(alloc, out.as_slice(), CHUNK, sink),
+    }
 }

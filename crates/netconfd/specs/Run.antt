@@ -4,9 +4,9 @@ use Rattle.nc_names.specs.declared.name.Module.{Module}
 use Rattle.nc_names.specs.Counts.{Rose}
 use Rattle.nc_outside.specs.Streams.{Streams}
 use Rattle.nc_outside.specs.declared.files.NamedFile.{NamedFile}
-use Rattle.nc_session.specs.Served.{Served}
-use Rattle.nc_session.specs.declared.end.SessionEnd.{SessionEnd}
-use Rattle.nc_session.specs.declared.end.SessionEnd.TheVariants.{Closed, InputEnded, BadHello, BadFrame, Malformed, TooBig, Killed, ReadFault, WriteFault, Full, Spent, Memory}
+use Rattle.nc_plain.specs.Served.{Served}
+use Rattle.nc_plain.specs.declared.end.SessionEnd.{SessionEnd}
+use Rattle.nc_plain.specs.declared.end.SessionEnd.TheVariants.{Closed, InputEnded, BadHello, BadFrame, Malformed, TooBig, Killed, ReadFault, WriteFault, Full, Spent, Memory}
 use Rattle.netconfd.specs.Words.{IsStdio}
 use Rattle.netconfd.specs.Setup.{IsSetup}
 

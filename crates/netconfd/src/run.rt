@@ -7,7 +7,7 @@ ghost use Rattle.netconfd.specs.Run.{HasNoReading, Runs, outside, status_of};
 use crate::setup::{SetupFault, read_setup};
 use crate::words::read_words;
 use nc_outside::{Files, Sink, Source};
-use nc_session::{SessionEnd, serve_plain};
+use nc_plain::{SessionEnd, serve_plain};
 use std::alloc::Global;
 
 /// The outside of the program: the files of the setup folder, and the session's input and output.

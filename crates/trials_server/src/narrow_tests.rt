@@ -5,7 +5,7 @@
 //! `«text»`. No narrow message has `«` or `»`, so two that are shown alike have the same tree.
 use nc_message::{Elem, Part};
 use nc_names::{Bound, Memory, QName, Text};
-use nc_session::{one_tree, read_tree};
+use nc_plain::{one_tree, read_tree};
 use std::alloc::Global;
 use std::fmt::Write;
 use std::test::Fail;

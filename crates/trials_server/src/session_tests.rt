@@ -1,8 +1,8 @@
-//! How sessions of nc_session end, and what they write until then.
+//! How sessions of nc_plain end, and what they write until then.
 use nc_message::Why;
 use nc_names::{Bytes, MESSAGE_LIMIT, Many, Memory, Module, PIECE_LIMIT, Text};
 use nc_outside::{MemSink, MemSource};
-use nc_session::{HelloFault, SessionEnd, serve_plain};
+use nc_plain::{HelloFault, SessionEnd, serve_plain};
 use std::alloc::Global;
 use std::test::Fail;
 

@@ -1,0 +1,10 @@
+pub mod Counting
+pub mod Fetching
+pub mod NarrowAttrs
+pub mod NarrowCode
+pub mod NarrowContent
+pub mod NarrowFronts
+pub mod NarrowTags
+pub mod NarrowTrees
+pub mod Occurring
+pub mod Turning

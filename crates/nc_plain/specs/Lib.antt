@@ -1,0 +1,10 @@
+pub mod Asked
+pub mod Hello
+pub mod Narrow
+pub mod Reading
+pub mod Reply
+pub mod Served
+pub mod Session
+pub mod Shape
+pub mod Words
+pub mod inner

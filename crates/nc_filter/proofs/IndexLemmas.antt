@@ -11,7 +11,7 @@ use Rattle.nc_names.specs.Same.{is_same_path}
 use Rattle.nc_names.specs.declared.path.Row.{Row}
 use Rattle.nc_names.specs.declared.path.Step.{Step}
 use Rattle.nc_schema.specs.Blocks.{above_last}
-use Rattle.nc_filter.specs.inner.Frames.{children}
+use Rattle.nc_filter.specs.inner.Levels.{children}
 use Rattle.nc_filter.specs.inner.Tables.{IsIndex, in_table, order, without}
 
 pub nothing_indexed : (table : BTreeMap (Bor (List Step)) (List (Bor Row))) → ((key : Bor (List Step)) → get order table key ≡ None) → IsIndex table []

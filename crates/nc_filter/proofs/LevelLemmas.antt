@@ -12,10 +12,10 @@ use Rattle.nc_schema.specs.Blocks.{above_last}
 use Rattle.nc_schema.specs.Tables.{Tables}
 use Rattle.nc_model.specs.Elements.{elem_of}
 use Rattle.nc_model.specs.Filter.{holds, is_content_match, is_of_matches, is_of_node, is_of_text, meets}
-use Rattle.nc_filter.specs.inner.Frames.{children, fits, is_element, is_met, is_part_match, is_part_met}
+use Rattle.nc_filter.specs.inner.Levels.{children, fits, is_element, is_met, is_part_match, is_part_met}
 
 -- a test of all elements, as one of the parts
-all_parts : (test : Elem → Bool) (parts : List Part) → list_all test (filter_map elem_of parts) ≡ list_all (λ part. option_map_or test (elem_of part) true) parts
+pub all_parts : (test : Elem → Bool) (parts : List Part) → list_all test (filter_map elem_of parts) ≡ list_all (λ part. option_map_or test (elem_of part) true) parts
 all_parts test [] = refl
 all_parts test (part ∷ parts) = by (elem_of part) (all_parts test parts)
   where

@@ -2,8 +2,11 @@ pub mod TextLemmas
 pub mod ElementLemmas
 pub mod StepLemmas
 pub mod IndexLemmas
-pub mod StateLemmas
+pub mod Unions
 pub mod LevelLemmas
-pub mod SelectLemmas
+pub mod PickLemmas
+pub mod WalkLemmas
+pub mod TableLemmas
+pub mod ClassLemmas
 pub mod PlacesLemmas
 pub mod KeptLemmas

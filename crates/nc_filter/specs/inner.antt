@@ -1,3 +1,4 @@
-pub mod Frames
+pub mod Levels
 pub mod Tables
-pub mod Kept
+pub mod Picks
+pub mod Runs

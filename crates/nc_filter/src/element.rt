@@ -6,7 +6,8 @@ ghost use Rattle.nc_names.specs.Same.{is_same_text};
 ghost use Rattle.nc_names.specs.Signs as signs;
 ghost use Rattle.nc_model.specs.Elements as elements;
 ghost use Rattle.nc_model.specs.Filter as meant;
-ghost use Rattle.nc_filter.specs.inner.Frames.{fits};
+ghost use Rattle.nc_filter.specs.inner.Levels.{fits};
+ghost use Rattle.nc_filter.specs.inner.Picks.{is_named};
 
 use crate::text::{is_value, text_of};
 use nc_message::{Attr, Elem, Part};
@@ -56,7 +57,8 @@ pub(crate) fn is_containment(elem: &Elem) -> bool
     has_child(elem) && !is_content_match(elem)
 }
 
-fn has_no_attribute(attrs: &Many<Attr>) -> bool
+/// Whether there is no attribute.
+pub(crate) fn has_no_attribute(attrs: &Many<Attr>) -> bool
     ensures { result ≡ meant.has_no_attribute attrs.now }
 {
     attrs.is_empty()
@@ -94,6 +96,16 @@ pub(crate) fn is_of_node(schema: &Schema, elem: &Elem, step: &Step) -> bool
     ensures { result ≡ meant.is_of_node schema.now elem.now step.now }
 {
     match schema.node(step.node) {
+        Some(node) => is_of_name(elem, node),
+        None => false,
+    }
+}
+
+/// Whether an element has the name of a data node.
+pub(crate) fn is_named(schema: &Schema, number: u32, elem: &Elem) -> bool
+    ensures { result ≡ is_named schema.now number elem.now }
+{
+    match schema.node(number) {
         Some(node) => is_of_name(elem, node),
         None => false,
     }

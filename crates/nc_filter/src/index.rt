@@ -3,7 +3,7 @@ ghost use Rattle.std.specs.Prelude.{◌≡◌, ◌∷◌, ◌++◌, [], List, If
 ghost use Rattle.std.specs.Option.{option_copied, option_map_or};
 ghost use Rattle.nc_names.specs.declared.path.Row.{Row};
 ghost use Rattle.nc_schema.specs.Blocks as blocks;
-ghost use Rattle.nc_filter.specs.inner.Frames.{children};
+ghost use Rattle.nc_filter.specs.inner.Levels.{children};
 ghost use Rattle.nc_filter.specs.inner.Tables.{IsIndex, in_table, without};
 
 use nc_names::{Many, Memory, Row, Step};

@@ -2,14 +2,23 @@
 //! messages, whose elements filters are, on the schema and on configurations.
 //!
 //! `select` gives exactly the rows that the definition `selected` says, whatever the filter and the rows are.
+//!
+//! The filter is read level by level, and each level meets all rows of its instances at once: elements of
+//! one name and without content matches are joined, and content matches are looked up among the values of
+//! the rows.
 #![tactic(auto)]
 
 mod element;
-mod frame;
+mod guards;
 mod index;
+mod level;
 mod places;
+mod rows;
+mod runs;
 mod selection;
+mod table;
 mod text;
+mod texts;
 mod walk;
 
 pub use selection::select;

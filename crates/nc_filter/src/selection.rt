@@ -1,52 +1,23 @@
 //! The rows that a filter keeps (RFC 6241 6).
-ghost use Rattle.std.specs.Prelude.{◌≡◌, ◌&&◌, ◌||◌, ◌==◌, ◌++◌, ◌∷◌, if◌then◌else◌, [], List, IfOk, None};
+ghost use Rattle.std.specs.Prelude.{◌≡◌, ◌&&◌, ◌||◌, ◌==◌, ◌++◌, ◌∷◌, Bool, if◌then◌else◌, [], List};
+ghost use Rattle.std.specs.Prelude.{IfOk, None};
 ghost use Rattle.std.specs.Prelude.{map, option_map};
 ghost use Rattle.std.specs.List.{filter, last_or, list_any};
-ghost use Rattle.nc_message.specs.declared.tree.Elem.{Elem};
 ghost use Rattle.nc_names.specs.declared.path.Row.{Row};
 ghost use Rattle.nc_schema.specs.Order.{keys_above};
 ghost use Rattle.nc_model.specs.Filter as meant;
-ghost use Rattle.nc_filter.specs.inner.Kept.{IsWalk};
 ghost use Rattle.nc_filter.specs.inner.Tables.{ArePlaces, IsIndex};
 
 use crate::element::last_step;
 use crate::index::{Index, above_last};
 use crate::places::Places;
-use crate::walk::Walk;
+use crate::rows::references;
+use crate::walk::pick_within;
 use nc_message::Elem;
 use nc_names::{Copies, Many, Memory, Row, Step};
 use nc_schema::{Node, Schema};
 use nc_tree::Config;
 use std::alloc::Global;
-
-// Goes on to a row, and tells whether the filter selects it.
-fn turn<'a>(
-    alloc: Global,
-    schema: &Schema,
-    index: &Index<'a>,
-    walk: Walk<'a>,
-    row: &'a Row,
-) -> Result<(Walk<'a>, bool), Memory>
-    ensures { IfOk result (λ it. (rows : List Row) (filter : Elem) → IsIndex index.now.table rows →
-        IsWalk schema.now rows filter walk.entry.steps.now walk.entry.frames →
-        IsWalk schema.now rows filter it.0.steps.now it.0.frames
-        × (it.1 ≡ meant.selects schema.now rows row.now (meant.level_of filter) [] row.now.path.steps)) }
-{
-    let walk = walk.go(alloc, schema, index, row.path.steps.as_slice())?;
-    let selected = walk.is_selected(alloc, schema, row)?;
-    Ok((walk, selected))
-}
-
-fn push_if<'a>(rows: Many<&'a Row>, selected: bool, row: &'a Row) -> Result<Many<&'a Row>, Memory>
-    ensures { IfOk result (λ it. map (λ row. row.now) it ≡ (if selected
-        then map (λ row. row.now) rows.entry ++ row.now ∷ [] else map (λ row. row.now) rows.entry)) }
-{
-    let mut rows = rows;
-    if selected {
-        rows.push(row)?;
-    }
-    Ok(rows)
-}
 
 fn push_copy_if(rows: Many<Row>, selected: bool, row: &Row) -> Result<Many<Row>, Memory>
     ensures { IfOk result (λ it. it ≡ (if selected then rows ++ row.now ∷ [] else rows)) }
@@ -58,7 +29,7 @@ fn push_copy_if(rows: Many<Row>, selected: bool, row: &Row) -> Result<Many<Row>,
     Ok(rows)
 }
 
-// The rows that the filter selects by itself.
+// The rows that the filter selects by itself, in some order.
 fn chosen<'a>(
     alloc: Global,
     schema: &Schema,
@@ -66,16 +37,17 @@ fn chosen<'a>(
     filter: &'a Elem,
     rows: &'a [Row],
 ) -> Result<Many<&'a Row>, Memory>
-    ensures { IfOk result (λ it. IsIndex index.now.table rows.now → map (λ row. row.now) it
-        ≡ meant.chosen schema.now filter.now rows.now) }
+    ensures { IfOk result (λ it. IsIndex index.now.table rows.now → (test : Row → Bool) →
+        list_any test (map (λ row. row.now) it)
+        ≡ list_any test (meant.chosen schema.now filter.now rows.now)) }
 {
-    let mut walk = Walk::new(alloc, schema, index, filter)?;
-    let mut found = Many::new(alloc);
-    for row in rows {
-        let (next, selected) = turn(alloc, schema, index, walk, row)?;
-        walk = next;
-        found = push_if(found, selected, row)?;
-    }
+    let all = references(alloc, rows)?;
+    let here = all.as_slice();
+    let mut elems = Many::new(alloc);
+    elems.push(filter)?;
+    let top = elems.as_slice();
+    let none = Many::new(alloc);
+    let found = pick_within(alloc, schema, index, 0, top, here, none)?;
     Ok(found)
 }
 

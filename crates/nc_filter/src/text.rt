@@ -42,8 +42,8 @@ fn before_white(bytes: &[u8]) -> &[u8]
     &bytes[..end]
 }
 
-// What is left without white space at both ends.
-fn trimmed(bytes: &[u8]) -> &[u8]
+/// What is left without white space at both ends.
+pub(crate) fn trimmed(bytes: &[u8]) -> &[u8]
     ensures { result.now ≡ values.trimmed bytes.now }
 {
     before_white(after_white(bytes))
@@ -70,8 +70,8 @@ fn only_text(parts: &[Part]) -> Option<&str>
     Some(text_of(first))
 }
 
-// The text of an element's content without its child elements.
-fn whole_text(alloc: Global, parts: &[Part]) -> Result<Text, Memory>
+/// The text of an element's content without its child elements.
+pub(crate) fn whole_text(alloc: Global, parts: &[Part]) -> Result<Text, Memory>
     ensures { IfOk result (λ it. it ≡ elements.whole_text parts.now) }
 {
     let mut text = Text::new(alloc);

@@ -1,174 +1,193 @@
-//! The way down from the root to one row after another.
-ghost use Rattle.std.specs.Prelude.{◌≡◌, ◌∷◌, ◌++◌, [], List, IfOk, map, take, ◌<◌, ◌≤◌, ◌+◌, length};
-ghost use Rattle.std.specs.List.{common_prefix_len, list_any};
-ghost use Rattle.nc_names.specs.Same.{is_same_step};
-ghost use Rattle.nc_message.specs.declared.tree.Elem.{Elem};
+//! The filter from the top down: which of some rows the elements of a level select (RFC 6241 6.2).
+ghost use Rattle.std.specs.Prelude.{◌≡◌, ◌+◌, ◌<◌, ◌^◌, ◌&&◌, ◌||◌, List, IfOk, OnSome, map};
+ghost use Rattle.std.specs.List.{list_any};
 ghost use Rattle.nc_names.specs.declared.path.Row.{Row};
-ghost use Rattle.nc_names.specs.declared.path.Step.{Step};
-ghost use Rattle.nc_filter.specs.inner.Frames as frames;
+ghost use Rattle.nc_model.specs.Filter as meant;
+ghost use Rattle.nc_filter.specs.inner.Picks as picks;
 ghost use Rattle.nc_filter.specs.inner.Tables.{IsIndex};
-ghost use Rattle.nc_filter.specs.inner.Kept.{IsWalk, state_of};
 
-use crate::element::fits;
-use crate::frame::Frame;
+use crate::guards::{classes, rows_of_class};
 use crate::index::Index;
+use crate::level::{
+    containments, has_level_of_matches, has_selection, levels_of, named, plain_ones,
+};
+use crate::rows::{extended, first_node, listed, with_node, without_node};
+use crate::runs::cut;
+use crate::table::Table;
+use crate::texts::matched;
 use nc_message::Elem;
-use nc_names::{Many, Memory, Row, Step, tail};
+use nc_names::{Many, Memory, Row};
 use nc_schema::Schema;
 use std::alloc::Global;
 
-/// What a filter says of the nodes on the way to one row, the root among them.
-#[derive(Drop)]
-pub(crate) struct Walk<'a> {
-    pub(crate) steps: &'a [Step],
-    pub(crate) frames: Many<Frame<'a>>,
-}
-
-fn is_same_step(step: &Step, other: &Step) -> bool
-    ensures { result ≡ is_same_step step.now other.now }
-{
-    step == other
-}
-
-// How many first steps two paths have together.
-fn common(steps: &[Step], others: &[Step]) -> usize
-    ensures { result ≡ common_prefix_len is_same_step steps.now others.now }
-{
-    let mut count = 0;
-    let mut rest = others;
-    for step in steps {
-        let Some((other, more)) = rest.split_first() else {
-            return count;
-        };
-        if !is_same_step(step, other) {
-            return count;
-        }
-        count += 1;
-        rest = more;
-    }
-    count
-}
-
-// How many they are, which is not more than either has.
-fn common_count(steps: &[Step], others: &[Step]) -> usize
-    ensures word { result ≡ common_prefix_len is_same_step steps.now others.now }
-    ensures within { (result ≤ length steps.now) × (result ≤ length others.now) }
-{
-    common(steps, others)
-}
-
-// What the filter says of a node in one of which it says what the frame does. `above` are the steps
-// to the node.
-fn stepped<'a>(
+// Adds those of some rows that the elements of a level pick, in the instances at a depth.
+#[cycle(pick)]
+fn pick_level<'a>(
     alloc: Global,
     schema: &Schema,
     index: &Index<'a>,
-    frame: &Frame<'a>,
-    above: &'a [Step],
-    step: &Step,
-) -> Result<Frame<'a>, Memory>
-    ensures { IfOk result (λ it. (rows : List Row) → IsIndex index.now.table rows →
-        state_of it ≡ frames.after_step schema.now (frames.children rows above.now) step.now
-        (state_of frame.now)) }
+    depth: usize,
+    elems: &[&'a Elem],
+    rows: Many<&'a Row>,
+    out: Many<&'a Row>,
+) -> Result<Many<&'a Row>, Memory>
+    ensures { IfOk result (λ it. (all : List Row) → IsIndex index.now.table all →
+        picks.Adds (map (λ row. row.now) out.entry) (map (λ row. row.now) it)
+        (picks.picked schema.now all depth (map (λ elem. elem.now) elems.now))
+        (map (λ row. row.now) rows.entry)) }
 {
-    match index.children(above) {
-        Some(inside) => Ok(frame.next(alloc, schema, inside.as_slice(), step)?),
-        None => Ok(frame.next(alloc, schema, &[], step)?),
+    let mut out = out;
+    let mut rest = rows;
+    'nodes: while !rest.is_empty() {
+        let left = rest.as_slice();
+        let node = first_node(depth, left);
+        out = pick_some(alloc, schema, index, depth, node, elems, left, out)?;
+        rest = without_node(alloc, depth, node, left)?;
     }
+    Ok(out)
 }
 
-// Puts the frame of one node more onto those of the nodes above it.
-fn pushed<'a>(
+// Adds those of some rows whose path has one data node at a depth, or none, and that the elements pick.
+#[cycle(pick)]
+fn pick_some<'a>(
     alloc: Global,
     schema: &Schema,
     index: &Index<'a>,
-    frames: Many<Frame<'a>>,
-    above: &'a [Step],
-    step: &Step,
-) -> Result<Many<Frame<'a>>, Memory>
-    ensures { IfOk result (λ it. (rows : List Row) (filter : Elem) (before : List Step) →
-        IsIndex index.now.table rows →
-        above.now ≡ before ++ step.now ∷ [] → IsWalk schema.now rows filter before frames.entry →
-        IsWalk schema.now rows filter above.now it) }
+    depth: usize,
+    node: Option<u32>,
+    elems: &[&'a Elem],
+    rows: &[&'a Row],
+    out: Many<&'a Row>,
+) -> Result<Many<&'a Row>, Memory>
+    requires { OnSome node (depth + 1 < 2 ^ 64) }
+    ensures { IfOk result (λ it. (all : List Row) → IsIndex index.now.table all →
+        picks.Adds (map (λ row. row.now) out.entry) (map (λ row. row.now) it)
+        (λ row. picks.is_number (picks.node_at depth row) node
+        && picks.picked schema.now all depth (map (λ elem. elem.now) elems.now) row)
+        (map (λ row. row.now) rows.now)) }
 {
-    let mut frames = frames;
-    let Some(last) = frames.last() else {
-        return Ok(frames);
-    };
-    let frame = stepped(alloc, schema, index, last, above, step)?;
-    frames.push(frame)?;
-    Ok(frames)
+    match node {
+        Some(number) => Ok(pick_node(alloc, schema, index, depth, number, elems, rows, out)?),
+        None => Ok(out),
+    }
 }
 
-// The frame of the root.
-fn opening<'a>(
+// Adds those of some rows that are at or below one data node and that the elements pick.
+#[cycle(pick)]
+fn pick_node<'a>(
     alloc: Global,
     schema: &Schema,
     index: &Index<'a>,
-    filter: &'a Elem,
-) -> Result<Frame<'a>, Memory>
-    ensures { IfOk result (λ it. (rows : List Row) → IsIndex index.now.table rows → state_of it
-        ≡ frames.opening schema.now rows filter.now) }
+    depth: usize,
+    node: u32,
+    elems: &[&'a Elem],
+    rows: &[&'a Row],
+    out: Many<&'a Row>,
+) -> Result<Many<&'a Row>, Memory>
+    requires { depth + 1 < 2 ^ 64 }
+    ensures { IfOk result (λ it. (all : List Row) → IsIndex index.now.table all →
+        picks.Adds (map (λ row. row.now) out.entry) (map (λ row. row.now) it)
+        (λ row. picks.has_node depth node row
+        && picks.picks_at schema.now all depth (map (λ elem. elem.now) elems.now) row node)
+        (map (λ row. row.now) rows.now)) }
 {
-    match index.children(&[]) {
-        Some(inside) => Ok(Frame::open(alloc, schema, inside.as_slice(), filter)?),
-        None => Ok(Frame::open(alloc, schema, &[], filter)?),
+    let named = named(alloc, schema, node, elems)?;
+    let ones = named.as_slice();
+    let rows = with_node(alloc, depth, node, rows)?;
+    let here = rows.as_slice();
+    if has_selection(ones) {
+        let found = extended(out, here)?;
+        return Ok(found);
     }
+    let out = matched(alloc, depth, ones, here, out)?;
+    let inner = containments(alloc, ones)?;
+    let lower = inner.as_slice();
+    let found = pick_within(alloc, schema, index, depth + 1, lower, here, out)?;
+    Ok(found)
 }
 
-impl<'a> Walk<'a> {
-    /// A walk to the root.
-    pub(crate) fn new(
-        alloc: Global,
-        schema: &Schema,
-        index: &Index<'a>,
-        filter: &'a Elem,
-    ) -> Result<Walk<'a>, Memory>
-        ensures { IfOk result (λ it. (rows : List Row) → IsIndex index.now.table rows →
-            IsWalk schema.now rows filter.now it.steps.now it.frames) }
-    {
-        let mut frames = Many::new(alloc);
-        frames.push(opening(alloc, schema, index, filter)?)?;
-        Ok(Walk { steps: &[], frames })
-    }
+/// Adds those of some rows that the level of one of the elements selects, in the instances at a depth.
+#[cycle(pick)]
+pub(crate) fn pick_within<'a>(
+    alloc: Global,
+    schema: &Schema,
+    index: &Index<'a>,
+    depth: usize,
+    elems: &[&'a Elem],
+    rows: &[&'a Row],
+    out: Many<&'a Row>,
+) -> Result<Many<&'a Row>, Memory>
+    ensures { IfOk result (λ it. (all : List Row) → IsIndex index.now.table all →
+        picks.Adds (map (λ row. row.now) out.entry) (map (λ row. row.now) it)
+        (λ row. list_any (picks.within schema.now all depth row) (map (λ elem. elem.now) elems.now))
+        (map (λ row. row.now) rows.now)) }
+{
+    let plain = plain_ones(alloc, elems, true)?;
+    let guarded = plain_ones(alloc, elems, false)?;
+    let free = plain.as_slice();
+    let bound = guarded.as_slice();
+    let out = pick_open(alloc, schema, index, depth, free, rows, out)?;
+    let found = pick_guarded(alloc, schema, index, depth, bound, rows, out)?;
+    Ok(found)
+}
 
-    /// Goes on to another node. What the filter says of the nodes that are above both stays.
-    pub(crate) fn go(
-        self,
-        alloc: Global,
-        schema: &Schema,
-        index: &Index<'a>,
-        steps: &'a [Step],
-    ) -> Result<Walk<'a>, Memory>
-        ensures { IfOk result (λ it. (rows : List Row) (filter : Elem) → IsIndex index.now.table rows →
-            IsWalk schema.now rows filter self.entry.steps.now self.entry.frames →
-            IsWalk schema.now rows filter steps.now it.frames × (it.steps.now ≡ steps.now)) }
-    {
-        let mut at = common_count(self.steps, steps);
-        let mut frames = self.frames;
-        frames.truncate(at + 1);
-        for step in tail(steps, at) {
-            at += 1;
-            frames = pushed(alloc, schema, index, frames, &steps[..at], step)?;
-        }
-        Ok(Walk { steps, frames })
+// Adds those of some rows that the level of one of the elements picks, where its content matches hold.
+#[cycle(pick)]
+fn pick_open<'a>(
+    alloc: Global,
+    schema: &Schema,
+    index: &Index<'a>,
+    depth: usize,
+    elems: &[&'a Elem],
+    rows: &[&'a Row],
+    out: Many<&'a Row>,
+) -> Result<Many<&'a Row>, Memory>
+    ensures { IfOk result (λ it. (all : List Row) → IsIndex index.now.table all →
+        picks.Adds (map (λ row. row.now) out.entry) (map (λ row. row.now) it)
+        (λ row. list_any (picks.opens schema.now all depth row) (map (λ elem. elem.now) elems.now))
+        (map (λ row. row.now) rows.now)) }
+{
+    if has_level_of_matches(elems) {
+        let found = extended(out, rows)?;
+        return Ok(found);
     }
+    let level = levels_of(alloc, elems)?;
+    let below = level.as_slice();
+    let copy = listed(alloc, rows)?;
+    let found = pick_level(alloc, schema, index, depth, below, copy, out)?;
+    Ok(found)
+}
 
-    /// Whether the filter selects the row to which the walk leads.
-    pub(crate) fn is_selected(
-        &self,
-        alloc: Global,
-        schema: &Schema,
-        row: &Row,
-    ) -> Result<bool, Memory>
-        ensures { IfOk result (λ it. (rows : List Row) (filter : Elem) →
-            IsWalk schema.now rows filter self.now.steps.now self.now.frames →
-            it ≡ frames.is_selected schema.now (frames.at_end schema.now rows
-            (frames.opening schema.now rows filter) [] self.now.steps.now) row.now) }
-    {
-        match self.frames.last() {
-            Some(frame) => Ok(frame.is_selected(alloc, schema, row)?),
-            None => Ok(false),
-        }
+// Adds those of some rows that the levels of some elements select, in which content matches stand.
+#[cycle(pick)]
+fn pick_guarded<'a>(
+    alloc: Global,
+    schema: &Schema,
+    index: &Index<'a>,
+    depth: usize,
+    elems: &[&'a Elem],
+    rows: &[&'a Row],
+    out: Many<&'a Row>,
+) -> Result<Many<&'a Row>, Memory>
+    ensures { IfOk result (λ it. (all : List Row) → IsIndex index.now.table all →
+        picks.Adds (map (λ row. row.now) out.entry) (map (λ row. row.now) it)
+        (λ row. list_any (picks.within schema.now all depth row) (map (λ elem. elem.now) elems.now))
+        (map (λ row. row.now) rows.now)) }
+{
+    if elems.is_empty() {
+        return Ok(out);
     }
+    let runs = cut(alloc, depth, rows)?;
+    let whole = runs.as_slice();
+    let table = Table::new(alloc, schema, index, whole)?;
+    let classes = classes(alloc, elems)?;
+    let mut out = out;
+    for class in classes.as_slice() {
+        let matches = class.matches.as_slice();
+        let held = rows_of_class(alloc, schema, index, &table, matches, whole)?;
+        let inner = class.elems.as_slice();
+        let here = held.as_slice();
+        out = pick_open(alloc, schema, index, depth, inner, here, out)?;
+    }
+    Ok(out)
 }

@@ -3,3 +3,7 @@ pub mod Naming
 pub mod PlacesLemmas
 pub mod Recursion
 pub mod GatherLemmas
+pub mod HeldLemmas
+pub mod MarkLemmas
+pub mod PutLemmas
+pub mod TurnLemmas

@@ -1,139 +1,387 @@
-//! The rows of a subtree whose elements come in document order: each goes to the end.
-ghost use Rattle.std.specs.Prelude.{◌≡◌, [], true, Some, IfOk, List, fold};
+//! The rows that merges leave, in whatever order these come: each row goes to its place.
+ghost use Rattle.std.specs.Prelude.{◌≡◌, ◌∷◌, [], ◌⊎◌, true, Some, IfOk, List, fold};
+ghost use Rattle.std.specs.Map.{values_of};
 ghost use Rattle.nc_names.specs.declared.path.Row.{Row};
 ghost use Rattle.nc_names.specs.declared.path.Place.TheVariants.{Kept};
-ghost use Rattle.nc_schema.specs.Standing.{steps_before};
+ghost use Rattle.nc_schema.specs.Blocks.{at_node};
+ghost use Rattle.nc_schema.specs.Kinds as kinds;
+ghost use Rattle.nc_schema.specs.Standing.{cases_of, is_less};
 ghost use Rattle.nc_model.specs.Edited.{left_by};
 ghost use Rattle.nc_model.specs.declared.edit.Action.TheVariants.{Merge};
+ghost use Rattle.nc_payload.specs.inner.Marks.{in_marks};
 ghost use Rattle.nc_payload.specs.inner.Gathered as meant;
-ghost use Rattle.nc_payload.specs.inner.Gathered.{AreUpTo, EndsWith, Gathers, IsUpTo};
+ghost use Rattle.nc_payload.specs.inner.Gathered.{AreBelow, AreChosen, Climbs, Gathers, IsFree};
+ghost use Rattle.nc_payload.specs.inner.Gathered.{Receives, TakesPlace, TakesRow, TakesRows};
 
+use crate::attributes::has_value;
+use crate::marks::{Mark, Turns, is_by_user, marks_of, turn_of};
+use crate::turns::turns_of;
 use nc_model::{Action, Edit};
-use nc_names::{Copies, Many, Memory, Path, Place, Row, Step, Text, same_steps};
-use nc_schema::Schema;
-use nc_tree::{Config, rows_of_node};
+use nc_names::{Copies, Many, Memory, Path, Place, Row, Step, Text, same_rows, same_steps};
+use nc_schema::{Case, Schema};
+use nc_tree::{node_of, rows_of_node};
 use std::alloc::Global;
+use std::cmp::Ordering;
+use std::collections::{BTreeMap, BTreeSet};
 
-/// Rows in document order, and a path after which none of them stands.
+/// Rows below a node, the base, in the order of their marks; the steps to the nodes that were merged, and
+/// the first turn that was not taken.
 #[derive(Drop)]
 pub(crate) struct Gathered {
-    pub(crate) rows: Many<Row>,
-    pub(crate) last: Path,
+    pub(crate) base: Many<Step>,
+    pub(crate) rows: BTreeMap<Many<Mark>, Row>,
+    pub(crate) seen: BTreeSet<Many<Step>>,
+    pub(crate) next: u64,
 }
 
-// Whether the user orders the entries of a step's node, or it is in a case.
-fn is_moved(schema: &Schema, step: &Step) -> bool
-    ensures { result ≡ meant.is_moved schema.now step.now }
+// ---- whether a node may be merged now
+fn is_chosen(turns: &Turns, above: &Many<Step>, case: &Case) -> Result<bool, Memory>
+    ensures { IfOk result (λ it. it ≡ true →
+        meant.case_of turns.now above.now case.now.choice ≡ Some case.now.case) }
 {
-    match schema.node(step.node) {
-        Some(node) => node.by_user || node.cases.len() > 0,
-        None => false,
+    let key = (above.copy()?, case.choice);
+    match turns.cases.get(&key) {
+        Some(chosen) => Ok(*chosen == case.case),
+        None => Ok(false),
     }
 }
 
-fn is_apart(schema: &Schema, path: &Path) -> bool
-    ensures { result ≡ meant.is_apart schema.now path.now }
+fn are_chosen(turns: &Turns, above: &Many<Step>, cases: &Many<Case>) -> Result<bool, Memory>
+    ensures { IfOk result (λ it. it ≡ true → AreChosen turns.now above.now cases.now) }
 {
-    path.steps
-        .as_slice()
-        .iter()
-        .any(|step| is_moved(schema, step))
-}
-
-fn comes_before(alloc: Global, schema: &Schema, path: &Path, other: &Path) -> Result<bool, Memory>
-    ensures { IfOk result (λ it. it ≡ steps_before schema.now [] Kept [] path.now.steps other.now.steps) }
-{
-    Config::empty(alloc).is_before(schema, path, other)
-}
-
-#[tactic(auto, using(crate::proofs::GatherLemmas::up_to_itself, crate::proofs::GatherLemmas::up_to_later))]
-fn is_up_to(alloc: Global, schema: &Schema, path: &Path, last: &Path) -> Result<bool, Memory>
-    ensures { IfOk result (λ it. it ≡ true → IsUpTo schema.now last.now path.now) }
-{
-    if is_apart(schema, path) {
-        return Ok(false);
-    }
-    if same_steps(path.steps.as_slice(), last.steps.as_slice()) {
-        return Ok(true);
-    }
-    comes_before(alloc, schema, path, last)
-}
-
-fn are_up_to(alloc: Global, schema: &Schema, rows: &[Row], last: &Path) -> Result<bool, Memory>
-    ensures { IfOk result (λ it. it ≡ true → AreUpTo schema.now last.now rows.now) }
-{
-    for row in rows {
-        if !is_up_to(alloc, schema, &row.path, last)? {
+    for case in cases.as_slice() {
+        if !is_chosen(turns, above, case)? {
             return Ok(false);
         }
     }
     Ok(true)
 }
 
-// With the rows of a node at the end.
+fn has_chosen(
+    schema: &Schema,
+    turns: &Turns,
+    above: &Many<Step>,
+    number: u32,
+) -> Result<bool, Memory>
+    ensures { IfOk result (λ it. it ≡ true →
+        AreChosen turns.now above.now (cases_of schema.now number)) }
+{
+    match schema.node(number) {
+        Some(node) => are_chosen(turns, above, &node.cases),
+        None => Ok(true),
+    }
+}
+
+fn is_leaf(schema: &Schema, steps: &Many<Step>) -> bool
+    ensures { result ≡ at_node schema.now (record { steps = steps.now }) kinds.has_value }
+{
+    match node_of(schema, steps.as_slice()) {
+        Some(node) => has_value(node.kind),
+        None => false,
+    }
+}
+
+// Whether the base or a node that was merged is at these steps.
+fn is_parent(so_far: &Gathered, above: &Many<Step>) -> bool
+    ensures { result ≡ true → (above.now ≡ so_far.now.base) ⊎ (meant.has_seen so_far.now above.now ≡ true) }
+{
+    same_steps(above.as_slice(), so_far.base.as_slice()) || so_far.seen.contains(above)
+}
+
+fn is_free(
+    schema: &Schema,
+    turns: &Turns,
+    so_far: &Gathered,
+    steps: &Many<Step>,
+    above: &Many<Step>,
+    number: u32,
+) -> Result<bool, Memory>
+    ensures { IfOk result (λ it. it ≡ true →
+        IsFree schema.now turns.now so_far.now steps.now above.now number) }
+{
+    if so_far.seen.contains(steps) {
+        return Ok(false);
+    }
+    if !is_parent(so_far, above) {
+        return Ok(false);
+    }
+    if is_leaf(schema, above) {
+        return Ok(false);
+    }
+    has_chosen(schema, turns, above, number)
+}
+
+// ---- nodes and rows that are taken
+fn with_place(
+    schema: &Schema,
+    turns: &Turns,
+    so_far: Gathered,
+    steps: &Many<Step>,
+) -> Result<Option<Gathered>, Memory>
+    ensures { IfOk result (λ it. TakesPlace schema.now turns.now so_far steps.now it) }
+{
+    let mut above = steps.copy()?;
+    let Some(step) = above.pop() else {
+        return Ok(None);
+    };
+    if is_by_user(schema, step.node) {
+        return Ok(None);
+    }
+    if !is_free(schema, turns, &so_far, steps, &above, step.node)? {
+        return Ok(None);
+    }
+    let Gathered {
+        base,
+        rows,
+        seen,
+        next,
+    } = so_far;
+    let mut seen = seen;
+    seen.insert(steps.copy()?)?;
+    Ok(Some(Gathered {
+        base,
+        rows,
+        seen,
+        next,
+    }))
+}
+
+// The first turn after this row's, if its turn is not over.
+fn next_turn(
+    schema: &Schema,
+    turns: &Turns,
+    next: u64,
+    steps: &Many<Step>,
+    number: u32,
+) -> Option<u64>
+    ensures { Receives schema.now turns.now next steps.now number result }
+{
+    if !is_by_user(schema, number) {
+        return Some(next);
+    }
+    let turn = turn_of(turns, steps);
+    if turn < next {
+        return None;
+    }
+    turn.checked_add(1)
+}
+
+fn with_row(
+    alloc: Global,
+    schema: &Schema,
+    turns: &Turns,
+    so_far: Gathered,
+    row: &Row,
+) -> Result<Option<Gathered>, Memory>
+    ensures { IfOk result (λ it. TakesRow schema.now turns.now so_far row.now it) }
+{
+    let steps = &row.path.steps;
+    let mut above = steps.copy()?;
+    let Some(step) = above.pop() else {
+        return Ok(None);
+    };
+    if !is_free(schema, turns, &so_far, steps, &above, step.node)? {
+        return Ok(None);
+    }
+    let Gathered {
+        base,
+        rows,
+        seen,
+        next,
+    } = so_far;
+    let Some(next) = next_turn(schema, turns, next, steps, step.node) else {
+        return Ok(None);
+    };
+    let mut rows = rows;
+    rows.insert(marks_of(alloc, schema, turns, steps)?, row.copy()?)?;
+    let mut seen = seen;
+    seen.insert(steps.copy()?)?;
+    Ok(Some(Gathered {
+        base,
+        rows,
+        seen,
+        next,
+    }))
+}
+
+fn with_rows(
+    alloc: Global,
+    schema: &Schema,
+    turns: &Turns,
+    so_far: Gathered,
+    block: &[Row],
+) -> Result<Option<Gathered>, Memory>
+    ensures { IfOk result (λ it. TakesRows schema.now turns.now so_far block.now it) }
+{
+    let mut all = so_far;
+    for row in block {
+        match with_row(alloc, schema, turns, all, row)? {
+            Some(more) => all = more,
+            None => return Ok(None),
+        }
+    }
+    Ok(Some(all))
+}
+
+// ---- a merge
+fn are_below(path: &Path, rows: &[Row]) -> bool
+    ensures { result ≡ true → AreBelow path.now rows.now }
+{
+    rows.iter().all(|row| row.path.steps.as_slice().starts_with(path.steps.as_slice()))
+}
+
+fn comes_before(marks: &Many<Mark>, others: &Many<Mark>) -> bool
+    ensures { result ≡ is_less (in_marks marks.now others.now) }
+{
+    marks.as_slice().cmp(others.as_slice()) == Ordering::Less
+}
+
+// Whether each of the rows after the first goes after the one before it.
+fn climb(
+    alloc: Global,
+    schema: &Schema,
+    turns: &Turns,
+    first: &Row,
+    rest: &[Row],
+) -> Result<bool, Memory>
+    ensures { IfOk result (λ it. it ≡ true →
+        Climbs schema.now turns.now (meant.row_marks schema.now turns.now first.now) rest.now) }
+{
+    let mut last = marks_of(alloc, schema, turns, &first.path.steps)?;
+    for row in rest {
+        let marks = marks_of(alloc, schema, turns, &row.path.steps)?;
+        if !comes_before(&last, &marks) {
+            return Ok(false);
+        }
+        last = marks;
+    }
+    Ok(true)
+}
+
+// With the rows of a node that was not merged yet.
 fn with_block(
     alloc: Global,
     schema: &Schema,
+    turns: &Turns,
     so_far: Gathered,
     path: &Path,
-    block: Many<Row>,
+    block: &Many<Row>,
 ) -> Result<Option<Gathered>, Memory>
-    ensures { IfOk result (λ it. EndsWith schema.now so_far path.now block it) }
+    ensures { IfOk result (λ it. meant.TakesBlock schema.now turns.now so_far path.now block.now it) }
 {
-    let Gathered { rows, last } = so_far;
-    if block.is_empty() {
-        return Ok(Some(Gathered { rows, last }));
-    }
-    let Some(end) = block.last() else {
-        return Ok(None);
+    let Some((first, rest)) = block.as_slice().split_first() else {
+        return with_place(schema, turns, so_far, &path.steps);
     };
-    let last = end.path.copy()?;
-    if is_apart(schema, &last) {
+    if !same_steps(first.path.steps.as_slice(), path.steps.as_slice()) {
         return Ok(None);
     }
-    if !is_up_to(alloc, schema, path, &last)? {
+    if !are_below(path, rest) {
         return Ok(None);
     }
-    if !are_up_to(alloc, schema, block.as_slice(), &last)? {
+    if !climb(alloc, schema, turns, first, rest)? {
         return Ok(None);
     }
-    let mut rows = rows;
-    rows.append(block)?;
-    Ok(Some(Gathered { rows, last }))
+    match with_row(alloc, schema, turns, so_far, first)? {
+        Some(more) => with_rows(alloc, schema, turns, more, rest),
+        None => Ok(None),
+    }
+}
+
+fn is_only(block: &Many<Row>, row: &Row) -> Result<bool, Memory>
+    ensures { IfOk result (λ it. it ≡ true → block.now ≡ row.now ∷ []) }
+{
+    let mut one = Many::new(block.alloc());
+    one.push(row.copy()?)?;
+    Ok(same_rows(block.as_slice(), one.as_slice()))
+}
+
+// Whether a leaf stands with this row.
+fn stands(
+    alloc: Global,
+    schema: &Schema,
+    turns: &Turns,
+    so_far: &Gathered,
+    path: &Path,
+    block: &Many<Row>,
+) -> Result<bool, Memory>
+    ensures { IfOk result (λ it. it ≡ true →
+        meant.Stands schema.now turns.now so_far.now path.now block.now) }
+{
+    if !is_leaf(schema, &path.steps) {
+        return Ok(false);
+    }
+    let marks = marks_of(alloc, schema, turns, &path.steps)?;
+    match so_far.rows.get(&marks) {
+        Some(row) => {
+            if !same_steps(row.path.steps.as_slice(), path.steps.as_slice()) {
+                return Ok(false);
+            }
+            is_only(block, row)
+        }
+        None => Ok(false),
+    }
 }
 
 fn merged(
     alloc: Global,
     schema: &Schema,
+    turns: &Turns,
     so_far: Gathered,
     path: &Path,
     value: &Option<Text>,
 ) -> Result<Option<Gathered>, Memory>
-    ensures { IfOk result (λ it. Gathers schema.now so_far.rows so_far.last
+    ensures { IfOk result (λ it. Gathers schema.now turns.now so_far
         (record { path = path.now; action = Merge value.now; place = Kept }) it) }
 {
-    if !comes_before(alloc, schema, &so_far.last, path)? {
-        return Ok(None);
-    }
     let block = rows_of_node(alloc, schema, path, value)?;
-    with_block(alloc, schema, so_far, path, block)
+    if !so_far.seen.contains(&path.steps) {
+        return with_block(alloc, schema, turns, so_far, path, &block);
+    }
+    if stands(alloc, schema, turns, &so_far, path, &block)? {
+        return Ok(Some(so_far));
+    }
+    Ok(None)
 }
 
 fn with_edit(
     alloc: Global,
     schema: &Schema,
+    turns: &Turns,
     so_far: Gathered,
     edit: &Edit,
 ) -> Result<Option<Gathered>, Memory>
-    ensures { IfOk result (λ it. Gathers schema.now so_far.rows so_far.last edit.now it) }
+    ensures { IfOk result (λ it. Gathers schema.now turns.now so_far edit.now it) }
 {
     match (&edit.action, &edit.place) {
-        (Action::Merge { value }, Place::Kept) => merged(alloc, schema, so_far, &edit.path, value),
+        (Action::Merge { value }, Place::Kept) => merged(
+            alloc, schema, turns, so_far, &edit.path, value,
+        ),
         _ => Ok(None),
     }
 }
 
-/// The rows that merges leave, made one after another, from nothing, where each goes to the end.
+fn rows_in(alloc: Global, rows: BTreeMap<Many<Mark>, Row>) -> Result<Many<Row>, Memory>
+    ensures { IfOk result (λ it. it ≡ values_of rows.entries) }
+{
+    let mut all = Many::new(alloc);
+    for row in rows.into_values() {
+        all.push(row)?;
+    }
+    Ok(all)
+}
+
+// The node above that of the first merge.
+fn base_of(alloc: Global, merges: &Many<Edit>) -> Result<Many<Step>, Memory> {
+    let Some(first) = merges.get(0) else {
+        return Ok(Many::new(alloc));
+    };
+    let mut base = first.path.steps.copy()?;
+    let _last = base.pop();
+    Ok(base)
+}
+
+/// The rows that merges leave, made one after another, from nothing; `None` where one of them takes
+/// something away.
 pub(crate) fn in_order(
     alloc: Global,
     schema: &Schema,
@@ -142,17 +390,24 @@ pub(crate) fn in_order(
     ensures { IfOk result (λ it. (rows : List Row) → it ≡ Some rows →
         rows ≡ fold (left_by schema.now) [] merges.now) }
 {
+    let turns = turns_of(alloc, schema, merges)?;
     let mut so_far = Gathered {
-        rows: Many::new(alloc),
-        last: Path {
-            steps: Many::new(alloc),
-        },
+        base: base_of(alloc, merges)?,
+        rows: BTreeMap::new(alloc),
+        seen: BTreeSet::new(alloc),
+        next: 0,
     };
     for merge in merges.as_slice() {
-        match with_edit(alloc, schema, so_far, merge)? {
+        match with_edit(alloc, schema, &turns, so_far, merge)? {
             Some(more) => so_far = more,
             None => return Ok(None),
         }
     }
-    Ok(Some(so_far.rows))
+    let Gathered {
+        base: _,
+        rows,
+        seen: _,
+        next: _,
+    } = so_far;
+    Ok(Some(rows_in(alloc, rows)?))
 }

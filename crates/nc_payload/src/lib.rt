@@ -16,10 +16,12 @@ mod elements;
 mod faults;
 mod gather;
 mod made;
+mod marks;
 mod own;
 mod payload;
 mod payload_paths;
 mod texts;
+mod turns;
 mod words;
 
 pub use payload::{PayloadFault, edits, rows};

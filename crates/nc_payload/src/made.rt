@@ -121,6 +121,15 @@ pub(crate) fn config_merged(
 ) -> Result<Config, Memory>
     ensures { IfOk result (λ it. it ≡ meant.rows_merged schema.now merges.now) }
 {
+    match in_order(alloc, schema, merges)? {
+        Some(rows) => Ok(Config::from_rows(rows)),
+        None => one_by_one(alloc, schema, merges),
+    }
+}
+
+fn one_by_one(alloc: Global, schema: &Schema, merges: &Many<Edit>) -> Result<Config, Memory>
+    ensures { IfOk result (λ it. it ≡ meant.rows_merged schema.now merges.now) }
+{
     let mut config = Config::empty(alloc);
     for merge in merges.as_slice() {
         make(alloc, schema, &mut config, merge)?;
@@ -147,8 +156,5 @@ pub(crate) fn rows_merged(
 ) -> Result<Many<Row>, Memory>
     ensures { IfOk result (λ it. it ≡ meant.rows_merged schema.now merges.now) }
 {
-    match in_order(alloc, schema, merges)? {
-        Some(rows) => Ok(rows),
-        None => Ok(config_merged(alloc, schema, merges)?.into_rows()),
-    }
+    Ok(config_merged(alloc, schema, merges)?.into_rows())
 }

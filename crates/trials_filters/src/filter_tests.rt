@@ -22,6 +22,9 @@ const ALL: &str = "barney barney/3=barney barney/4=admin barney/5=Barney barney/
     root root/3=root root/4=superuser root/5=Charlie root/6/7=1 root/6/8=1 \
     .10=h .11:80 .11:80/12=80 .11:81 .11:81/12=81 .13 .13/14=1 .15=m";
 
+const ROUTES: &str = "a a/3=a a/16:x a/16:x/17=x a/16:x/18=1 a/16:y a/16:y/17=y a/16:y/18=2 \
+    b b/3=b b/16:x b/16:x/17=x b/16:x/18=2";
+
 /// Whether a filter of these elements keeps these rows of those.
 fn keeps(
     rt: &impl Abort,
@@ -220,5 +223,72 @@ fn entries_of_two_lists(rt: HostRuntime) {
     ];
     for (elements, wanted) in cases {
         assert!(rt; keeps(&rt, alloc, &schema, elements, ALL, wanted));
+    }
+}
+
+#[test]
+fn elements_that_repeat(rt: HostRuntime) {
+    let alloc = rt.alloc();
+    let schema = schema(&rt, alloc);
+    let cases = [
+        (
+            "<top><users><user><name/></user><user><type/></user></users></top>",
+            "barney barney/3=barney barney/4=admin fred fred/3=fred fred/4=admin \
+            root root/3=root root/4=superuser",
+        ),
+        (
+            "<top><users><user><name>fred</name></user><user><name>fred</name></user></users></top>",
+            FRED,
+        ),
+        (
+            "<top><users><user><name>fred</name><type/></user>\
+             <user><name>fred</name><tag/></user></users></top>",
+            "fred fred/3=fred fred/4=admin fred/9:p=p fred/9:q=q",
+        ),
+        (
+            "<top><users><user><type>admin</type><name/></user>\
+             <user><type>superuser</type><full-name/></user></users></top>",
+            "barney barney/3=barney barney/4=admin fred fred/3=fred fred/4=admin \
+            root root/3=root root/4=superuser root/5=Charlie",
+        ),
+        (
+            "<top><users><user><name xmlns=\"\">fred</name></user></users></top>",
+            FRED,
+        ),
+        (
+            "<top><users><user><name xmlns=\"urn:other\">fred</name></user></users></top>",
+            "",
+        ),
+    ];
+    for (elements, wanted) in cases {
+        assert!(rt; keeps(&rt, alloc, &schema, elements, ALL, wanted));
+    }
+}
+
+#[test]
+fn lists_in_lists(rt: HostRuntime) {
+    let alloc = rt.alloc();
+    let schema = schema(&rt, alloc);
+    let cases = [
+        (
+            "<top><users><user><route><via>2</via></route></user></users></top>",
+            "a a/3=a a/16:y a/16:y/17=y a/16:y/18=2 b b/3=b b/16:x b/16:x/17=x b/16:x/18=2",
+        ),
+        (
+            "<top><users><user><name>a</name><route><via>2</via><to/></route></user></users></top>",
+            "a a/3=a a/16:y a/16:y/17=y a/16:y/18=2",
+        ),
+        (
+            "<top><users><user><route><to/></route></user>\
+             <user><route><via>1</via><none/></route></user></users></top>",
+            "a a/3=a a/16:x a/16:x/17=x a/16:x/18=1 a/16:y a/16:y/17=y b b/3=b b/16:x b/16:x/17=x",
+        ),
+        (
+            "<top><users><user><name>b</name><route><via>1</via></route></user></users></top>",
+            "b b/3=b",
+        ),
+    ];
+    for (elements, wanted) in cases {
+        assert!(rt; keeps(&rt, alloc, &schema, elements, ROUTES, wanted));
     }
 }

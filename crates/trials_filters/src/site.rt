@@ -10,7 +10,10 @@
 //!       6 container company-info {
 //!         7 leaf dept
 //!         8 leaf id }
-//!       9 leaf-list tag } }
+//!       9 leaf-list tag
+//!       16 list route { key 17;
+//!         17 leaf to
+//!         18 leaf via } } }
 //!   10 leaf host
 //!   11 list port { key 12;
 //!     12 leaf name }
@@ -25,7 +28,7 @@ use std::alloc::Global;
 use std::process::Abort;
 
 /// Name, number of the node above, kind and number of the key; 99 is none.
-const NODES: [(&str, u32, Kind, u32); 16] = [
+const NODES: [(&str, u32, Kind, u32); 19] = [
     ("top", 99, Kind::Container { presence: false }, 99),
     ("users", 0, Kind::Container { presence: false }, 99),
     ("user", 1, Kind::List, 3),
@@ -42,6 +45,9 @@ const NODES: [(&str, u32, Kind, u32); 16] = [
     ("extra", 0, Kind::Container { presence: true }, 99),
     ("x", 13, Kind::Leaf, 99),
     ("mode", 0, Kind::Leaf, 99),
+    ("route", 2, Kind::List, 17),
+    ("to", 16, Kind::Leaf, 99),
+    ("via", 16, Kind::Leaf, 99),
 ];
 
 /// A text.

@@ -1,46 +1,160 @@
--- Rows that are gathered in document order, so that one more goes to the end.
-use Rattle.std.specs.Prelude.{◌≡◌, ◌⊎◌, ◌||◌, ◌++◌, [], Bool, true, false, ltb, List, length, Option, Some, None}
-use Rattle.std.specs.List.{All, list_any}
+-- Rows that are gathered in any order: they are kept in the order of their marks, and one more goes to its place.
+use Rattle.std.specs.Prelude.{◌≡◌, ◌⊎◌, ◌<◌, ◌≤◌, ℕ, Bool, true, false, not, List, [], ◌∷◌, ◌++◌, map, fold}
+use Rattle.std.specs.Prelude.{Option, Some, None}
+use Rattle.std.specs.List.{All, filter}
+use Rattle.std.specs.List.Sorted.{IsStrictlySortedBy}
+use Rattle.std.specs.BTreeMap.{get}
+use Rattle.std.specs.BTreeSet.{contains}
+use Rattle.std.specs.Ordering.{is_lt, nat_cmp, ordering_then}
+use Rattle.std.specs.declared.cmp.Ordering.{Ordering}
+use Rattle.std.specs.declared.cmp.Ordering.TheVariants.{Less}
+use Rattle.nc_names.specs.Same.{is_at_or_below}
 use Rattle.nc_names.specs.declared.path.Path.{Path}
 use Rattle.nc_names.specs.declared.path.Place.TheVariants.{Kept}
 use Rattle.nc_names.specs.declared.path.Row.{Row}
 use Rattle.nc_names.specs.declared.path.Step.{Step}
+use Rattle.nc_schema.specs.Blocks.{at_node, rows_of_node}
+use Rattle.nc_schema.specs.Kinds.{has_value}
+use Rattle.nc_schema.specs.Standing.{cases_of, has_row, is_by_user}
+use Rattle.nc_schema.specs.Tables.{Tables}
+use Rattle.nc_schema.specs.declared.node.Case.{Case}
 use Rattle.nc_model.specs.Edited.{left_by}
+use Rattle.nc_model.specs.declared.edit.Action.TheVariants.{Merge}
 use Rattle.nc_model.specs.declared.edit.Edit.{Edit}
 use Rattle.nc_payload.specs.declared.gather.Gathered.{Gathered}
-use Rattle.nc_schema.specs.Order.{IsBefore}
-use Rattle.nc_schema.specs.Standing.{cases_of, is_by_user, steps_before}
-use Rattle.nc_schema.specs.Tables.{Tables}
+use Rattle.nc_payload.specs.declared.marks.Mark.{Mark}
+use Rattle.nc_payload.specs.declared.marks.Turns.{Turns}
+use Rattle.nc_payload.specs.inner.Marks.{in_marks, marks, turn_of}
+use Rattle.nc_payload.specs.inner.Places.{order}
 
--- the user orders the entries of a node on the path, or a node on it is in a case
-abbrev pub is_moved : Tables → Step → Bool
-is_moved tables step = is_by_user tables step.node || ltb 0 (length (cases_of tables step.node))
+-- ---- what is known beforehand: the case of a choice
+abbrev pub in_pairs : List Step × ℕ → List Step × ℕ → Ordering
+in_pairs pair other = ordering_then (order pair.0 other.0) (nat_cmp pair.1 other.1)
 
-abbrev pub is_apart : Tables → Path → Bool
-is_apart tables path = list_any (is_moved tables) path.steps
+abbrev pub case_of : Turns → List Step → ℕ → Option ℕ
+case_of turns above choice = get in_pairs turns.cases (above, choice)
 
--- a path is at the end or before it, and can be compared with every other
-abbrev pub IsUpTo : Tables → Path → Path → Type 0
-IsUpTo tables last path = (is_apart tables path ≡ false) × (IsBefore tables path last ⊎ (path ≡ last))
+-- the cases of a node are those of their choices
+abbrev pub AreChosen : Turns → List Step → List Case → Type 0
+AreChosen turns above cases = All (λ case. case_of turns above case.choice ≡ Some case.case) cases
 
-abbrev pub AreUpTo : Tables → Path → List Row → Type 0
-AreUpTo tables last rows = All (λ row. IsUpTo tables last row.path) rows
+-- ---- rows in the order of their marks
+abbrev pub row_marks : Tables → Turns → Row → List Mark
+row_marks tables turns row = marks tables (turn_of turns) row.path.steps
 
--- no row stands after the end
-pub record InOrder (tables : Tables) (rows : List Row) (last : Path) : Type 0 where
-  pub plain : is_apart tables last ≡ false
-  pub each : AreUpTo tables last rows
+abbrev pub with_marks : Tables → Turns → Row → List Mark × Row
+with_marks tables turns row = (row_marks tables turns row, row)
 
--- with one edit more, if it goes to the end
-abbrev pub Gathers : Tables → List Row → Path → Edit → Option Gathered → Type 0
-Gathers tables rows last edit None = Unit {0}
-Gathers tables rows last edit (Some more) =
-    InOrder tables rows last → (more.rows ≡ left_by tables rows edit) × InOrder tables more.rows more.last
+abbrev pub goes_before : Tables → Turns → Row → Row → Bool
+goes_before tables turns row other = is_lt (in_marks (row_marks tables turns row) (row_marks tables turns other))
 
--- rows with a block at the end, which stands at a node after them
-abbrev pub EndsWith : Tables → Gathered → Path → List Row → Option Gathered → Type 0
-EndsWith tables before path block None = Unit {0}
-EndsWith tables before path block (Some more) =
-    InOrder tables before.rows before.last → (steps_before tables [] Kept [] before.last.steps path.steps ≡ true) →
-    (more.rows ≡ before.rows ++ block) × InOrder tables more.rows more.last ×
-    All (λ row. is_apart tables row.path ≡ false) block
+-- a row in its place
+abbrev pub put : Tables → Turns → List Row → Row → List Row
+put tables turns rows row =
+    filter (λ other. goes_before tables turns other row) rows ++ row ∷
+    filter (λ other. not (goes_before tables turns other row)) rows
+
+-- each row goes before the next
+abbrev pub Climbs : Tables → Turns → List Mark → List Row → Type 0
+Climbs tables turns last [] = Unit {0}
+Climbs tables turns last (row ∷ rows) =
+    (in_marks last (row_marks tables turns row) ≡ Less) × Climbs tables turns (row_marks tables turns row) rows
+
+-- ---- rows so far
+abbrev pub has_seen : Gathered → List Step → Bool
+has_seen so_far steps = contains order so_far.seen steps
+
+-- what is known of a step to a node that was merged: entries that the user orders have their rows, and their turns
+-- were before
+pub record IsKnown (tables : Tables) (turns : Turns) (so_far : Gathered) (rows : List Row)
+    (above : List Step) (step : Step) : Type 0 where
+  pub seen : has_seen so_far (above ++ step ∷ []) ≡ true
+  pub stands : is_by_user tables step.node ≡ true →
+      (has_row rows (above ++ step ∷ []) ≡ true) × (turn_of turns (above ++ step ∷ []) < so_far.next)
+  pub chosen : AreChosen turns above (cases_of tables step.node)
+  pub inner : at_node tables (record { steps = above }) has_value ≡ false
+
+abbrev pub AreKnown : Tables → Turns → Gathered → List Row → List Step → List Step → Type 0
+AreKnown tables turns so_far rows above [] = Unit {0}
+AreKnown tables turns so_far rows above (step ∷ rest) =
+    IsKnown tables turns so_far rows above step × AreKnown tables turns so_far rows (above ++ step ∷ []) rest
+
+-- a node is below the base, and its steps from there are known
+pub record IsHeld (tables : Tables) (turns : Turns) (so_far : Gathered) (rows : List Row)
+    (steps : List Step) : Type 0 where
+  pub rest : List Step
+  pub is : steps ≡ so_far.base ++ rest
+  pub known : AreKnown tables turns so_far rows so_far.base rest
+
+-- these are the rows so far
+pub record Holds (tables : Tables) (turns : Turns) (so_far : Gathered) (rows : List Row) : Type 0 where
+  pub entries : so_far.rows.entries ≡ map (with_marks tables turns) rows
+  pub ordered : IsStrictlySortedBy in_marks (map (row_marks tables turns) rows)
+  pub each : All (λ row. has_seen so_far row.path.steps ≡ true) rows
+  pub known : (steps : List Step) → has_seen so_far steps ≡ true → IsHeld tables turns so_far rows steps
+
+-- a node was not merged yet, what it is in is the base or was, and is no leaf; its cases are those of their choices
+pub record IsFree (tables : Tables) (turns : Turns) (so_far : Gathered) (steps above : List Step)
+    (number : ℕ) : Type 0 where
+  pub new : has_seen so_far steps ≡ false
+  pub parent : (above ≡ so_far.base) ⊎ (has_seen so_far above ≡ true)
+  pub inner : at_node tables (record { steps = above }) has_value ≡ false
+  pub chosen : AreChosen turns above (cases_of tables number)
+
+-- a node that may be merged now; an entry that the user orders has its turn
+pub record IsFresh (tables : Tables) (turns : Turns) (so_far : Gathered) (steps : List Step) : Type 0 where
+  pub above : List Step
+  pub step : Step
+  pub is : steps ≡ above ++ step ∷ []
+  pub free : IsFree tables turns so_far steps above step.node
+  pub turn : is_by_user tables step.node ≡ true → so_far.next ≤ turn_of turns steps
+
+-- a leaf stands, and the rows of its node are its row
+pub record Stands (tables : Tables) (turns : Turns) (so_far : Gathered) (path : Path) (block : List Row) : Type 0 where
+  pub leaf : at_node tables path has_value ≡ true
+  pub row : Row
+  pub found : get in_marks so_far.rows (marks tables (turn_of turns) path.steps) ≡ Some row
+  pub at : row.path.steps ≡ path.steps
+  pub only : block ≡ row ∷ []
+
+abbrev pub AreBelow : Path → List Row → Type 0
+AreBelow path rows = All (λ row. is_at_or_below path.steps row.path ≡ true) rows
+
+-- ---- what a call leaves, if it takes what it is given
+abbrev pub TakesPlace : Tables → Turns → Gathered → List Step → Option Gathered → Type 0
+TakesPlace tables turns before steps None = Unit {0}
+TakesPlace tables turns before steps (Some after) =
+    IsFresh tables turns before steps ×
+    ((rows : List Row) → Holds tables turns before rows → Holds tables turns after rows)
+
+-- a turn is not over, and is before the next
+abbrev pub Receives : Tables → Turns → ℕ → List Step → ℕ → Option ℕ → Type 0
+Receives tables turns next steps number None = Unit {0}
+Receives tables turns next steps number (Some after) =
+    (is_by_user tables number ≡ true → (next ≤ turn_of turns steps) × (turn_of turns steps < after)) × (next ≤ after)
+
+abbrev pub TakesRow : Tables → Turns → Gathered → Row → Option Gathered → Type 0
+TakesRow tables turns before row None = Unit {0}
+TakesRow tables turns before row (Some after) =
+    IsFresh tables turns before row.path.steps ×
+    ((rows : List Row) → Holds tables turns before rows → Holds tables turns after (put tables turns rows row))
+
+abbrev pub TakesRows : Tables → Turns → Gathered → List Row → Option Gathered → Type 0
+TakesRows tables turns before block None = Unit {0}
+TakesRows tables turns before block (Some after) =
+    (rows : List Row) → Holds tables turns before rows →
+    Holds tables turns after (fold (put tables turns) rows block)
+
+-- with the rows of a node
+abbrev pub TakesBlock : Tables → Turns → Gathered → Path → List Row → Option Gathered → Type 0
+TakesBlock tables turns before path block None = Unit {0}
+TakesBlock tables turns before path block (Some after) =
+    (rows : List Row) (value : Option (List ℕ)) → Holds tables turns before rows →
+    block ≡ rows_of_node tables path value →
+    Holds tables turns after (left_by tables rows (record { path = path; action = Merge value; place = Kept }))
+
+-- with one edit more
+abbrev pub Gathers : Tables → Turns → Gathered → Edit → Option Gathered → Type 0
+Gathers tables turns before edit None = Unit {0}
+Gathers tables turns before edit (Some after) =
+    (rows : List Row) → Holds tables turns before rows → Holds tables turns after (left_by tables rows edit)

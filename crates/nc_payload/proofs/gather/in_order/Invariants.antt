@@ -1,9 +1,8 @@
-use Rattle.std.proofs.Common.{◌≡◌, drop, []}
+use Rattle.std.proofs.Common.{take, []}
 use Rattle.std.specs.Prelude.{fold}
 use Rattle.nc_model.specs.Edited.{left_by}
-use Rattle.nc_payload.specs.inner.Gathered.{InOrder}
+use Rattle.nc_payload.specs.inner.Gathered.{Holds}
 use Rattle.nc_payload.proofs.gather.in_order.Given as goal
 
 abbrev pub invariant-loop-merge : goal.invariant-loop-merge
-invariant-loop-merge l =
-    (fold (left_by l.schema) l.so_far.rows (drop l.merge-index l.merge-items) ≡ fold (left_by l.schema) [] l.merges) × InOrder l.schema l.so_far.rows l.so_far.last
+invariant-loop-merge l = Holds l.schema l.turns l.so_far (fold (left_by l.schema) [] (take l.merge-index l.merge-items))

@@ -1,0 +1,10 @@
+use Rattle.std.proofs.Common.{◌≡◌, List, take}
+use Rattle.nc_names.specs.declared.path.Row.{Row}
+use Rattle.nc_filter.specs.inner.Tables.{IsIndex}
+use Rattle.nc_filter.specs.inner.Runs.{IsTable}
+use Rattle.nc_filter.proofs.table.Table.new.Given as goal
+
+abbrev pub invariant-loop-run : goal.invariant-loop-run
+invariant-loop-run l =
+    (l.number ≡ l.run-index)
+    × ((all : List Row) → IsIndex l.index.table all → IsTable l.schema all l.items l.rows (take l.run-index l.rows))

@@ -3,3 +3,17 @@ pub mod WordLemmas
 pub mod StepLemmas
 pub mod PatternLemmas
 pub mod LeafrefLemmas
+pub mod Cuts
+pub mod Names
+pub mod Naming
+pub mod Stages
+pub mod Spots
+pub mod Bridge
+pub mod Readings
+pub mod Below
+pub mod Ending
+pub mod FarLemmas
+pub mod PlaceLemmas
+pub mod KeyLemmas
+pub mod FaultLemmas
+pub mod HereLemmas

@@ -8,7 +8,7 @@ use nc_names::Memory;
 #[derive(Clone, Copy, PartialEq, Eq, Debug)]
 pub enum PathFault {
     /// It names none. `at` is the place, in bytes from 0, of the first byte that no path of the schema has
-    /// there, or the length of the text.
+    /// there, or the length of the text; at most 4,294,967,295.
     BadPath { at: u32 },
     /// No memory was found.
     Memory,

@@ -1,14 +1,15 @@
 //! Instance identifiers (RFC 7950 9.13), node-instance identifiers (RFC 8341 3.5.2), the keys of an anchor
 //! (RFC 7950 7.8.6) and the paths of leafrefs (RFC 7950 9.9.2).
-ghost use Rattle.std.specs.Prelude.{◌≡◌, ◌≤◌, length, None, Some, IfOk, IfErr};
-ghost use Rattle.nc_paths.specs.Faults.{OnBadPath};
+ghost use Rattle.std.specs.Prelude.{◌≡◌, ◌≤◌, ℕ, length, min, is_some, None, Some, Ok, IfOk, IfErr};
+ghost use Rattle.nc_paths.specs.Apart.{HasKeysApart};
+ghost use Rattle.nc_paths.specs.Faults.{IsFaultNumber, OnBadPath, most_place};
 ghost use Rattle.nc_paths.specs.inner.Stops.{OnRefused};
 ghost use Rattle.nc_schema.specs.InstancePaths as paths;
 
 use crate::fault::PathFault;
 use crate::leafref::read_leafref;
 use crate::leafref_place::leafref_place;
-use crate::place::place;
+use crate::place::{pattern_place, place};
 use crate::resolve::{all_given, instance_steps, keys_given, pattern_steps};
 use crate::steps::{only_predicates, steps};
 use crate::stop::Stop;
@@ -160,9 +161,8 @@ pub fn leafref_end<B: Binds>(
 }
 
 // The fault of a text that is refused, by the place that was found.
-fn bad_path(text: &str, found: Result<usize, Memory>) -> PathFault
-    requires { IfOk found (λ at. at ≤ length text.now) }
-    ensures { OnBadPath result (λ at. at ≤ length text.now) }
+fn bad_path(found: Result<usize, Memory>) -> PathFault
+    ensures { OnBadPath result (λ at. (place : ℕ) × (found ≡ Ok place) × (at ≡ min place most_place)) }
 {
     match found {
         Ok(at) => PathFault::BadPath {
@@ -184,10 +184,12 @@ pub fn instance_id<B: Binds>(
     ensures bad { IfErr result (λ fault. OnBadPath fault (λ at. paths.instance_path schema.now text.now
         (B.bound bounds.now) ≡ None)) }
     ensures within { IfErr result (λ fault. OnBadPath fault (λ at. at ≤ length text.now)) }
+    ensures place { IfErr result (λ fault. OnBadPath fault (λ at. HasKeysApart schema.now → IsFaultNumber (λ
+        other. is_some (paths.instance_path schema.now other (B.bound bounds.now))) text.now at)) }
 {
     match instance_path(alloc, schema, text, bounds)? {
         Some(path) => Ok(path),
-        None => Err(bad_path(text, place(alloc, schema, text, bounds, true))),
+        None => Err(bad_path(place(alloc, schema, text, bounds, true))),
     }
 }
 
@@ -203,10 +205,12 @@ pub fn node_instance_id<B: Binds>(
     ensures bad { IfErr result (λ fault. OnBadPath fault (λ at. paths.node_pattern schema.now text.now
         (B.bound bounds.now) ≡ None)) }
     ensures within { IfErr result (λ fault. OnBadPath fault (λ at. at ≤ length text.now)) }
+    ensures place { IfErr result (λ fault. OnBadPath fault (λ at. HasKeysApart schema.now → IsFaultNumber (λ
+        other. is_some (paths.node_pattern schema.now other (B.bound bounds.now))) text.now at)) }
 {
     match node_pattern(alloc, schema, text, bounds)? {
         Some(pattern) => Ok(pattern),
-        None => Err(bad_path(text, place(alloc, schema, text, bounds, false))),
+        None => Err(bad_path(pattern_place(alloc, schema, text, bounds))),
     }
 }
 
@@ -227,6 +231,6 @@ pub fn leafref_path<B: Binds>(
 {
     match leafref_end(alloc, schema, leaf, text, bounds)? {
         Some(end) => Ok(end),
-        None => Err(bad_path(text, leafref_place(alloc, schema, leaf, text, bounds))),
+        None => Err(bad_path(leafref_place(alloc, schema, leaf, text, bounds))),
     }
 }

@@ -2,10 +2,11 @@
 //! alone.
 ghost use Rattle.std.specs.Prelude.{◌≡◌, ◌≤◌, length, IfOk};
 
+use crate::candidates::usable;
 use crate::leafref::parent_of;
-use crate::place::{
-    Halt, Names, after_sign, is_in_space, is_usable, locals_of, named, place_of, prefixes_of,
-    space_of, usable, word,
+use crate::leafref_words::{
+    Halt, Names, after_sign, has_word, is_in_space, is_usable, locals_of, named, place_of,
+    prefixes_of, space_of, word,
 };
 use nc_names::{Binds, Many, Memory, Text};
 use nc_schema::{Kind, Schema};
@@ -89,16 +90,6 @@ fn goes_on(
         here = parent_of(names.schema, number);
     }
     Ok(false)
-}
-
-// Whether one of the texts is these bytes.
-fn has_word(words: &[Text], run: &[u8]) -> bool {
-    for one in words {
-        if one.as_str().as_bytes() == run {
-            return true;
-        }
-    }
-    false
 }
 
 // The name of one of the data nodes, with or without a prefix.
@@ -222,10 +213,10 @@ pub(crate) fn leafref_place<B: Binds>(
     let Some(node) = schema.node(leaf) else {
         return Ok(0);
     };
+    let every = bounds.to_many(alloc)?;
     let names = Names {
         schema,
-        usable: usable(alloc, schema, bounds)?,
-        all: false,
+        usable: usable(alloc, schema, bounds, every.as_slice())?,
     };
     let first = parent_of(schema, leaf);
     let bytes = text.as_bytes();

@@ -3,14 +3,21 @@
 //! (RFC 7950 9.9.2). It stands on the plain types of `nc_names` and on the schema.
 //!
 //! Each call answers exactly what the definitions of `nc_schema` say; keys are as they are written. What
-//! is not of the grammar, or names nothing in the schema, is refused.
+//! is not of the grammar, or names nothing in the schema, is refused. Of an instance identifier and a
+//! node-instance identifier that are refused `at` is the first byte that no path of the schema has there
+//! (clause `place`), where no predicate is of two keys of a list, as in every schema that modules define
+//! (`proper_keys_are_apart`); of a leafref path that is refused it is a place within the text.
 #![tactic(auto)]
 
+mod candidates;
 mod cut;
 mod fault;
+mod halt;
 mod instance;
+mod laws;
 mod leafref;
 mod leafref_place;
+mod leafref_words;
 mod place;
 mod resolve;
 mod steps;
@@ -23,4 +30,5 @@ pub use instance::{
     entry_keys, instance_id, instance_path, leafref_end, leafref_path, node_instance_id,
     node_pattern,
 };
+pub use laws::proper_keys_are_apart;
 pub use resolve::{key_nodes, module_of};

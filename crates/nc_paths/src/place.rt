@@ -1,378 +1,310 @@
 //! The place at which a text stops to be the beginning of a path: it is looked for after a refusal alone.
-ghost use Rattle.std.specs.Prelude.{◌≡◌, ◌≤◌, length, IfOk};
-ghost use Rattle.nc_paths.specs.declared.place.Halt.TheVariants.{Memory as NoMemory};
+ghost use Rattle.std.specs.Prelude.{◌≡◌, ◌<◌, ◌≤◌, ◌-◌, ℕ, List, None, Some, false, true, length, IfOk, IfErr};
+ghost use Rattle.std.specs.List.{list_any};
+ghost use Rattle.nc_paths.specs.inner.Candidates as candidates;
+ghost use Rattle.nc_paths.specs.inner.Counted.{HasUsable, OnHere, ReadsNumber, reading_of};
+ghost use Rattle.nc_paths.specs.inner.Going as going;
+ghost use Rattle.nc_paths.specs.inner.Halting.{Leads, Halts};
+ghost use Rattle.nc_paths.specs.inner.Places as places;
+ghost use Rattle.nc_schema.specs.InstancePaths as paths;
+ghost use Rattle.nc_schema.specs.PathWords as words;
 
-use crate::resolve::{key_nodes, module_of};
-use nc_names::{
-    Binds, Bound, Copies, Many, Memory, Text, is_identifier, is_in_identifier, is_white,
-};
-use nc_schema::Schema;
+use crate::candidates::{Names, any_giveable, can_end, ends_at, farthest, names_of, without};
+use crate::cut::{after_byte, after_white, begins_with};
+use crate::halt::Halt;
+use crate::resolve::{is_of_key, key_nodes, qualified};
+use crate::steps::{own_key, own_name};
+use crate::stop::Stop;
+use crate::words::{read_key, read_name, read_quoted};
+use nc_names::{Binds, Memory};
+use nc_schema::{Schema, WrittenName};
 use std::alloc::Global;
 
-/// Why a text is not read on.
-#[derive(Drop)]
-pub(crate) enum Halt<'a> {
-    /// No path goes on with this rest of the text.
-    Here(&'a [u8]),
-    /// Want of memory.
-    Memory,
-}
-
-impl<'a> From<Memory> for Halt<'a> {
-    ghost from_gives = { λ _ halt. halt ≡ NoMemory };
-
-    fn from(_: Memory) -> Halt<'a> {
-        Halt::Memory
+// The child that a written name names.
+fn child_named(
+    names: &Names<'_>,
+    above: Option<u32>,
+    written: &WrittenName,
+) -> Result<Option<u32>, Memory>
+    ensures { IfOk result (λ it. it ≡ going.child_named (reading_of names.now) above written.now) }
+{
+    match qualified(names.schema, &names.every, written) {
+        Ok(name) => Ok(names.schema.child(above, &name)),
+        Err(Stop::Refused) => Ok(None),
+        Err(Stop::Memory) => Err(Memory),
     }
 }
 
-/// What may be named: `usable` are the bindings of prefixes that can be written to modules of the schema, and
-/// where `all` is set no key is left out.
-#[derive(Drop)]
-pub(crate) struct Names<'n> {
-    pub(crate) schema: &'n Schema,
-    pub(crate) usable: Many<Bound>,
-    pub(crate) all: bool,
+// The child whose name stands first and at which a path can end, and the text after the name.
+fn child_first<'a>(
+    alloc: Global,
+    names: &Names<'_>,
+    above: Option<u32>,
+    text: &'a str,
+) -> Result<Option<(u32, &'a str)>, Memory>
+    requires { HasUsable names.now }
+    ensures { IfOk result (λ it. ReadsNumber it (candidates.child_first (reading_of names.now) above
+        text.now)) }
+{
+    let Some((name, rest)) = read_name(text) else {
+        return Ok(None);
+    };
+    let written = own_name(alloc, name)?;
+    let Some(number) = child_named(names, above, &written)? else {
+        return Ok(None);
+    };
+    if can_end(alloc, names, above, number)? {
+        Ok(Some((number, rest)))
+    } else {
+        Ok(None)
+    }
 }
 
-// The text from a place on.
-fn rest_at(text: &[u8], at: usize) -> &[u8] {
-    text.split_at(at.min(text.len())).1
-}
-
-// How far two texts are the same.
-fn common(one: &[u8], other: &[u8]) -> usize {
-    one.iter()
-        .zip(other.iter())
-        .take_while(|pair| *pair.0 == *pair.1)
-        .count()
-}
-
-/// The text after a sign.
-pub(crate) fn after_sign<'a>(text: &'a [u8], wanted: u8) -> Result<&'a [u8], Halt<'a>> {
-    match text.split_first() {
-        Some((first, more)) => {
-            if *first == wanted {
-                Ok(more)
-            } else {
-                Err(Halt::Here(text))
-            }
+// The first of the keys that a predicate is of.
+fn key_named(
+    names: &Names<'_>,
+    number: u32,
+    left: &[u32],
+    written: &Option<WrittenName>,
+) -> Option<u32>
+    ensures { result ≡ going.key_named (reading_of names.now) number left.now written.now }
+{
+    for key in left {
+        if is_of_key(names.schema, &names.every, number, *key, written) {
+            return Some(*key);
         }
-        None => Err(Halt::Here(text)),
+    }
+    None
+}
+
+// The key of a predicate whose name stands first, and the text after the name.
+fn key_first<'a>(
+    alloc: Global,
+    names: &Names<'_>,
+    number: u32,
+    left: &[u32],
+    text: &'a str,
+) -> Result<Option<(u32, &'a str)>, Memory>
+    ensures { IfOk result (λ it. ReadsNumber it (candidates.key_first (reading_of names.now) number left.now
+        text.now)) }
+{
+    let Some((key, rest)) = read_key(text) else {
+        return Ok(None);
+    };
+    let written = own_key(alloc, key)?;
+    match key_named(names, number, left, &written) {
+        Some(found) => Ok(Some((found, rest))),
+        None => Ok(None),
     }
 }
 
-// The text after white space.
-fn after_white(text: &[u8]) -> &[u8] {
-    rest_at(
-        text,
-        text.iter().take_while(|byte| is_white(**byte)).count(),
-    )
-}
-
-/// One of the words, and the text after it; else the text from where it has no more of any.
-pub(crate) fn word<'a>(text: &'a [u8], words: &[Text]) -> Result<(&'a [u8], &'a [u8]), Halt<'a>> {
-    let count = text
-        .iter()
-        .take_while(|byte| is_in_identifier(**byte))
-        .count();
-    let (run, rest) = text.split_at(count.min(text.len()));
-    let mut furthest = 0;
-    for one in words {
-        if run == one.as_str().as_bytes() {
-            return Ok((run, rest));
-        }
-        furthest = furthest.max(common(run, one.as_str().as_bytes()));
+// A step without its predicates: its data node, and the text after its name.
+fn step_name<'a>(
+    alloc: Global,
+    names: &Names<'_>,
+    above: Option<u32>,
+    text: &'a str,
+) -> Result<(u32, &'a str), Halt>
+    requires { HasUsable names.now }
+    ensures ok { IfOk result (λ found. places.IsStepName (reading_of names.now) above text.now found.0
+        found.1.now) }
+    ensures here { IfErr result (λ halt. OnHere halt (Halts (going.Steps (reading_of names.now) above)
+        text.now)) }
+{
+    let Some(rest) = after_byte(text, b'/') else {
+        return Err(Halt::Here(text.len()));
+    };
+    if let Some(found) = child_first(alloc, names, above, rest)? {
+        return Ok(found);
     }
-    Err(Halt::Here(rest_at(text, furthest)))
+    let among = ends_at(alloc, names, above)?;
+    if among.is_empty() {
+        return Err(Halt::Here(text.len()));
+    }
+    let far = farthest(names, rest.as_bytes(), among.as_slice());
+    Err(Halt::Here(rest.len().saturating_sub(far)))
 }
 
-/// Whether a data node has a name in the namespace.
-pub(crate) fn is_in_space(schema: &Schema, number: u32, space: &Text) -> bool {
-    match schema.node(number) {
-        Some(node) => node.name.space == *space,
+// The name of one of the keys after the bracket of a predicate: the key, and the text after the name.
+fn key_name<'a>(
+    alloc: Global,
+    names: &Names<'_>,
+    number: u32,
+    left: &[u32],
+    text: &'a str,
+) -> Result<(u32, &'a str), Halt>
+    requires usable { HasUsable names.now }
+    requires given { candidates.can_be_given (reading_of names.now) number left.now ≡ true }
+    requires some { list_any (candidates.is_giveable (reading_of names.now) number) left.now ≡ true }
+    ensures ok { IfOk result (λ found. Leads (going.KeyNames (reading_of names.now) number left.now)
+        (places.KeyThen (reading_of names.now) number left.now found.0) text.now found.1.now) }
+    ensures here { IfErr result (λ halt. OnHere halt (Halts (going.KeyNames (reading_of names.now)
+        number left.now) text.now)) }
+{
+    let inside = after_white(text);
+    if let Some(found) = key_first(alloc, names, number, left, inside)? {
+        return Ok(found);
+    }
+    let others = without(alloc, left, number)?;
+    let far = farthest(names, inside.as_bytes(), others.as_slice());
+    Err(Halt::Here(inside.len().saturating_sub(far)))
+}
+
+// The text after white space and a sign.
+fn after_sign(text: &str, wanted: u8) -> Result<&str, Halt>
+    requires { wanted < 128 }
+    ensures ok { IfOk result (λ rest. words.sign wanted (words.after_white text.now) ≡ Some rest.now) }
+    ensures here { IfErr result (λ halt. OnHere halt (λ left. (words.sign wanted (words.after_white
+        text.now) ≡ None) × (left ≡ length (words.after_white text.now)))) }
+{
+    let inside = after_white(text);
+    match after_byte(inside, wanted) {
+        Some(rest) => Ok(rest),
+        None => Err(Halt::Here(inside.len())),
+    }
+}
+
+// Whether a quotation mark stands first.
+fn is_marked(text: &str) -> bool
+    ensures { result ≡ candidates.is_marked text.now }
+{
+    match text.as_bytes().first() {
+        Some(first) => *first == b'\'' || *first == b'"',
         None => false,
     }
 }
 
-// Whether one of the data nodes has a name in the namespace.
-fn any_in_space(schema: &Schema, among: &[u32], space: &Text) -> bool {
-    for number in among {
-        if is_in_space(schema, *number, space) {
-            return true;
-        }
-    }
-    false
-}
-
-/// The prefixes with which the names of data nodes can be written.
-pub(crate) fn prefixes_of(
-    alloc: Global,
-    names: &Names<'_>,
-    among: &[u32],
-) -> Result<Many<Text>, Memory> {
-    let mut out = Many::new(alloc);
-    for bound in names.usable.as_slice() {
-        if any_in_space(names.schema, among, &bound.space) {
-            out.push(bound.prefix.copy()?)?;
-        }
-    }
-    Ok(out)
-}
-
-/// The namespace of a prefix.
-pub(crate) fn space_of<'s>(names: &'s Names<'_>, prefix: &[u8]) -> Option<&'s Text> {
-    for bound in names.usable.as_slice() {
-        if bound.prefix.as_str().as_bytes() == prefix {
-            return Some(&bound.space);
-        }
-    }
-    None
-}
-
-/// The local names of the data nodes in a namespace.
-pub(crate) fn locals_of(
-    alloc: Global,
-    schema: &Schema,
-    among: &[u32],
-    space: &Text,
-) -> Result<Many<Text>, Memory> {
-    let mut out = Many::new(alloc);
-    for number in among {
-        if let Some(node) = schema.node(*number) {
-            if node.name.space == *space {
-                out.push(node.name.name.copy()?)?;
+// The text after white space and a value.
+fn after_value(text: &str) -> Result<&str, Halt>
+    ensures ok { IfOk result (λ rest. (value : List ℕ) × (words.quoted_string (words.after_white text.now) ≡
+        Some (value, rest.now))) }
+    ensures here { IfErr result (λ halt. OnHere halt (λ left. (words.quoted_string (words.after_white
+        text.now) ≡ None) × (left ≡ candidates.value_left (words.after_white text.now)))) }
+{
+    let inside = after_white(text);
+    match read_quoted(inside) {
+        Some((_, rest)) => Ok(rest),
+        None => {
+            if is_marked(inside) {
+                Err(Halt::Here(0))
+            } else {
+                Err(Halt::Here(inside.len()))
             }
         }
     }
-    Ok(out)
 }
 
-/// The data node of a name.
-pub(crate) fn named(schema: &Schema, among: &[u32], space: &Text, local: &[u8]) -> Option<u32> {
-    for number in among {
-        if let Some(node) = schema.node(*number) {
-            if node.name.space == *space && node.name.name.as_str().as_bytes() == local {
-                return Some(*number);
-            }
-        }
-    }
-    None
-}
-
-// The name of one of the data nodes.
-fn name<'a>(
-    alloc: Global,
-    names: &Names<'_>,
-    among: &[u32],
-    text: &'a [u8],
-) -> Result<(u32, &'a [u8]), Halt<'a>> {
-    let prefixes = prefixes_of(alloc, names, among)?;
-    let (prefix, rest) = word(text, prefixes.as_slice())?;
-    let rest = after_sign(rest, b':')?;
-    let Some(space) = space_of(names, prefix) else {
-        return Err(Halt::Here(rest));
-    };
-    let locals = locals_of(alloc, names.schema, among, space)?;
-    let (local, rest) = word(rest, locals.as_slice())?;
-    match named(names.schema, among, space, local) {
-        Some(number) => Ok((number, rest)),
-        None => Err(Halt::Here(rest)),
-    }
-}
-
-// A value between two quotation marks of one kind.
-fn after_value<'a>(text: &'a [u8]) -> Result<&'a [u8], Halt<'a>> {
-    let Some((mark, inside)) = text.split_first() else {
-        return Err(Halt::Here(text));
-    };
-    let mark = *mark;
-    if mark != b'\'' && mark != b'"' {
-        return Err(Halt::Here(text));
-    }
-    let count = inside.iter().take_while(|byte| **byte != mark).count();
-    after_sign(rest_at(inside, count), mark)
-}
-
-// A predicate of one of the keys that are left: which, and the text after it.
+// A predicate of one of the keys after its bracket: the key, and the text after the predicate.
 fn predicate<'a>(
     alloc: Global,
     names: &Names<'_>,
     number: u32,
     left: &[u32],
-    text: &'a [u8],
-) -> Result<(u32, &'a [u8]), Halt<'a>> {
-    let rest = after_white(after_sign(text, b'[')?);
-    let (key, rest) = if left.contains(&number) {
-        (number, after_sign(rest, b'.')?)
-    } else {
-        name(alloc, names, left, rest)?
-    };
-    let rest = after_sign(after_white(rest), b'=')?;
-    let rest = after_value(after_white(rest))?;
-    let rest = after_sign(after_white(rest), b']')?;
+    text: &'a str,
+) -> Result<(u32, &'a str), Halt>
+    requires usable { HasUsable names.now }
+    requires given { candidates.can_be_given (reading_of names.now) number left.now ≡ true }
+    requires some { list_any (candidates.is_giveable (reading_of names.now) number) left.now ≡ true }
+    ensures ok { IfOk result (λ found. Leads (going.KeyNames (reading_of names.now) number left.now)
+        (going.Keys (reading_of names.now) number (going.without found.0 left.now)) text.now found.1.now) }
+    ensures here { IfErr result (λ halt. OnHere halt (Halts (going.KeyNames (reading_of names.now)
+        number left.now) text.now)) }
+{
+    let (key, rest) = key_name(alloc, names, number, left, text)?;
+    let rest = after_sign(rest, b'=')?;
+    let rest = after_value(rest)?;
+    let rest = after_sign(rest, b']')?;
     Ok((key, rest))
 }
 
-// The numbers but one.
-fn without(alloc: Global, numbers: &[u32], other: u32) -> Result<Many<u32>, Memory> {
-    let mut out = Many::new(alloc);
-    for number in numbers {
-        if *number != other {
-            out.push(*number)?;
-        }
-    }
-    Ok(out)
+// Whether a path can end where these keys are left.
+fn may_end(names: &Names<'_>, left: &[u32]) -> bool
+    ensures { result ≡ places.may_end (reading_of names.now) left.now }
+{
+    if names.all { left.is_empty() } else { true }
 }
 
-// The predicates of an entry of a node.
+// The text after the predicates of an entry of the node.
 fn after_predicates<'a>(
     alloc: Global,
     names: &Names<'_>,
     number: u32,
-    text: &'a [u8],
-) -> Result<&'a [u8], Halt<'a>> {
+    text: &'a str,
+) -> Result<&'a str, Halt>
+    requires usable { HasUsable names.now }
+    requires given { candidates.can_be_given (reading_of names.now) number (paths.key_nodes
+        names.now.schema.now number) ≡ true }
+    ensures ok { IfOk result (λ rest. Leads (going.Keys (reading_of names.now) number (paths.key_nodes
+        names.now.schema.now number)) (going.Steps (reading_of names.now) (Some number)) text.now rest.now) }
+    ensures here { IfErr result (λ halt. OnHere halt (Halts (going.Keys (reading_of names.now) number
+        (paths.key_nodes names.now.schema.now number)) text.now)) }
+{
     let mut left = key_nodes(alloc, names.schema, number)?;
     let mut rest = text;
-    for turn in 0..text.len() {
-        if rest.first() != Some(&b'[') {
-            break;
+    while let Some(inside) = after_byte(rest, b'[') {
+        if !any_giveable(names, number, left.as_slice()) {
+            return Err(Halt::Here(rest.len()));
         }
-        if left.is_empty() {
-            return Err(Halt::Here(rest));
-        }
-        let (key, after) = predicate(alloc, names, number, left.as_slice(), rest)?;
+        let (key, after) = predicate(alloc, names, number, left.as_slice(), inside)?;
         left = without(alloc, left.as_slice(), key)?;
         rest = after;
     }
-    if names.all && !left.is_empty() {
-        return Err(Halt::Here(rest));
+    if may_end(names, left.as_slice()) {
+        Ok(rest)
+    } else {
+        Err(Halt::Here(rest.len()))
     }
-    Ok(rest)
 }
 
-/// Whether the name of a data node can be written.
-pub(crate) fn is_usable(names: &Names<'_>, number: u32) -> bool {
-    for bound in names.usable.as_slice() {
-        if is_in_space(names.schema, number, &bound.space) {
-            return true;
-        }
-    }
-    false
-}
-
-// Whether the name of each of the data nodes can be written.
-fn all_usable(names: &Names<'_>, numbers: &[u32]) -> bool {
-    for number in numbers {
-        if !is_usable(names, *number) {
-            return false;
-        }
-    }
-    true
-}
-
-// Whether a data node stands there, and a path can end at it.
-fn can_end(
+// A step: its data node, and the text after its predicates.
+fn after_step<'a>(
     alloc: Global,
     names: &Names<'_>,
     above: Option<u32>,
-    number: u32,
-) -> Result<bool, Memory> {
-    let Some(node) = names.schema.node(number) else {
-        return Ok(false);
-    };
-    if node.parent != above || !is_usable(names, number) {
-        return Ok(false);
-    }
-    if !names.all {
-        return Ok(true);
-    }
-    let keys = key_nodes(alloc, names.schema, number)?;
-    Ok(all_usable(names, keys.as_slice()))
-}
-
-// The data nodes there at which a path can end.
-fn ends_at(alloc: Global, names: &Names<'_>, above: Option<u32>) -> Result<Many<u32>, Memory> {
-    let mut out = Many::new(alloc);
-    for number in 0..names.schema.nodes() {
-        if can_end(alloc, names, above, number)? {
-            out.push(number)?;
-        }
-    }
-    Ok(out)
-}
-
-// One step: its data node, and the text after it.
-fn step<'a>(
-    alloc: Global,
-    names: &Names<'_>,
-    above: Option<u32>,
-    text: &'a [u8],
-) -> Result<(u32, &'a [u8]), Halt<'a>> {
-    let among = ends_at(alloc, names, above)?;
-    if among.is_empty() && (names.all || above.is_some()) {
-        return Err(Halt::Here(text));
-    }
-    let rest = after_sign(text, b'/')?;
-    let (number, rest) = name(alloc, names, among.as_slice(), rest)?;
-    let rest = after_predicates(alloc, names, number, rest)?;
+    text: &'a str,
+) -> Result<(u32, &'a str), Halt>
+    requires { HasUsable names.now }
+    ensures ok { IfOk result (λ found. places.IsStep (reading_of names.now) above text.now found.0
+        found.1.now) }
+    ensures here { IfErr result (λ halt. OnHere halt (Halts (going.Steps (reading_of names.now) above)
+        text.now)) }
+{
+    let (number, behind) = step_name(alloc, names, above, text)?;
+    let rest = after_predicates(alloc, names, number, behind)?;
     Ok((number, rest))
 }
 
-// The text after all steps.
-fn after_steps<'a>(alloc: Global, names: &Names<'_>, text: &'a [u8]) -> Result<&'a [u8], Halt<'a>> {
+// All steps of a text.
+fn all_steps(alloc: Global, names: &Names<'_>, text: &str) -> Result<(), Halt>
+    requires { HasUsable names.now }
+    ensures ok { IfOk result (λ done. Halts (going.Steps (reading_of names.now) None) text.now 0) }
+    ensures here { IfErr result (λ halt. OnHere halt (Halts (going.Steps (reading_of names.now) None)
+        text.now)) }
+{
     let mut above = None;
     let mut rest = text;
-    for turn in 0..text.len() {
-        let (number, more) = step(alloc, names, above, rest)?;
+    while !rest.is_empty() {
+        let (number, after) = after_step(alloc, names, above, rest)?;
         above = Some(number);
-        rest = more;
+        rest = after;
     }
-    Ok(rest)
+    Ok(())
 }
 
-// Whether a binding is the one that counts, of a prefix that can be written, to a module of the schema.
-fn counts<B: Binds>(schema: &Schema, bounds: &B, bound: &Bound) -> bool {
-    if !is_identifier(bound.prefix.as_str().as_bytes()) {
-        return false;
-    }
-    match bounds.space_of(&bound.prefix) {
-        Some(space) => *space == bound.space && module_of(schema, space).is_some(),
-        None => false,
-    }
-}
-
-/// The bindings that count.
-pub(crate) fn usable<B: Binds>(
-    alloc: Global,
-    schema: &Schema,
-    bounds: &B,
-) -> Result<Many<Bound>, Memory> {
-    let every = bounds.to_many(alloc)?;
-    let mut out = Many::new(alloc);
-    for bound in every.as_slice() {
-        if counts(schema, bounds, bound) {
-            out.push(bound.copy()?)?;
-        }
-    }
-    Ok(out)
-}
-
-/// The place of a fault in a text: where the rest begins at which it was not read on.
-pub(crate) fn place_of<'a>(
-    text: &'a [u8],
-    read: Result<&'a [u8], Halt<'a>>,
-) -> Result<usize, Memory>
-    ensures { IfOk result (λ at. at ≤ length text.now) }
+// Where a text stops that is read by these names.
+fn place_by(alloc: Global, names: &Names<'_>, text: &str) -> Result<usize, Memory>
+    requires { HasUsable names.now }
+    ensures { IfOk result (λ at. places.IsPlace (reading_of names.now) text.now at) }
 {
-    match read {
-        Ok(rest) => Ok(text.len().saturating_sub(rest.len())),
-        Err(Halt::Here(rest)) => Ok(text.len().saturating_sub(rest.len())),
+    match all_steps(alloc, names, text) {
+        Ok(()) => Ok(text.len()),
+        Err(Halt::Here(left)) => Ok(text.len().saturating_sub(left)),
         Err(Halt::Memory) => Err(Memory),
     }
 }
 
-/// The place of the fault of a text that is refused; where `all` is set no key may be left out.
+/// The place at which a text stops to be the beginning of steps to a node; where `all` is set no key may be
+/// left out.
 pub(crate) fn place<B: Binds>(
     alloc: Global,
     schema: &Schema,
@@ -380,13 +312,41 @@ pub(crate) fn place<B: Binds>(
     bounds: &B,
     all: bool,
 ) -> Result<usize, Memory>
-    ensures { IfOk result (λ at. at ≤ length text.now) }
+    ensures { IfOk result (λ at. places.IsPlace (record {
+      tables = schema.now;
+      bounds = B.bound bounds.now;
+      all = all;
+    }) text.now at) }
 {
-    let names = Names {
-        schema,
-        usable: usable(alloc, schema, bounds)?,
-        all,
-    };
-    let bytes = text.as_bytes();
-    place_of(bytes, after_steps(alloc, &names, bytes))
+    let names = names_of(alloc, schema, bounds, all)?;
+    place_by(alloc, &names, text)
+}
+
+// The place in a node-instance identifier: `/` alone is one.
+fn after_root(text: &str, at: usize) -> usize
+    ensures { result ≡ candidates.after_root text.now at }
+{
+    if at == 0 {
+        if begins_with(text, b'/') {
+            return 1;
+        }
+    }
+    at
+}
+
+/// The place at which a text stops to be the beginning of a node-instance identifier.
+pub(crate) fn pattern_place<B: Binds>(
+    alloc: Global,
+    schema: &Schema,
+    text: &str,
+    bounds: &B,
+) -> Result<usize, Memory>
+    ensures { IfOk result (λ at. (plain : ℕ) × places.IsPlace (record {
+      tables = schema.now;
+      bounds = B.bound bounds.now;
+      all = false;
+    }) text.now plain × (at ≡ candidates.after_root text.now plain)) }
+{
+    let at = place(alloc, schema, text, bounds, false)?;
+    Ok(after_root(text, at))
 }

@@ -67,8 +67,8 @@ fn is_named<B: Binds>(schema: &Schema, bounds: &B, key: u32, written: &WrittenNa
     }
 }
 
-// Whether the predicate of an entry of the node is that of the key.
-fn is_of_key<B: Binds>(
+/// Whether the predicate of an entry of the node is that of the key.
+pub(crate) fn is_of_key<B: Binds>(
     schema: &Schema,
     bounds: &B,
     number: u32,

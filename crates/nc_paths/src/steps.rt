@@ -1,5 +1,5 @@
 //! The steps and predicates of a path text, with memory of their own.
-ghost use Rattle.std.specs.Prelude.{◌≡◌, [], ◌∷◌, ◌++◌, None, Some, length, IfOk, IfErr};
+ghost use Rattle.std.specs.Prelude.{◌≡◌, [], ◌∷◌, ◌++◌, None, Some, length, option_map, IfOk, IfErr};
 ghost use Rattle.nc_paths.specs.inner.Stops.{OnRefused};
 ghost use Rattle.nc_paths.specs.inner.Written.{name_of, predicate_of};
 ghost use Rattle.nc_schema.specs.PathWords as words;
@@ -20,6 +20,16 @@ pub(crate) fn own_name(alloc: Global, written: Name<'_>) -> Result<WrittenName, 
         prefix: Text::from_text(alloc, written.prefix)?,
         name: Text::from_text(alloc, written.name)?,
     })
+}
+
+/// The key of a predicate with memory of its own.
+pub(crate) fn own_key(alloc: Global, key: Option<Name<'_>>) -> Result<Option<WrittenName>, Memory>
+    ensures { IfOk result (λ it. it ≡ option_map name_of key.entry) }
+{
+    match key {
+        Some(name) => Ok(Some(own_name(alloc, name)?)),
+        None => Ok(None),
+    }
 }
 
 // A predicate with memory of its own.

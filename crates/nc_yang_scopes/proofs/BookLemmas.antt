@@ -15,6 +15,7 @@ use Rattle.nc_yang_statements.specs.declared.keyword.Keyword.{Keyword}
 use Rattle.nc_yang_statements.specs.declared.keyword.Keyword.TheVariants.{Import}
 use Rattle.nc_yang_statements.specs.Statements.{below, name}
 use Rattle.nc_yang_scopes.specs.Scopes.{Located, child, found, found_in, has_colon, import_of, inside, is_defining, local_of, prefix_of, resolved, root, text_of, text_of_prefix, top}
+use Rattle.nc_yang_scopes.specs.Names.{further_out, is_defined_out}
 use Rattle.nc_yang_scopes.specs.inner.Books.{Gives, SplitsReference, across, near}
 use Rattle.nc_yang_scopes.specs.inner.Frames.{Entry, IsBehind, IsWhole, blocks_in, first_in, is_import, is_known, is_one, located, opened, roots}
 use Rattle.nc_yang_scopes.proofs.Lists.{get_left, get_within, past_end}
@@ -70,6 +71,13 @@ root_at from (s ∷ texts) zero = let e : from ≡ from + 0 = omega arith in ap 
 root_at from (s ∷ texts) (suc i) =
     root_at (from + 1) texts i
     ∙ (let e : from + 1 + i ≡ from + suc i = omega arith in ap (λ n. option_map (root_entry n) (slice_get texts i)) e)
+
+-- what is found is there
+given_some : (located : List Located) (at : Option ℕ) (wanted : Option Located) → Gives located at wanted → is_some at ≡ is_some wanted
+given_some located None None e = refl
+given_some located None (Some l) e = absurd (cc)
+given_some located (Some n) None e = absurd (cc)
+given_some located (Some n) (Some l) e = refl
 
 module _ (texts : List Statement) (entries : List Entry) (firsts : List ℕ) (whole : IsWhole texts entries firsts) where
   pub entry_root : (text : ℕ) → text < length texts → slice_get entries text ≡ option_map (root_entry text) (slice_get texts text)
@@ -332,6 +340,29 @@ module _ (texts : List Statement) (entries : List Entry) (firsts : List ℕ) (wh
     where
       differ : (a b : ℕ) → a ≢ b → (a == b) ≡ false
       differ a b e = grind (arith, nat_tests)
+
+  -- a definition further out than the own block
+  pub out_none : (keyword : Keyword) (word : List ℕ) (n : ℕ) → None ≡ option_and_then (λ (e : Entry). e.outer) (slice_get entries n) →
+      false ≡ option_map_or (λ l. is_defined_out keyword word l.place) (slice_get (located entries) n) false
+  out_none keyword word n is = by (slice_get entries n) refl
+    where
+      by : (o : Option Entry) → slice_get entries n ≡ o → false ≡ option_map_or (λ l. is_defined_out keyword word l.place) (slice_get (located entries) n) false
+      by None none = sym (ap (λ o. option_map_or (λ (l : Located). is_defined_out keyword word l.place) o false) (located_none entries n none))
+      by (Some entry) here =
+          let alone : entry.outer ≡ None = sym (ap (option_and_then (λ (e : Entry). e.outer)) here) ∙ sym is in
+          sym (ap (λ o. option_map_or (λ (l : Located). is_defined_out keyword word l.place) o false) (located_at entries whole.behind n entry here)
+          ∙ ap (λ o. is_some (found keyword word entry.text (further_out (blocks_in (located entries) o)))) alone)
+
+  pub out_some : (keyword : Keyword) (word : List ℕ) (n block : ℕ) → Some block ≡ option_and_then (λ (e : Entry). e.outer) (slice_get entries n) → (at : Option ℕ) →
+      Gives (located entries) at (near (located entries) keyword word block) → is_some at ≡ option_map_or (λ l. is_defined_out keyword word l.place) (slice_get (located entries) n) false
+  out_some keyword word n block is at gives =
+      let s = stands n block (sym is) in
+      given_some (located entries) at (near (located entries) keyword word block) gives
+      ∙ ap is_some (near_entry keyword word block s.above s.there)
+      ∙ ap (λ t. is_some (found keyword word t (blocks_in (located entries) s.above.outer))) s.text
+      ∙ sym (ap (λ o. option_map_or (λ (l : Located). is_defined_out keyword word l.place) o false) (located_at entries whole.behind n s.entry s.here)
+      ∙ ap (λ o. is_some (found keyword word s.entry.text (further_out (blocks_in (located entries) o)))) s.outer
+      ∙ ap (λ bs. is_some (found keyword word s.entry.text (further_out bs))) (blocks_of block s.above s.there))
 
 -- past the texts nothing stands
 pub root_past : (texts : List Statement) (text : ℕ) → length texts ≤ text → None ≡ root texts text

@@ -5,3 +5,5 @@ pub mod Finding
 pub mod TableLemmas
 pub mod NameLemmas
 pub mod BookLemmas
+pub mod Misnaming
+pub mod Sharing

@@ -1,2 +1,5 @@
 pub mod Scopes
+pub mod Spaces
+pub mod Modules
+pub mod Names
 pub mod inner

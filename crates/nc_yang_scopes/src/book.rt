@@ -1,8 +1,9 @@
 //! Module texts, their statements under numbers, and what is looked up by name.
-ghost use Rattle.std.specs.Prelude.{◌≡◌, ◌<◌, ◌+◌, ◌∷◌, [], IsTrue, IsSome, length, slice_get, option_map, option_and_then, IfOk};
-ghost use Rattle.std.specs.Option.{option_copied};
+ghost use Rattle.std.specs.Prelude.{◌≡◌, ◌<◌, ◌+◌, ◌∷◌, [], false, IsTrue, IsSome, length, slice_get, option_map, option_and_then, IfOk};
+ghost use Rattle.std.specs.Option.{option_copied, option_map_or};
 ghost use Rattle.nc_yang_statements.specs.Statements as statements;
 ghost use Rattle.nc_yang_scopes.specs.Scopes as scopes;
+ghost use Rattle.nc_yang_scopes.specs.Names.{is_defined_out};
 ghost use Rattle.nc_yang_scopes.specs.inner.Books.{Gives, IsBook, IsBookOf, SplitsReference, across, near};
 ghost use Rattle.nc_yang_scopes.specs.inner.Frames.{IsTable, located};
 
@@ -22,8 +23,8 @@ pub(crate) struct Book<'a> {
     pub names: Names<'a>,
 }
 
-// The prefix of a reference, and the name after it.
-fn split(reference: &str) -> Option<(&str, &str)>
+/// The prefix of a reference, and the name after it.
+pub(crate) fn split(reference: &str) -> Option<(&str, &str)>
     ensures { SplitsReference reference.now result }
 {
     reference.split_once(':')
@@ -193,6 +194,19 @@ impl<'a> Book<'a> {
             at = block;
         }
         None
+    }
+
+    /// Whether a definition of a name stands further out than in the block of the statement of a number.
+    pub(crate) fn is_defined_out(&self, keyword: Keyword, number: usize, word: &'a str) -> bool
+        requires book { IsBook self.now }
+        requires keyword { IsTrue (scopes.is_defining keyword) }
+        ensures { result ≡ option_map_or (λ l. is_defined_out keyword word.now l.place)
+            (slice_get (located self.now.numbering.frames) number) false }
+    {
+        match self.outer(number) {
+            Some(block) => self.nearest(keyword, block, word).is_some(),
+            None => false,
+        }
     }
 
     // The definition at the top of a text.

@@ -3,9 +3,15 @@
 
 mod book;
 mod frames;
+mod modules;
 mod names;
+mod naming;
 mod numbering;
 mod scopes;
+mod space;
 mod table;
 
+pub use modules::{Title, first_twin};
+pub use naming::{TextFault, first_misnamed};
 pub use scopes::Scopes;
+pub use space::{Space, first_renamed};

@@ -1,7 +1,8 @@
 //! What names mean in module texts.
-ghost use Rattle.std.specs.Prelude.{◌≡◌, ◌<◌, IfSome, IsTrue, IsSome, length, slice_get, option_map, option_and_then, IfOk};
-ghost use Rattle.std.specs.Option.{option_copied};
+ghost use Rattle.std.specs.Prelude.{◌≡◌, ◌<◌, false, IfSome, IsTrue, IsSome, length, slice_get, option_map, option_and_then, IfOk};
+ghost use Rattle.std.specs.Option.{option_copied, option_map_or};
 ghost use Rattle.nc_yang_scopes.specs.Scopes as scopes;
+ghost use Rattle.nc_yang_scopes.specs.Names.{is_defined_out};
 
 use crate::book::Book;
 use nc_names::Memory;
@@ -41,6 +42,22 @@ impl<'a> Scopes<'a> {
         Ok(Scopes {
             book: Book::of(alloc, texts)?,
         })
+    }
+
+    /// How many texts there are.
+    pub fn texts(&self) -> usize
+        ensures { result ≡ length self.now.texts }
+    {
+        self.book.texts.len()
+    }
+
+    /// Whether a definition of a name stands further out than in the block of the statement of a number.
+    pub(crate) fn is_defined_out(&self, keyword: Keyword, number: usize, word: &'a str) -> bool
+        requires { IsTrue (scopes.is_defining keyword) }
+        ensures { result ≡ option_map_or (λ l. is_defined_out keyword word.now l.place)
+            (slice_get self.now.located number) false }
+    {
+        self.book.is_defined_out(keyword, number, word)
     }
 
     /// The number of a text's statement `module`, or `None` past the last text.

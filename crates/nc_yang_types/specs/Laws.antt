@@ -1,5 +1,5 @@
 -- What the laws say.
-use Rattle.std.specs.Prelude.{◌≡◌, ℕ, Bool, true, false, List, [], ℤ, Some, IsSome}
+use Rattle.std.specs.Prelude.{◌≡◌, ℕ, Bool, true, false, List, [], ◌∷◌, ◌&&◌, ℤ, int_lt, Some, None, IsSome}
 use Rattle.nc_schema.specs.NumberTexts.{is_among}
 use Rattle.nc_schema.specs.declared.value_type.Between.{Between}
 use Rattle.nc_schema.specs.declared.value_type.ValueType.{ValueType}
@@ -9,7 +9,9 @@ use Rattle.nc_yang_statements.specs.declared.built_in.BuiltIn.TheVariants.{Ident
 use Rattle.nc_yang_statements.specs.Statements.{below}
 use Rattle.nc_yang_types.specs.declared.bound.Counted.{Counted}
 use Rattle.nc_yang_types.specs.Entries.{narrowed, narrowed_faults, own, own_faults}
+use Rattle.nc_yang_types.specs.Members.{numbered, with_bits}
 use Rattle.nc_yang_types.specs.Ranges.{restriction}
+use Rattle.nc_yang_types.specs.declared.member.Listed.TheVariants.{Flags}
 
 -- a range or a length admits no number that its base does not (RFC 7950 9.2.4, 9.4.4)
 abbrev pub RestrictionsNarrow : Type 0
@@ -33,3 +35,17 @@ OwnGives =
 -- so has a type over another
 abbrev pub NarrowedGives : Type 0
 NarrowedGives = (base : ValueType) (ss : List Statement) → narrowed_faults base ss ≡ [] → IsSome (narrowed base ss)
+
+-- each position is lower than the next
+abbrev pub is_before : ℤ → List (ℤ × List ℕ) → Bool
+is_before position [] = true
+is_before position (bit ∷ bits) = int_lt position bit.0
+
+abbrev pub ascend : List (ℤ × List ℕ) → Bool
+ascend [] = true
+ascend (bit ∷ bits) = is_before bit.0 bits && ascend bits
+
+-- bits stand in the order of their positions, each position once (RFC 7950 9.7.4.2)
+abbrev pub BitsAscend : Type 0
+BitsAscend =
+    (stands : Statement → Bool) (ss : List Statement) → ascend (with_bits stands [] (numbered Flags None ss)) ≡ true

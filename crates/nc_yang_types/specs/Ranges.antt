@@ -43,7 +43,8 @@ bound counted whole text =
 -- what stands before the first `..`, and after it
 abbrev pub around_dots : List ℕ → Option (List ℕ × List ℕ)
 around_dots (a ∷ b ∷ rest) =
-    if a == dot && b == dot then Some ([], rest) else option_map (λ found. (a ∷ found.0, found.1)) (around_dots (b ∷ rest))
+    if a == dot && b == dot then Some ([], rest)
+    else option_map (λ found. (a ∷ found.0, found.1)) (around_dots (b ∷ rest))
 around_dots text = None
 
 -- the numbers from one bound to another; white space may stand round the bounds (`optsep`)
@@ -56,7 +57,10 @@ from_to counted whole low high = do
 -- a part: two bounds round `..`, or one that is both
 abbrev pub part_of : Counted → Between → List ℕ → Option Between
 part_of counted whole text =
-    elim (around_dots text) [ None ↦ from_to counted whole text text | Some found ↦ from_to counted whole found.0 found.1 ]
+    elim (around_dots text) [
+      | None ↦ from_to counted whole text text
+      | Some found ↦ from_to counted whole found.0 found.1
+    ]
 
 abbrev pub parts_of : Counted → Between → List (List ℕ) → Option (List Between)
 parts_of counted whole [] = Some []

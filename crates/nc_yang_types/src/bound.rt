@@ -15,7 +15,8 @@ use std::alloc::Global;
 /// What the bounds of a restriction count.
 #[derive(Clone, Copy, Debug, PartialEq, Eq)]
 pub enum Counted {
-    /// Numbers, in units of the last of so many fraction digits; 0 of an integer type (RFC 7950 9.2.4, 9.3.4).
+    /// Numbers, in units of the last of so many fraction digits; 0 of an integer type (RFC 7950 9.2.4,
+    /// 9.3.4).
     Units(u32),
     /// Characters or octets (RFC 7950 9.4.4, 9.8.1).
     Lengths,

@@ -3,7 +3,8 @@ ghost use Rattle.std.specs.Prelude.{◌≡◌, true};
 
 use nc_yang_words::Statement;
 
-/// Whether the `if-feature` statements of an `enum` or a `bit` all hold, so that it is there (RFC 7950 7.20.2).
+/// Whether the `if-feature` statements of an `enum` or a `bit` all hold, so that it is there (RFC 7950
+/// 7.20.2).
 pub trait Conditions {
     ghost use Rattle.std.specs.Prelude.{Bool};
     ghost use Rattle.nc_yang_words.specs.declared.statement.Statement.{Statement};

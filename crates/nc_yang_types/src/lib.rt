@@ -1,12 +1,13 @@
-//! What a `type` statement says by its own parts (RFC 7950 7.4, 9): which parts a type may have and has to have, the
-//! numbers that ranges and lengths leave, the names of enumerations and bits with their numbers, and the entry that
-//! comes of them, over a built-in type that needs no other name or over the entry of another type.
+//! What a `type` statement says by its own parts (RFC 7950 7.4, 9): which parts a type may have and has to
+//! have, the numbers that ranges and lengths leave, the names of enumerations and bits with their numbers,
+//! and the entry that comes of them, over a built-in type that needs no other name or over the entry of
+//! another type.
 //!
-//! It stands on the statements of nc_yang_words, the rules of single ones in nc_yang_statements, which are kept, and on
-//! the types of nc_schema. Nothing here looks a name up.
+//! It stands on the statements of nc_yang_words, the rules of single ones in nc_yang_statements, which are
+//! kept, and on the types of nc_schema. Nothing here looks a name up.
 //!
-//! `own` and `narrowed` promise the entry exactly where the definitions list no fault, and else the first fault of their
-//! list. The crate `trials_modules` tests them.
+//! `own` and `narrowed` promise the entry exactly where the definitions list no fault, and else the first
+//! fault of their list. The crate `trials_modules` tests them.
 #![tactic(auto)]
 
 mod bound;
@@ -28,7 +29,7 @@ mod trim;
 
 pub use bound::Counted;
 pub use conditions::{Always, Conditions};
-pub use laws::{narrowed_gives, own_gives, restrictions_narrow};
+pub use laws::{bits_ascend, narrowed_gives, own_gives, restrictions_narrow};
 pub use over_built_in::own;
 pub use over_type::narrowed;
 pub use part::{misshapen, narrows, needs, takes};

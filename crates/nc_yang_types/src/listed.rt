@@ -47,7 +47,8 @@ fn push_name<C: Conditions>(
     names: &mut Many<Text>,
     statement: &Statement,
 ) -> Result<(), Memory>
-    ensures { OnOk result (names.new ≡ names.old ++ members.enum_name (C.stands conditions.now) statement.now) }
+    ensures { OnOk result (names.new
+        ≡ names.old ++ members.enum_name (C.stands conditions.now) statement.now) }
 {
     if is_member(Listed::Enums, statement) && conditions.holds(statement) {
         names.push(name_of(alloc, statement)?)

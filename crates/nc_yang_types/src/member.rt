@@ -66,7 +66,8 @@ pub(crate) fn is_member(listed: Listed, statement: &Statement) -> bool
 
 /// The statement that gives the number of a name, where one does.
 pub(crate) fn number_part(listed: Listed, statement: &Statement) -> Option<&Statement>
-    ensures { option_copied result ≡ statements.part (members.number_word listed) (statements.below statement.now) }
+    ensures { option_copied result
+        ≡ statements.part (members.number_word listed) (statements.below statement.now) }
 {
     part(statement.below.as_slice(), number_word(listed))
 }

@@ -25,7 +25,8 @@ use std::alloc::Global;
 
 // The lengths that are left.
 fn lengths_left(alloc: Global, below: &[Statement]) -> Result<Many<Between>, TypeStop>
-    ensures ok { IfOk result (λ it. entries.restricted Lengths LengthWord entries.lengths below.now ≡ Some it) }
+    ensures ok { IfOk result (λ it.
+        entries.restricted Lengths LengthWord entries.lengths below.now ≡ Some it) }
     ensures kept { OnOk result (entries.misread Lengths LengthWord entries.lengths below.now ≡ []) }
     ensures fault { IfErr result (λ stop. OnBroken stop (λ fault.
         rules.first (entries.misread Lengths LengthWord entries.lengths below.now) ≡ Some fault)) }
@@ -45,10 +46,13 @@ fn integers_left(
     built_in: BuiltIn,
     below: &[Statement],
 ) -> Result<Many<Between>, TypeStop>
-    ensures ok { IfOk result (λ it. entries.restricted (Units 0) RangeWord (entries.integers built_in) below.now ≡ Some it) }
-    ensures kept { OnOk result (entries.misread (Units 0) RangeWord (entries.integers built_in) below.now ≡ []) }
+    ensures ok { IfOk result (λ it.
+        entries.restricted (Units 0) RangeWord (entries.integers built_in) below.now ≡ Some it) }
+    ensures kept { OnOk result
+        (entries.misread (Units 0) RangeWord (entries.integers built_in) below.now ≡ []) }
     ensures fault { IfErr result (λ stop. OnBroken stop (λ fault.
-        rules.first (entries.misread (Units 0) RangeWord (entries.integers built_in) below.now) ≡ Some fault)) }
+        rules.first (entries.misread (Units 0) RangeWord (entries.integers built_in) below.now)
+        ≡ Some fault)) }
 {
     restricted(
         alloc,
@@ -150,10 +154,10 @@ fn entry<C: Conditions>(
     }
 }
 
-/// The entry of a `type` statement over a built-in type, by its own parts; `None` of `identityref`, `leafref` and
-/// `union`, which need what other names mean (RFC 7950 9). The fault is the first of those that it has: of what parts
-/// stand there, and then of what they say. Of an enumeration and of bits those names are left out whose conditions do
-/// not hold.
+/// The entry of a `type` statement over a built-in type, by its own parts; `None` of `identityref`,
+/// `leafref` and `union`, which need what other names mean (RFC 7950 9). The fault is the first of those
+/// that it has: of what parts stand there, and then of what they say. Of an enumeration and of bits those
+/// names are left out whose conditions do not hold.
 #[tactic(auto, using(crate::proofs::Firsts::first_some, crate::proofs::Firsts::first_none, crate::proofs::Firsts::nothing_first, crate::proofs::Firsts::nothing_more))]
 pub fn own<C: Conditions>(
     alloc: Global,

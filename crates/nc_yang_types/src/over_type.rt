@@ -42,7 +42,8 @@ fn over_decimal(
     below: &[Statement],
 ) -> Result<Option<ValueType>, TypeStop>
     ensures ok { IfOk result (λ it.
-        entries.narrowed (Decimal digits among.now) below.now ≡ Some (unwrap_or it (Decimal digits among.now))) }
+        entries.narrowed (Decimal digits among.now) below.now
+        ≡ Some (unwrap_or it (Decimal digits among.now))) }
     ensures kept { OnOk result (entries.misnarrowed (Decimal digits among.now) below.now ≡ []) }
     ensures fault { IfErr result (λ stop. OnBroken stop (λ fault.
         rules.first (entries.misnarrowed (Decimal digits among.now) below.now) ≡ Some fault)) }
@@ -62,7 +63,8 @@ fn over_chars(
     below: &[Statement],
 ) -> Result<Option<ValueType>, TypeStop>
     ensures ok { IfOk result (λ it.
-        entries.narrowed (Chars lengths.now starless) below.now ≡ Some (unwrap_or it (Chars lengths.now starless))) }
+        entries.narrowed (Chars lengths.now starless) below.now
+        ≡ Some (unwrap_or it (Chars lengths.now starless))) }
     ensures kept { OnOk result (entries.misnarrowed (Chars lengths.now starless) below.now ≡ []) }
     ensures fault { IfErr result (λ stop. OnBroken stop (λ fault.
         rules.first (entries.misnarrowed (Chars lengths.now starless) below.now) ≡ Some fault)) }
@@ -125,9 +127,10 @@ fn entry_over(
     }
 }
 
-/// The entry of a `type` statement over another type whose entry is `base`, by its own parts; `None` where nothing
-/// narrows it, and it is that of the other type (RFC 7950 9.2.3, 9.3.3, 9.4.3, 9.8.1, 9.9.3, 9.13.1). The fault is the
-/// first of those that it has: a part that the type has not, and then a range or a length that may not stand there.
+/// The entry of a `type` statement over another type whose entry is `base`, by its own parts; `None` where
+/// nothing narrows it, and it is that of the other type (RFC 7950 9.2.3, 9.3.3, 9.4.3, 9.8.1, 9.9.3,
+/// 9.13.1). The fault is the first of those that it has: a part that the type has not, and then a range or
+/// a length that may not stand there.
 #[tactic(auto, using(crate::proofs::Firsts::first_some, crate::proofs::Firsts::first_none, crate::proofs::Firsts::nothing_first, crate::proofs::Firsts::nothing_more))]
 pub fn narrowed(
     alloc: Global,

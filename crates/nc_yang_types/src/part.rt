@@ -123,8 +123,8 @@ fn lacking(built_in: BuiltIn, statement: &Statement) -> Option<Fault>
     }
 }
 
-/// The first fault of a `type` statement over a built-in type in what parts it has: one that the type has not, or the
-/// want of one that it needs (RFC 7950 9).
+/// The first fault of a `type` statement over a built-in type in what parts it has: one that the type has
+/// not, or the want of one that it needs (RFC 7950 9).
 #[tactic(auto, using(crate::proofs::Firsts::first_some, crate::proofs::Firsts::first_none))]
 pub fn misshapen(built_in: BuiltIn, statement: &Statement) -> Option<Fault>
     ensures { result ≡ rules.first (parts.misshapen built_in statement.now) }

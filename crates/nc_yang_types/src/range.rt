@@ -143,8 +143,8 @@ fn are_parts(base: &[Between], parts: &[Between]) -> bool
     are_ascending(parts) && all_lie_in(base, parts)
 }
 
-/// The numbers that the text of a `range` or a `length` leaves of those of the base; `None` where it is none that may
-/// stand over this base (RFC 7950 9.2.4, 9.3.4, 9.4.4).
+/// The numbers that the text of a `range` or a `length` leaves of those of the base; `None` where it is
+/// none that may stand over this base (RFC 7950 9.2.4, 9.3.4, 9.4.4).
 pub fn restriction(
     alloc: Global,
     counted: Counted,

@@ -15,8 +15,8 @@ use nc_yang_statements::{Keyword, ModuleWhy, name, part};
 use nc_yang_words::Statement;
 use std::alloc::Global;
 
-/// The numbers that a `range` or a `length` leaves of those of the base; `None` where there is no such part, and those
-/// of the base are left.
+/// The numbers that a `range` or a `length` leaves of those of the base; `None` where there is no such
+/// part, and those of the base are left.
 pub(crate) fn narrower(
     alloc: Global,
     counted: Counted,
@@ -24,7 +24,8 @@ pub(crate) fn narrower(
     base: &[Between],
     below: &[Statement],
 ) -> Result<Option<Many<Between>>, TypeStop>
-    ensures ok { IfOk result (λ it. entries.restricted counted keyword base.now below.now ≡ Some (unwrap_or it base.now)) }
+    ensures ok { IfOk result (λ it. entries.restricted counted keyword base.now below.now
+        ≡ Some (unwrap_or it base.now)) }
     ensures kept { OnOk result (entries.misread counted keyword base.now below.now ≡ []) }
     ensures fault { IfErr result (λ stop. OnBroken stop (λ fault.
         rules.first (entries.misread counted keyword base.now below.now) ≡ Some fault)) }

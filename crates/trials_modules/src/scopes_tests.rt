@@ -3,8 +3,8 @@ ghost use Rattle.std.specs.Prelude.{IfSome, IsTrue};
 ghost use Rattle.nc_yang_scopes.specs.Scopes.{is_defining};
 
 use nc_names::Many;
-use nc_yang_scopes::Scopes;
-use nc_yang_statements::{Keyword, kind, name};
+use nc_yang_scopes::{Scopes, TextFault, first_misnamed, first_renamed, first_twin};
+use nc_yang_statements::{Fault, Keyword, kind, name};
 use nc_yang_words::{Statement, statements};
 use std::alloc::Global;
 use std::process::Abort;
@@ -115,25 +115,178 @@ fn prefixes_are_those_of_the_module_that_has_them(rt: HostRuntime) {
         // what stands at the top of the other module is seen, and nothing in its blocks
         (
             "module b { prefix q; import a { prefix x; }\n uses x:g;\n uses x:h;\n uses g;\n}",
-            "0:4>nothing 1:2>0:2 1:3>nothing 1:4>nothing ",
+            "1:2>0:2 1:3>nothing 1:4>nothing 0:4>nothing ",
         ),
         // a prefix of its own hides that of an import, and the first import of a prefix counts
         (
             "module b { prefix x; import a { prefix x; }\n uses x:g;\n}",
-            "0:4>nothing 1:2>nothing ",
+            "1:2>nothing 0:4>nothing ",
         ),
         (
             "module b { prefix q; import c { prefix x; } import a { prefix x; }\n uses x:g;\n}",
-            "0:4>nothing 1:2>nothing ",
+            "1:2>nothing 0:4>nothing ",
         ),
         // the prefix that the other module has for itself says nothing here
         (
             "module b { prefix q; import a { prefix x; }\n uses p:g;\n}",
-            "0:4>nothing 1:2>nothing ",
+            "1:2>nothing 0:4>nothing ",
         ),
     ];
     for (b, wanted) in cases {
         let got = leads(&rt, rt.alloc(), &[a, b]);
+        assert_eq!(rt; got.as_str(), wanted, "in {b}");
+    }
+}
+
+/// What a text breaks by its names, with the text before it.
+fn misnamed(rt: &impl Abort, alloc: Global, texts: &[&str]) -> String {
+    let roots = read(rt, alloc, texts);
+    let scopes = Scopes::of(alloc, roots.as_slice()).expect(rt, "memory");
+    match first_misnamed(&scopes) {
+        Some(TextFault { text, fault }) => {
+            let line = fault.line;
+            let why = fault.why;
+            format!(in alloc; "{text}:{line} {why:?}").expect(rt, "memory")
+        }
+        None => String::new(alloc),
+    }
+}
+
+#[test]
+fn what_is_named_has_to_be_there(rt: HostRuntime) {
+    let a =
+        "module a { prefix p;\n grouping g;\n typedef t { type string; }\n identity i;\n feature f;\n}";
+    let cases = [
+        (
+            "module b { prefix q; import a { prefix x; }\n uses x:g; leaf l { type x:t; if-feature x:f; }\n identity j { base x:i; }\n}",
+            "",
+        ),
+        (
+            "module b { prefix q; import c { prefix x; }\n}",
+            "1:1 UnknownName",
+        ),
+        ("module b { prefix q;\n uses g;\n}", "1:2 UnknownName"),
+        (
+            "module b { prefix q;\n leaf l {\n type t; }\n}",
+            "1:3 UnknownName",
+        ),
+        (
+            "module b { prefix q;\n identity j {\n base i; }\n}",
+            "1:3 UnknownName",
+        ),
+        (
+            "module b { prefix q;\n leaf l { type string;\n if-feature f; }\n}",
+            "1:3 UnknownName",
+        ),
+        ("module b { prefix q;\n x:note;\n}", "1:2 UnknownName"),
+        ("module b { prefix q;\n q:note;\n}", ""),
+        ("module b { prefix q;\n rpc r { leaf l { type t; } }\n}", ""),
+        (
+            "module b { prefix q;\n grouping g;\n container c {\n grouping g; }\n}",
+            "1:4 Twice",
+        ),
+        (
+            "module b { prefix q;\n grouping g;\n container c {\n typedef g { type string; } }\n}",
+            "",
+        ),
+        (
+            "module b { prefix q;\n container g {\n grouping g; }\n container c {\n grouping g; }\n}",
+            "",
+        ),
+    ];
+    for (b, wanted) in cases {
+        let got = misnamed(&rt, rt.alloc(), &[a, b]);
+        assert_eq!(rt; got.as_str(), wanted, "in {b}");
+    }
+}
+
+/// What a text breaks by names that two of its statements share.
+fn renamed(rt: &impl Abort, alloc: Global, text: &str) -> String {
+    let root = statements(alloc, text).expect(rt, "statements");
+    match first_renamed(alloc, &root).expect(rt, "memory") {
+        Some(Fault { line, why }) => format!(in alloc; "{line} {why:?}").expect(rt, "memory"),
+        None => String::new(alloc),
+    }
+}
+
+#[test]
+fn no_two_statements_of_a_block_have_one_name(rt: HostRuntime) {
+    let cases = [
+        (
+            "module a { prefix p;\n typedef t; typedef u;\n grouping t;\n typedef t;\n}",
+            "4 Twice",
+        ),
+        (
+            "module a { prefix p;\n container c { grouping g; }\n grouping g;\n}",
+            "",
+        ),
+        (
+            "module a { prefix p;\n container c { grouping g;\n grouping g; }\n}",
+            "3 Twice",
+        ),
+        (
+            "module a { prefix p;\n identity i; feature i; identity j;\n feature i;\n}",
+            "3 Twice",
+        ),
+        (
+            "module a { prefix p;\n import b { prefix q; } import c {\n prefix q; }\n}",
+            "2 Twice",
+        ),
+        (
+            "module a { prefix p;\n import b {\n prefix p; }\n}",
+            "2 Twice",
+        ),
+        (
+            "module a { prefix p;\n import b { prefix q; } import b { prefix r; }\n}",
+            "",
+        ),
+        (
+            "module a { prefix p;\n revision 2024-01-01; revision 2023-01-01;\n revision 2024-01-01;\n}",
+            "3 Twice",
+        ),
+        (
+            "module a { prefix p;\n choice c { case x; leaf y;\n container x; }\n}",
+            "3 Twice",
+        ),
+        (
+            "module a { prefix p;\n choice c { case x; case y; }\n container c { leaf x; leaf x; }\n}",
+            "",
+        ),
+        (
+            "module a { prefix p;\n rpc r { grouping g; grouping g; }\n}",
+            "",
+        ),
+    ];
+    for (text, wanted) in cases {
+        let got = renamed(&rt, rt.alloc(), text);
+        assert_eq!(rt; got.as_str(), wanted, "in {text}");
+    }
+}
+
+/// Which of the texts has the name or the namespace of one before.
+fn twin(rt: &impl Abort, alloc: Global, texts: &[&str]) -> String {
+    let roots = read(rt, alloc, texts);
+    match first_twin(alloc, roots.as_slice()).expect(rt, "memory") {
+        Some(TextFault { text, fault }) => {
+            let line = fault.line;
+            format!(in alloc; "{text}:{line}").expect(rt, "memory")
+        }
+        None => String::new(alloc),
+    }
+}
+
+#[test]
+fn modules_have_names_and_namespaces_of_their_own(rt: HostRuntime) {
+    let a = "module a { namespace n; }";
+    let cases = [
+        ("module b { namespace m; }", ""),
+        ("\nmodule a { namespace m; }", "1:2"),
+        ("\nmodule b { namespace n; }", "1:2"),
+        ("module b { namespace N; }", ""),
+        ("module b;", ""),
+    ];
+    for (b, wanted) in cases {
+        let got = twin(&rt, rt.alloc(), &[a, b]);
         assert_eq!(rt; got.as_str(), wanted, "in {b}");
     }
 }

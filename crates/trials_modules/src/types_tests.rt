@@ -109,7 +109,12 @@ fn read_over(rt: &impl Abort, alloc: Global, base: &str, text: &str) -> String {
     let entry = own_of(rt, alloc, &Always, &root).expect(rt, "an entry");
     let over = statements(alloc, text).expect(rt, "a statement");
     let base = entry.expect(rt, "an entry");
-    shown(rt, alloc, narrowed(alloc, &base, over.below.as_slice()), "same")
+    shown(
+        rt,
+        alloc,
+        narrowed(alloc, &base, over.below.as_slice()),
+        "same",
+    )
 }
 
 /// Each type over another with what comes of it.
@@ -126,14 +131,23 @@ fn integers_have_ranges(rt: HostRuntime) {
         ("type int8;", "whole -128..127"),
         ("type int16;", "whole -32768..32767"),
         ("type int32;", "whole -2147483648..2147483647"),
-        ("type int64;", "whole -9223372036854775808..9223372036854775807"),
+        (
+            "type int64;",
+            "whole -9223372036854775808..9223372036854775807",
+        ),
         ("type uint8;", "whole 0..255"),
         ("type uint16;", "whole 0..65535"),
         ("type uint32;", "whole 0..4294967295"),
         ("type uint64;", "whole 0..18446744073709551615"),
-        ("type int8 { range \"1..4 | 10..20\"; }", "whole 1..4 10..20"),
+        (
+            "type int8 { range \"1..4 | 10..20\"; }",
+            "whole 1..4 10..20",
+        ),
         ("type int8 { range \"min..-1|5\"; }", "whole -128..-1 5..5"),
-        ("type uint8 { range \"0 .. 1|254..max\"; }", "whole 0..1 254..255"),
+        (
+            "type uint8 { range \"0 .. 1|254..max\"; }",
+            "whole 0..1 254..255",
+        ),
         ("type int32 { range \"1..4\n | 6\"; }", "whole 1..4 6..6"),
         ("type int8 { range \"-0\"; }", "whole 0..0"),
         ("type int8 { range 5; }", "whole 5..5"),
@@ -179,17 +193,32 @@ fn decimals_count_in_units_of_the_last_digit(rt: HostRuntime) {
             "type decimal64 { fraction-digits 2; range \"1 .. 3.14 | 10 | 20..max\"; }",
             "decimal 2 100..314 1000..1000 2000..9223372036854775807",
         ),
-        ("type decimal64 { fraction-digits 1; range \"-1.5..-0.5\"; }", "decimal 1 -15..-5"),
+        (
+            "type decimal64 { fraction-digits 1; range \"-1.5..-0.5\"; }",
+            "decimal 1 -15..-5",
+        ),
         (
             "type decimal64 { fraction-digits 18; range \"9.223372036854775807\"; }",
             "decimal 18 9223372036854775807..9223372036854775807",
         ),
-        ("type decimal64 { fraction-digits 18;\n range \"9.3\"; }", "2 BadArgument"),
+        (
+            "type decimal64 { fraction-digits 18;\n range \"9.3\"; }",
+            "2 BadArgument",
+        ),
         ("type decimal64 {\n fraction-digits 19; }", "2 BadArgument"),
         ("type decimal64 {\n fraction-digits 0; }", "2 BadArgument"),
-        ("type decimal64 { fraction-digits 1;\n range \"1.55\"; }", "2 BadArgument"),
-        ("type decimal64 { fraction-digits 1;\n range \"1.\"; }", "2 BadArgument"),
-        ("type decimal64 { fraction-digits 1;\n range \".5\"; }", "2 BadArgument"),
+        (
+            "type decimal64 { fraction-digits 1;\n range \"1.55\"; }",
+            "2 BadArgument",
+        ),
+        (
+            "type decimal64 { fraction-digits 1;\n range \"1.\"; }",
+            "2 BadArgument",
+        ),
+        (
+            "type decimal64 { fraction-digits 1;\n range \".5\"; }",
+            "2 BadArgument",
+        ),
     ];
     look_at(&rt, rt.alloc(), cases.as_slice());
 }
@@ -209,7 +238,10 @@ fn strings_have_lengths(rt: HostRuntime) {
         ("type string {\n length \"-0\"; }", "2 BadArgument"),
         ("type string {\n length \"5..4\"; }", "2 BadArgument"),
         ("type string {\n length \"1.5\"; }", "2 BadArgument"),
-        ("type string {\n length 18446744073709551616; }", "2 BadArgument"),
+        (
+            "type string {\n length 18446744073709551616; }",
+            "2 BadArgument",
+        ),
         ("type string {\n range \"1..4\"; }", "2 UnknownStatement"),
     ];
     look_at(&rt, rt.alloc(), cases.as_slice());
@@ -223,10 +255,19 @@ fn other_types_have_their_parts(rt: HostRuntime) {
         ("type empty;", "Empty"),
         ("type empty {\n length 0; }", "2 UnknownStatement"),
         ("type instance-identifier;", "instance true"),
-        ("type instance-identifier { require-instance false; }", "instance false"),
-        ("type string {\n require-instance true; }", "2 UnknownStatement"),
+        (
+            "type instance-identifier { require-instance false; }",
+            "instance false",
+        ),
+        (
+            "type string {\n require-instance true; }",
+            "2 UnknownStatement",
+        ),
         ("type leafref;", "1 Missing"),
-        ("type leafref { path \"/p:a\"; require-instance false; }", "names"),
+        (
+            "type leafref { path \"/p:a\"; require-instance false; }",
+            "names",
+        ),
         ("type identityref;", "1 Missing"),
         ("type identityref { base b; }", "names"),
         ("type union;", "1 Missing"),
@@ -244,10 +285,22 @@ fn enumerations_have_names_with_values(rt: HostRuntime) {
             "type enumeration { enum zero; enum one; enum seven { value 7; } }",
             "enum zero one seven",
         ),
-        ("type enumeration { enum \"a b\"; enum A; enum a; }", "enum a b A a"),
-        ("type enumeration { enum a;\n enum b;\n enum a; }", "3 Twice"),
-        ("type enumeration { enum a { value 1; } enum b {\n value 1; } }", "2 BadArgument"),
-        ("type enumeration { enum a; enum b {\n value 0; } }", "2 BadArgument"),
+        (
+            "type enumeration { enum \"a b\"; enum A; enum a; }",
+            "enum a b A a",
+        ),
+        (
+            "type enumeration { enum a;\n enum b;\n enum a; }",
+            "3 Twice",
+        ),
+        (
+            "type enumeration { enum a { value 1; } enum b {\n value 1; } }",
+            "2 BadArgument",
+        ),
+        (
+            "type enumeration { enum a; enum b {\n value 0; } }",
+            "2 BadArgument",
+        ),
         (
             "type enumeration { enum a { value 5; } enum b { value 3; } enum c { value 6; } enum d; }",
             "enum a b c d",
@@ -260,12 +313,18 @@ fn enumerations_have_names_with_values(rt: HostRuntime) {
             "type enumeration { enum a { value -5; } enum b; enum c {\n value -4; } }",
             "2 BadArgument",
         ),
-        ("type enumeration { enum a { value 2147483647; }\n enum b; }", "2 BadArgument"),
+        (
+            "type enumeration { enum a { value 2147483647; }\n enum b; }",
+            "2 BadArgument",
+        ),
         (
             "type enumeration { enum a { value 2147483647; } enum b { value -2147483648; } }",
             "enum a b",
         ),
-        ("type enumeration { enum a {\n value 2147483648; } }", "2 BadArgument"),
+        (
+            "type enumeration { enum a {\n value 2147483648; } }",
+            "2 BadArgument",
+        ),
         ("type enumeration {\n bit a; }", "2 UnknownStatement"),
     ];
     look_at(&rt, rt.alloc(), cases.as_slice());
@@ -285,8 +344,14 @@ fn bits_stand_in_order_of_position(rt: HostRuntime) {
             "bits c a b d",
         ),
         ("type bits { bit a;\n bit a; }", "2 Twice"),
-        ("type bits { bit a { position 1; } bit b {\n position 1; } }", "2 BadArgument"),
-        ("type bits { bit a { position 4294967295; }\n bit b; }", "2 BadArgument"),
+        (
+            "type bits { bit a { position 1; } bit b {\n position 1; } }",
+            "2 BadArgument",
+        ),
+        (
+            "type bits { bit a { position 4294967295; }\n bit b; }",
+            "2 BadArgument",
+        ),
         (
             "type bits { bit a { position 4294967295; } bit b { position 0; } }",
             "bits b a",
@@ -317,11 +382,19 @@ fn a_type_is_no_wider_than_its_base(rt: HostRuntime) {
         (ten, "type t { range \"2..max\"; }", "whole 2..10"),
         (ten, "type t {\n range \"min..11\"; }", "2 BadArgument"),
         (two, "type t { range \"11..max\"; }", "whole 11..20"),
-        (two, "type t { range \"min|3..4|11\"; }", "whole 1..1 3..4 11..11"),
+        (
+            two,
+            "type t { range \"min|3..4|11\"; }",
+            "whole 1..1 3..4 11..11",
+        ),
         (two, "type t {\n range \"11..100\"; }", "2 BadArgument"),
         (two, "type t {\n range \"4..10\"; }", "2 BadArgument"),
         (two, "type t {\n range \"5\"; }", "2 BadArgument"),
-        ("type int8 { range \"1..4|5..9\"; }", "type t {\n range \"3..6\"; }", "2 BadArgument"),
+        (
+            "type int8 { range \"1..4|5..9\"; }",
+            "type t {\n range \"3..6\"; }",
+            "2 BadArgument",
+        ),
     ];
     look_over(&rt, rt.alloc(), cases.as_slice());
 }
@@ -332,19 +405,51 @@ fn a_type_has_the_parts_of_its_base(rt: HostRuntime) {
     let decimal = "type decimal64 { fraction-digits 2; range \"0..10\"; }";
     let names = "type enumeration { enum a; }";
     let cases = [
-        (chars, "type t { length \"11 | 42..max\"; }", "string 11..11 42..255"),
+        (
+            chars,
+            "type t { length \"11 | 42..max\"; }",
+            "string 11..11 42..255",
+        ),
         (chars, "type t {\n length \"1..999\"; }", "2 BadArgument"),
         (chars, "type t {\n range \"1..9\"; }", "2 UnknownStatement"),
-        ("type binary { length \"4..8\"; }", "type t { length \"min..5\"; }", "binary 4..5"),
-        (decimal, "type t { range \"min..9.99\"; }", "decimal 2 0..999"),
-        (decimal, "type t {\n fraction-digits 2; }", "2 UnknownStatement"),
+        (
+            "type binary { length \"4..8\"; }",
+            "type t { length \"min..5\"; }",
+            "binary 4..5",
+        ),
+        (
+            decimal,
+            "type t { range \"min..9.99\"; }",
+            "decimal 2 0..999",
+        ),
+        (
+            decimal,
+            "type t {\n fraction-digits 2; }",
+            "2 UnknownStatement",
+        ),
         (names, "type t;", "same"),
         (names, "type t {\n enum a; }", "2 Unsupported"),
         (names, "type t {\n range 1; }", "2 UnknownStatement"),
-        ("type bits { bit a; }", "type t {\n bit a; }", "2 Unsupported"),
-        ("type instance-identifier;", "type t { require-instance false; }", "instance false"),
-        ("type instance-identifier { require-instance false; }", "type t;", "instance false"),
-        ("type boolean;", "type t {\n range 1; }", "2 UnknownStatement"),
+        (
+            "type bits { bit a; }",
+            "type t {\n bit a; }",
+            "2 Unsupported",
+        ),
+        (
+            "type instance-identifier;",
+            "type t { require-instance false; }",
+            "instance false",
+        ),
+        (
+            "type instance-identifier { require-instance false; }",
+            "type t;",
+            "instance false",
+        ),
+        (
+            "type boolean;",
+            "type t {\n range 1; }",
+            "2 UnknownStatement",
+        ),
     ];
     look_over(&rt, rt.alloc(), cases.as_slice());
 }

@@ -22,7 +22,8 @@ abbrev pub HasNumbers : BTreeSet ℤ → List ℤ → Type 0
 HasNumbers set numbers = (number : ℤ) → contains int_cmp set number ≡ list_any (λ other. int_eq other number) numbers
 
 -- the names of the first statements are known, and of the whole the rest is left
-pub record NamesKnown (listed : Listed) (below : List Statement) (at : ℕ) (names : BTreeSet (Bor (List ℕ))) : Type 0 where
+pub record NamesKnown
+    (listed : Listed) (below : List Statement) (at : ℕ) (names : BTreeSet (Bor (List ℕ))) : Type 0 where
   pub known : HasNames listed names (take at below)
   pub same : renamed listed [] below ≡ renamed listed (take at below) (drop at below)
 
@@ -32,4 +33,5 @@ pub record NumbersKnown
   pub before : List ℤ
   pub known : HasNumbers numbers before
   pub same :
-      misnumbered listed [] (numbered listed None below) ≡ misnumbered listed before (numbered listed high (drop at below))
+      misnumbered listed [] (numbered listed None below)
+      ≡ misnumbered listed before (numbered listed high (drop at below))

@@ -1,19 +1,8 @@
 #!/usr/bin/env bash
 # Times `nc_filter::select` over a list of 10,000 entries: a filter of 1,000 entries by their keys, and filters of 4 MB
-# that are made to be slow. It clones this repository into a temporary folder, puts a small program beside the crates
-# there, proves it and runs it.
+# that are made to be slow.
 set -euo pipefail
-top=$(git -C "$(dirname "$0")" rev-parse --show-toplevel)
-work=$(mktemp -d)
-trap 'rm -rf "$work"' EXIT
-git clone -q "$top" "$work/clone"
-cd "$work/clone"
-rt new crates/bench_filters start_io >/dev/null 2>&1
-rm -rf crates/bench_filters/src crates/bench_filters/specs crates/bench_filters/proofs
-rm -f crates/bench_filters/stdin crates/bench_filters/stdout crates/bench_filters/BUILD.bazel
-mkdir -p crates/bench_filters/src
-echo 'bench_filters: nc_names nc_message nc_message_read nc_schema nc_tree nc_filter' >>crates.txt
-cat >crates/bench_filters/src/main.rt <<'RT'
+exec "$(dirname "$0")/program" filters 'nc_names nc_message nc_message_read nc_schema nc_tree nc_filter' <<'RT'
 //! Times filters over a list of 10,000 entries, each with a key and a leaf.
 #![tactic(auto)]
 
@@ -191,6 +180,3 @@ fn main(rt: HostRuntime) -> io::Result<()> {
     Ok(())
 }
 RT
-cd crates/bench_filters
-rt run >"$work/log" 2>&1 || { tail -20 "$work/log"; exit 1; }
-grep " us" "$work/log"

@@ -1,6 +1,5 @@
 -- A reply in chunks, and texts that are written one after another.
-use Rattle.std.proofs.Common.{◌≡◌, ◌⊎◌, inl, inr, ℕ, zero, suc, ◌+◌, ◌-◌, ◌<◌, ◌≤◌, nat_le, Bool, true, false, List, [], ◌∷◌, ◌++◌, length, take, drop, refl, ap, sym, subst, ◌∙◌, arith, append_assoc, append-nil, length-append, length-drop, Option, Result, Ok, Err}
-use Rattle.std.specs.Prelude.{if◌then◌else◌}
+use Rattle.std.proofs.Common.{◌≡◌, ◌⊎◌, inl, inr, ℕ, zero, suc, ◌<◌, ◌≤◌, nat_le, true, false, List, [], ◌∷◌, ◌++◌, length, take, drop, refl, ap, sym, subst, ◌∙◌, arith, append_assoc, append-nil, length-append, length-drop, Option, Result, Ok, Err}
 use Rattle.std.specs.List.{flat_map, concat}
 use Rattle.std.specs.Io.KnownBytes.{append_known}
 use Rattle.std.proofs.lemmas.Bool.Decides.{leb_tells}
@@ -8,7 +7,6 @@ use Rattle.std.proofs.Math.Seq.{take-append_seam, drop-append_seam}
 use Rattle.nc_names.specs.Signs.{line_feed}
 use Rattle.nc_frames.specs.Framing.{announced, chunk, end_of_chunks, in_chunks}
 use Rattle.nc_frames.specs.Writing.{IsCut, AppendsChunks}
-use Rattle.nc_outside.specs.Causes.{TookPart}
 use Rattle.nc_outside.proofs.Known.{append_twice, took_front, took_more}
 use Rattle.nc_session.specs.declared.end.SessionEnd.{SessionEnd}
 use Rattle.nc_session.specs.declared.end.SessionEnd.TheVariants.{Closed, InputEnded, BadHello, BadFrame, TooBig, Malformed, Killed, ReadFault, WriteFault, Full, Spent, Memory}

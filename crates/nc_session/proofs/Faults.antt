@@ -1,12 +1,10 @@
 -- A message has one reading: one tree, or one fault.
-use Rattle.std.proofs.Common.{◌≡◌, ◌⊎◌, inl, inr, ℕ, ◌<◌, List, [], ◌∷◌, ◌++◌, length, refl, sym, ap, subst, ◌∙◌, ◌-◌, append_assoc, arith, Option, Some, None, Result, Ok, Err}
+use Rattle.std.proofs.Common.{◌≡◌, ◌⊎◌, inl, inr, ℕ, List, [], ◌∷◌, ◌++◌, length, refl, sym, ap, subst, ◌∙◌, ◌-◌, append_assoc, arith, Option, Some, None, Result, Ok, Err}
 use Rattle.std.specs.Str.{is_utf8}
 use Rattle.std.proofs.lemmas.Option.{same_Some}
-use Rattle.nc_message.specs.declared.tree.Elem.{Elem}
 use Rattle.nc_message.specs.declared.tree.Tree.{Tree}
 use Rattle.nc_message.specs.declared.tree.Why.{Why}
-use Rattle.nc_message.specs.Faults.{IsCut, SpellsTree, Fits, IsMisfit, Stops, IsEarly, IsFault, open_in, why_at}
-use Rattle.nc_message.specs.Pieces.{token}
+use Rattle.nc_message.specs.Faults.{IsCut, Fits, Stops, IsEarly, IsFault, open_in, why_at}
 use Rattle.nc_message.specs.Spells.{Spells}
 use Rattle.nc_message.specs.Tokens.{Token}
 use Rattle.nc_message_read.proofs.Exact.{one_tree, no_tree_at_fault}

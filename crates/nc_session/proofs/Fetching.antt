@@ -1,18 +1,16 @@
 -- The next request of a session: how its source is read for it, and how far.
-use Rattle.std.proofs.Common.{◌≡◌, ◌⊎◌, inl, inr, ℕ, zero, suc, ◌+◌, ◌<◌, ◌≤◌, List, [], ◌∷◌, ◌++◌, length, map, refl, sym, ap, subst, ◌∙◌, arith, append_assoc, append-nil, length-append, Option, Some, None, Result, Ok, Err}
-use Rattle.std.specs.Io.KnownBytes.{prepend_known, IsAtEnd}
+use Rattle.std.proofs.Common.{◌≡◌, ◌⊎◌, inl, inr, ℕ, suc, ◌+◌, ◌<◌, ◌≤◌, List, [], ◌∷◌, ◌++◌, length, refl, sym, ap, subst, ◌∙◌, arith, append_assoc, append-nil, length-append, Option, Some, None, Ok, Err}
+use Rattle.std.specs.Io.KnownBytes.{prepend_known}
 use Rattle.std.specs.List.{AllByRecursion}
 use Rattle.nc_names.specs.Counts.{Rose}
-use Rattle.nc_names.specs.Limits.{message_limit}
 use Rattle.nc_names.specs.Mark.{mark}
 use Rattle.nc_outside.proofs.Known.{prepend_nothing, prepend_twice}
-use Rattle.nc_frames.specs.Framing.{Mode, Marks, Chunks, IsUnfinished, IsMessage, marked_limit}
+use Rattle.nc_frames.specs.Framing.{Mode, Marks, Chunks, IsUnfinished}
 use Rattle.nc_frames.specs.Laws.{unfinished_limit, session_limit}
 use Rattle.nc_frames.proofs.AnswerLemmas.{one_answer}
 use Rattle.nc_frames.proofs.BoundLemmas.{bounded}
 use Rattle.nc_model.specs.declared.request.Request.{Request}
 use Rattle.nc_session.specs.declared.base.Base.{Base}
-use Rattle.nc_session.specs.declared.base.Base.TheVariants.{Base10, Base11}
 use Rattle.nc_session.specs.declared.end.SessionEnd.{SessionEnd}
 use Rattle.nc_session.specs.declared.end.SessionEnd.TheVariants.{Closed, InputEnded, BadHello, BadFrame, TooBig, Malformed, Killed, ReadFault, WriteFault, Full, Spent, Memory}
 use Rattle.nc_session.specs.declared.session_core.Phase.TheVariants.{Serving}

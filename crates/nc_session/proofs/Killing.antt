@@ -1,9 +1,8 @@
 -- A session that is found not to be live was ended by an entry of another desk.
-use Rattle.std.proofs.Common.{◌≡◌, ◌≢◌, ◌⊎◌, inl, inr, ◌&&◌, ◌+◌, ◌<◌, ℕ, Bool, true, false, List, [], ◌∷◌, ◌++◌, length, map, refl, sym, ap, subst, ◌∙◌, append_assoc, length-append, arith, IsTrue}
+use Rattle.std.proofs.Common.{◌≡◌, inl, ◌&&◌, ◌<◌, ℕ, Bool, true, false, List, [], ◌∷◌, ◌++◌, length, map, refl, sym, ap, subst, ◌∙◌, append_assoc, arith, IsTrue}
 use Rattle.std.specs.Prelude.{if◌then◌else◌}
 use Rattle.std.specs.List.{All, Contains}
 use Rattle.std.proofs.lemmas.List.Elements.{All-contains, All-cons, All-append, Contains-append_left, Contains-append_right}
-use Rattle.nc_model.specs.declared.asked.Asked.{Asked}
 use Rattle.nc_model.specs.declared.entry.Entry.{Entry}
 use Rattle.nc_model.specs.declared.event.Event.{Event}
 use Rattle.nc_model.specs.declared.event.Event.TheVariants.{Start, Request as Requested, End, Reading}
@@ -17,9 +16,9 @@ use Rattle.nc_model.specs.Laws.{IsOf, EndsSession, asks_close}
 use Rattle.nc_model.specs.Step.{is_done}
 use Rattle.nc_model.proofs.EndLemmas.{is_ended_between}
 use Rattle.nc_model.proofs.HistoryLemmas.{legal_histories_join}
-use Rattle.nc_model.proofs.ListLemmas.{heads_same, tails_same, all_one, contains_here, contains_behind, contains_split}
-use Rattle.nc_model.proofs.Parts.{IsPartOf, all_from, pair_at, part_second, contains_kept, part_rest, part_of_part, contains_part}
-use Rattle.nc_session.specs.declared.standing.Standing.TheVariants.{Live, Closed, Dead}
+use Rattle.nc_model.proofs.ListLemmas.{heads_same, tails_same, all_one, contains_behind, contains_split}
+use Rattle.nc_model.proofs.Parts.{IsPartOf, all_from, pair_at, part_second, contains_kept, part_rest, part_of_part}
+use Rattle.nc_session.specs.declared.standing.Standing.TheVariants.{Live, Closed}
 use Rattle.nc_session.specs.Sessions.{is_close, standing_by, standing_after, StayLive}
 use Rattle.nc_session.specs.Serves.{WasKilled}
 

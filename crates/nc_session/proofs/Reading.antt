@@ -1,8 +1,7 @@
 -- A session's reader, from one call to the next.
-use Rattle.std.proofs.Common.{◌≡◌, ◌≢◌, ℕ, ◌+◌, List, [], ◌∷◌, ◌++◌, length, refl, sym, ap, subst, ◌∙◌, append_assoc, Option, Some, None, Result, Ok, Err}
+use Rattle.std.proofs.Common.{◌≡◌, ◌≢◌, ℕ, List, [], ◌∷◌, ◌++◌, length, refl, sym, ap, subst, ◌∙◌, Option, Some, None, Result, Ok, Err}
 use Rattle.nc_names.specs.declared.memory.Memory.{Memory}
 use Rattle.nc_frames.specs.Framing.{Mode, Marks, IsUnfinished}
-use Rattle.nc_frames.specs.Replies.{IsFaultOf}
 use Rattle.nc_frames.specs.declared.fault.FrameFault.{FrameFault}
 use Rattle.nc_frames.specs.declared.fault.FrameFault.TheVariants.{BadFrame as FrameBad, TooBig as FrameTooBig, Memory as FrameMemory}
 use Rattle.nc_model.specs.declared.request.Request.{Request}
@@ -19,7 +18,7 @@ use Rattle.nc_session.specs.Requests.{AsksFor, Greets}
 use Rattle.nc_session.specs.Asks.{mode_of, AsksAll, Unmet, Spurned, Waiting, Stopped, StopsAtHello, StopsAtMessage, BeginsWith}
 use Rattle.nc_session.specs.Cores.{Core, HasGiven, IsIn, IsAt, IsTodo, TakesPiece, IsChosen, IsNext}
 use Rattle.nc_session.specs.inner.Steps.{IsStreamEnd, Takes, Meets, HasMet, GivesMore}
-use Rattle.nc_session.specs.inner.Unseen.{Held, Unseen, Gives, GivesNext, Feeds}
+use Rattle.nc_session.specs.inner.Unseen.{Unseen, Gives, GivesNext, Feeds}
 use Rattle.nc_session.proofs.Asking.{hello_taken, from_first, one_more_request, first_more, stop_stays}
 
 pub fed : (U V : Mode → ℕ → List ℕ → Type 0) (phase : Phase) (base : Base) (bytes piece : List ℕ) (given : List Request) (result : Result (Unit {0}) Memory)

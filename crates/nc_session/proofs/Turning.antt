@@ -1,5 +1,5 @@
 -- A session from one request to the next.
-use Rattle.std.proofs.Common.{◌≡◌, ◌≢◌, ◌⊎◌, inl, inr, ℕ, suc, ◌+◌, ◌≤◌, List, [], ◌∷◌, ◌++◌, length, map, refl, sym, ap, subst, ◌∙◌, append_assoc, length-append, arith, Option, Some, None, IsTrue, Result, Ok, Err}
+use Rattle.std.proofs.Common.{◌≡◌, ◌≢◌, ◌⊎◌, ℕ, ◌≤◌, List, [], ◌∷◌, ◌++◌, length, map, refl, sym, ap, subst, ◌∙◌, append_assoc, length-append, arith, Option, Some, None, IsTrue, Result, Ok, Err}
 use Rattle.std.proofs.lemmas.List.Elements.{All-push, Contains-append_left}
 use Rattle.std.specs.List.{Contains}
 use Rattle.std.specs.Io.KnownBytes.{append_known, prepend_known, IsAtEnd}
@@ -25,10 +25,10 @@ use Rattle.nc_session.specs.declared.standing.Standing.{Standing}
 use Rattle.nc_session.specs.declared.standing.Standing.TheVariants.{Live, Closed as IsClosed, Dead}
 use Rattle.nc_session.specs.declared.turn.Met.{Met as Meeting}
 use Rattle.nc_session.specs.Asks.{AsksFirst, AsksAll}
-use Rattle.nc_session.specs.Cores.{Core, IsIn, IsAt, IsChosen}
+use Rattle.nc_session.specs.Cores.{Core, IsIn, IsAt}
 use Rattle.nc_session.specs.Sessions.{session_text, entry_text, standing_after, Leave, HasEntered}
 use Rattle.nc_session.specs.Serves.{Call, Course, AsksThese, Wrote, CountedBy, Met}
-use Rattle.nc_session.specs.inner.Turns.{Underway, entered_all, one_ahead, TellsEnd, Stops, Turns, Intake, intake, SameIntake, Progress, Fetches, Settles, SettlesBy, Writes}
+use Rattle.nc_session.specs.inner.Turns.{Underway, entered_all, one_ahead, TellsEnd, Stops, Turns, Intake, SameIntake, Progress, Fetches, Settles, SettlesBy, Writes}
 use Rattle.nc_session.specs.inner.Unseen.{Unseen}
 use Rattle.nc_session.proofs.Ending.{IsStop, all_stop, asks_in, asks_all, asks_these, same_text, text_more, entered_more, own_entries, own_but_reading}
 use Rattle.nc_session.proofs.Living.{Lands}

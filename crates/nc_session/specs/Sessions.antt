@@ -1,5 +1,5 @@
 -- The entries of a session, and the text that answers them.
-use Rattle.std.specs.Prelude.{◌≡◌, ◌&&◌, ℕ, Bool, true, false, if◌then◌else◌, List, [], ◌∷◌, ◌++◌, map}
+use Rattle.std.specs.Prelude.{◌≡◌, ◌&&◌, ℕ, Bool, false, if◌then◌else◌, List, [], ◌∷◌, ◌++◌, map}
 use Rattle.std.specs.List.{All, flat_map}
 use Rattle.nc_schema.specs.Tables.{Tables}
 use Rattle.nc_model.specs.declared.entry.Entry.{Entry}

@@ -1,5 +1,5 @@
 -- The shape of elements of NETCONF's own (RFC 6241 3.1).
-use Rattle.std.specs.Prelude.{ℕ, List, [], ◌∷◌, Option, Some, None, Bool, true, false, ◌&&◌, filter}
+use Rattle.std.specs.Prelude.{ℕ, List, [], ◌∷◌, Option, Some, None, Bool, false, ◌&&◌, filter}
 use Rattle.std.specs.Str.{bytes_eq}
 use Rattle.nc_message.specs.declared.tree.Elem.{Elem}
 use Rattle.nc_message.specs.declared.tree.Part.{Part, out-Part}

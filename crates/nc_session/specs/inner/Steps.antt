@@ -7,7 +7,6 @@ use Rattle.nc_model.specs.declared.request.Request.{Request}
 use Rattle.nc_session.specs.declared.base.Base.{Base}
 use Rattle.nc_session.specs.declared.end.SessionEnd.{SessionEnd}
 use Rattle.nc_session.specs.declared.end.SessionEnd.TheVariants.{BadFrame, TooBig}
-use Rattle.nc_session.specs.declared.session_core.Phase.{Phase}
 use Rattle.nc_session.specs.declared.session_core.Phase.TheVariants.{Greeting}
 use Rattle.nc_session.specs.declared.session_core.Todo.{Todo}
 use Rattle.nc_session.specs.Asks.{mode_of, AsksFirst, AsksAll}

@@ -1,6 +1,6 @@
 -- What a session's inbox keeps: the framing, and a message that was taken from it and is not read yet.
-use Rattle.std.specs.Prelude.{◌≡◌, ℕ, ◌+◌, List, [], ◌++◌, length, Option, Some, None, Result, Ok, Err}
-use Rattle.nc_frames.specs.Framing.{Mode, Marks, Chunks, IsMessage, IsUnfinished}
+use Rattle.std.specs.Prelude.{◌≡◌, ℕ, ◌+◌, List, ◌++◌, length, Option, Some, None, Result, Ok, Err}
+use Rattle.nc_frames.specs.Framing.{Mode, IsMessage, IsUnfinished}
 use Rattle.nc_frames.specs.Replies.{Unread, IsFaultOf, with_piece}
 use Rattle.nc_frames.specs.inner.Kept.{Kept}
 use Rattle.nc_frames.specs.declared.fault.FrameFault.{FrameFault}

@@ -1,5 +1,4 @@
-use Rattle.std.proofs.Common.{length, take, arith, sym, ap, subst}
-use Rattle.nc_frames.specs.Framing.{chunk}
+use Rattle.std.proofs.Common.{arith, sym}
 use Rattle.nc_outside.proofs.Known.{append_nothing}
 use Rattle.nc_session.proofs.Cutting.{sending_none, sending_more, sending_failed, sending_last, sending_last_failed}
 use Rattle.nc_session.proofs.reply.send_chunks.Goals as goal

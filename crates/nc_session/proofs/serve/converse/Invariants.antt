@@ -1,4 +1,4 @@
-use Rattle.std.specs.Prelude.{ℕ, ◌≤◌, length}
+use Rattle.std.specs.Prelude.{◌≤◌, length}
 use Rattle.nc_outside.specs.Streams.{streams}
 use Rattle.nc_schema.specs.Tables.{Tables}
 use Rattle.nc_session.specs.Serves.{Call}

@@ -4,7 +4,7 @@ use Rattle.nc_model.specs.declared.peer.Peer.{Peer}
 use Rattle.nc_model.specs.declared.event.Event.TheVariants.{Start}
 use Rattle.nc_model.specs.declared.event.Outcome.{Outcome}
 use Rattle.nc_session.specs.inner.Turns.{ComesTo}
-use Rattle.nc_model.specs.Desks.{Entered, Submits, TellsSpent, is_own}
+use Rattle.nc_model.specs.Desks.{Submits, TellsSpent, is_own}
 use Rattle.nc_session.proofs.Living.{Lands, lands, reads, own_none}
 use Rattle.nc_session.proofs.Serving.{begun, start_for_memory, start_spent}
 use Rattle.nc_session.proofs.serve.start.Goals as goal

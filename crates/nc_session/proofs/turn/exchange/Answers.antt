@@ -1,4 +1,3 @@
-use Rattle.std.proofs.Common.{length}
 use Rattle.nc_outside.specs.Streams.{streams}
 use Rattle.nc_session.specs.inner.Turns.{intake}
 use Rattle.nc_session.proofs.Turning.{to_ask, unfetched}

@@ -1,4 +1,4 @@
-use Rattle.std.proofs.Common.{List, ℕ, Ok, Err, refl, subst, sym, ap, ◌∙◌}
+use Rattle.std.proofs.Common.{List, ℕ, Ok, refl, subst, sym, ap, ◌∙◌}
 use Rattle.nc_frames.specs.Framing.{Marks}
 use Rattle.nc_session.specs.declared.base.Base.TheVariants.{Base10, Base11}
 use Rattle.nc_session.specs.declared.end.SessionEnd.TheVariants.{BadHello}

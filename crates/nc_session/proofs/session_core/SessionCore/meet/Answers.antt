@@ -1,6 +1,6 @@
 use Rattle.nc_frames.specs.Framing.{Marks}
 use Rattle.nc_session.specs.inner.Unseen.{Unseen}
-use Rattle.nc_session.proofs.Reading.{meet_none, meet_stop, meet_memory, met_meets, gave_none, gave_some, gave_memory, hello_fault, inner, greeting_in, none_chosen, over_no_greeting}
+use Rattle.nc_session.proofs.Reading.{meet_none, meet_stop, met_meets, gave_none, gave_some, hello_fault, inner, greeting_in, none_chosen, over_no_greeting}
 use Rattle.nc_session.proofs.session_core.SessionCore.meet.Goals as goal
 
 pub returns-in-Ok-None : goal.returns-in-Ok-None

@@ -1,4 +1,4 @@
-use Rattle.std.proofs.Common.{List, ℕ, Ok, Err, subst, sym, Result, ap, ◌∙◌}
+use Rattle.std.proofs.Common.{List, ℕ, Ok, Err, subst, Result}
 use Rattle.nc_model.specs.declared.request.Request.{Request}
 use Rattle.nc_session.specs.declared.end.BadMessage.{BadMessage}
 use Rattle.nc_session.specs.declared.end.SessionEnd.TheVariants.{Malformed}

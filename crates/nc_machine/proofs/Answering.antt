@@ -1,0 +1,207 @@
+-- What comes of a request, and its entry.
+use Rattle.std.proofs.Common.{◌≡◌, ◌≤◌, ◌⊎◌, ◌&&◌, ◌==◌, ℕ, Bool, true, false, cond, List, [], ◌∷◌, refl, sym, ap, subst, ◌∙◌, inl, inr, Option, Some, None, Result, Ok, Err, arith}
+use Rattle.std.specs.Prelude.{IfOk, OnErr}
+use Rattle.nc_names.specs.Counts.{Rose}
+use Rattle.nc_names.specs.declared.memory.Memory.{Memory}
+use Rattle.nc_names.specs.Same.{is_same_rows}
+use Rattle.nc_names.specs.declared.cause.CauseKind.TheVariants.{DiskFault}
+use Rattle.nc_names.specs.declared.path.Row.{Row}
+use Rattle.nc_model.specs.declared.entry.Entry.{Entry}
+use Rattle.nc_model.specs.declared.event.Event.{Event}
+use Rattle.nc_model.specs.declared.event.Event.TheVariants.{Request as Requested}
+use Rattle.nc_model.specs.declared.event.Outcome.{Outcome}
+use Rattle.nc_model.specs.declared.event.Outcome.TheVariants.{Answered, NotLive}
+use Rattle.nc_model.specs.declared.request.Request.{Request}
+use Rattle.nc_model.specs.declared.verdict.Verdict.{Verdict}
+use Rattle.nc_model.specs.declared.verdict.Verdict.TheVariants.{Done}
+use Rattle.nc_model.specs.Proper.{IsProper}
+use Rattle.nc_model.specs.State.{State, candidate_in_force, expired, is_live}
+use Rattle.nc_model.specs.Step.{CountsFaults, Fits, answer_to, answered, appends_record, changed, has_failed, is_done, next, outcome_of, reaches_disk, with_candidate}
+use Rattle.nc_model.specs.Verdict.{kept_unless, refused_for, verdict}
+use Rattle.nc_machine.specs.declared.course.Change.{Change}
+use Rattle.nc_machine.specs.declared.course.Change.TheVariants.{Nothing, Candidate, Discard, Close}
+use Rattle.nc_machine.specs.declared.course.Course.TheVariants.{Answer, Commit}
+use Rattle.nc_machine.specs.inner.Courses.{course, made}
+use Rattle.nc_machine.specs.inner.Turns.{Answers, Commits, Enters, IsKept, IsNotKept, answered_by}
+use Rattle.nc_machine.proofs.Courses.{IsAnswer, IsCommit, answers, commits}
+
+-- ---- what a change leaves as it is
+
+set_running : (s : State) (rows : List Row) (same : Bool) → (cond same s (record s { candidate = Some rows })).running ≡ s.running
+set_running s rows true = refl
+set_running s rows false = refl
+
+pub made_running : (s : State) (session : ℕ) (change : Change) → (made s session change).running ≡ s.running
+unfolding made
+made_running s session Nothing = refl
+made_running s session (Candidate rows) = set_running s rows (is_same_rows rows (candidate_in_force s))
+made_running s session Discard = refl
+made_running s session Close = refl
+
+set_faults : (s : State) (rows : List Row) (same : Bool) → (cond same s (record s { candidate = Some rows })).faults ≡ s.faults
+set_faults s rows true = refl
+set_faults s rows false = refl
+
+pub made_faults : (s : State) (session : ℕ) (change : Change) → (made s session change).faults ≡ s.faults
+unfolding made
+made_faults s session Nothing = refl
+made_faults s session (Candidate rows) = set_faults s rows (is_same_rows rows (candidate_in_force s))
+made_faults s session Discard = refl
+made_faults s session Close = refl
+
+-- ---- a request that is answered
+
+not_reached : (live appends done : Bool) → (appends && done) ≡ false → ((live && appends) && done) ≡ false
+not_reached true appends done is = is
+not_reached false appends done is = refl
+
+reach_is : (s : State) (session : ℕ) (request : Request) (v : Verdict) (c : Change) → IsAnswer s session request v c →
+    reaches_disk s (Requested session request) ≡ false
+reach_is s session request v c answer =
+    not_reached (is_live s session) (appends_record request.asked) (is_done (verdict s session request false))
+    (ap (λ (w : Verdict). appends_record request.asked && is_done w) (answer.verdict_is false) ∙ answer.disk)
+
+live_outcome : (s : State) (session : ℕ) (request : Request) (failed : Bool) → is_live s session ≡ true →
+    answer_to s session request failed ≡ outcome_of s (Requested session request) failed
+live_outcome s session request failed live =
+    sym (ap (λ (b : Bool). cond b (answer_to s session request failed) NotLive) live)
+
+pub answered_is : (s new : State) (session : ℕ) (request : Request) (v : Verdict) (c : Change) (outcome : Outcome) →
+    IsProper request → true ≡ is_live s session → Answer v c ≡ course s session request →
+    outcome ≡ answered_by s session request v → new ≡ made s session c → Answers s new session request outcome
+unfolding answered_by
+answered_is s new session request v c outcome proper live is told new_is =
+    let answer = answers s session request v c proper (sym is) in
+    let failed = has_failed (answered_by s session request v) in
+    subst (λ (o : Outcome). Answers s new session request o) (sym told)
+    (subst (λ (n : State). Answers s n session request (answered_by s session request v)) (sym new_is)
+    (record {
+      outcome_is = ap (answered_by s session request) (sym (answer.verdict_is failed))
+          ∙ live_outcome s session request failed (sym live);
+      faults = subst (λ (b : Bool). CountsFaults b failed s.faults (made s session c).faults)
+          (sym (reach_is s session request v c answer)) (made_faults s session c);
+      state_is = ap (λ (n : State). record n { faults = (made s session c).faults }) (sym answer.state_is);
+    }))
+
+pub not_live : (s : State) (session : ℕ) (request : Request) → false ≡ is_live s session → Answers s s session request NotLive
+not_live s session request dead = record {
+  outcome_is = sym (ap (λ (b : Bool). cond b (answer_to s session request false) NotLive) (sym dead));
+  faults = subst (λ (b : Bool). CountsFaults ((b && appends_record request.asked) && is_done (verdict s session request false)) false s.faults s.faults)
+      dead refl;
+  state_is = refl;
+}
+
+pub unreached : (s : State) (session : ℕ) (request : Request) (v : Verdict) (c : Change) → IsProper request →
+    Answer v c ≡ course s session request → reaches_disk s (Requested session request) ≡ false
+unreached s session request v c proper is = reach_is s session request v c (answers s session request v c proper (sym is))
+
+-- ---- a commit
+
+commit_reaches : (s : State) (session : ℕ) (request : Request) → is_live s session ≡ true → IsCommit s session request →
+    reaches_disk s (Requested session request) ≡ true
+commit_reaches s session request live commit =
+    ap (λ (b : Bool). (b && appends_record request.asked) && is_done (verdict s session request false)) live
+    ∙ (ap (λ (b : Bool). b && is_done (verdict s session request false)) commit.appends
+    ∙ ap is_done (commit.verdict_is false))
+
+pub reaches : (s : State) (session : ℕ) (request : Request) → true ≡ is_live s session → Commit ≡ course s session request →
+    reaches_disk s (Requested session request) ≡ true
+reaches s session request live is = commit_reaches s session request (sym live) (commits s session request (sym is))
+
+kept_is : (s new : State) (session : ℕ) (request : Request) (outcome : Outcome) → is_live s session ≡ true →
+    IsCommit s session request → IsKept s new session request outcome → Answers s new session request outcome
+unfolding answered_by
+kept_is s new session request outcome live commit kept =
+    subst (λ (o : Outcome). Answers s new session request o) (sym kept.outcome_is)
+    (record {
+      outcome_is = ap (answered_by s session request) (sym (commit.verdict_is false)) ∙ live_outcome s session request false live;
+      faults = subst (λ (b : Bool). CountsFaults b false s.faults new.faults)
+          (sym (commit_reaches s session request live commit)) kept.faults;
+      state_is = kept.state_is ∙ ap (λ (n : State). record n { faults = new.faults }) (sym commit.done);
+    })
+
+not_kept_is : (s new : State) (session : ℕ) (request : Request) (outcome : Outcome) → is_live s session ≡ true →
+    IsCommit s session request → IsNotKept s new session request outcome → Answers s new session request outcome
+unfolding answered_by
+not_kept_is s new session request outcome live commit kept =
+    subst (λ (o : Outcome). Answers s new session request o) (sym kept.outcome_is)
+    (record {
+      outcome_is = ap (answered_by s session request) (sym (commit.verdict_is true)) ∙ live_outcome s session request true live;
+      faults = subst (λ (b : Bool). CountsFaults b true s.faults new.faults)
+          (sym (commit_reaches s session request live commit)) kept.faults;
+      state_is = kept.state_is ∙ ap (λ (n : State). record n { faults = new.faults }) (sym commit.failed);
+    })
+
+pub committed_is : (s new : State) (session : ℕ) (request : Request) (outcome : Outcome) →
+    true ≡ is_live s session → Commit ≡ course s session request → Commits s new session request (Ok outcome) →
+    Answers s new session request outcome
+committed_is s new session request outcome live is (inl kept) =
+    kept_is s new session request outcome (sym live) (commits s session request (sym is)) kept
+committed_is s new session request outcome live is (inr kept) =
+    not_kept_is s new session request outcome (sym live) (commits s session request (sym is)) kept
+
+-- a commit as the code makes it
+pub commit_told : (s new : State) (session : ℕ) (request : Request) (result : Result Outcome Memory) →
+    true ≡ is_live s session → Commit ≡ course s session request → Commits s new session request result →
+    IfOk result (λ it. Answers s new session request it)
+commit_told s new session request (Ok outcome) live is commits = committed_is s new session request outcome live is commits
+commit_told s new session request (Err memory) live is commits = tt
+
+pub commit_wanted : {K : Type 0} (s new : State) (before after : K) (session : ℕ) (request : Request)
+    (result : Result Outcome Memory) → Commits s new session request result → OnErr result (after ≡ before) →
+    OnErr result ((new ≡ s) × (after ≡ before))
+commit_wanted s new before after session request (Ok outcome) commits same = tt
+commit_wanted s new before after session request (Err memory) commits same = (commits, same)
+
+-- ---- the entry of a request
+
+pub request_enters : (old new : State) (number session : ℕ) (request : Request) (at : ℕ) (outcome : Outcome) →
+    IsProper request → Answers (expired old at) new session request outcome →
+    Enters old new number (Requested session request) at (record {
+      number = number;
+      at = at;
+      event = Requested session request;
+      outcome = outcome;
+      faults_before = old.faults;
+      faults_after = new.faults;
+    })
+request_enters old new number session request at outcome proper answers = record {
+  event_is = refl;
+  at_is = refl;
+  number_is = refl;
+  fits = record { proper = proper; outcome = answers.outcome_is; before = refl; faults = answers.faults };
+  state_is = answers.state_is;
+}
+
+-- as the code makes it
+pub request_told : (old read new : State) (number session : ℕ) (request : Request) (at : ℕ) (outcome : Outcome)
+    (faults_before faults_after : ℕ) → IsProper request → read ≡ expired old at → faults_before ≡ read.faults →
+    faults_after ≡ new.faults → Answers read new session request outcome →
+    Enters old new number (Requested session request) at (record {
+      number = number;
+      at = at;
+      event = Requested session request;
+      outcome = outcome;
+      faults_before = faults_before;
+      faults_after = faults_after;
+    })
+request_told old read new number session request at outcome faults_before faults_after proper is before after answers =
+    let enters = request_enters old new number session request at outcome proper
+    (subst (λ (s : State). Answers s new session request outcome) is answers) in
+    let first : old.faults ≡ faults_before = sym (before ∙ ap (λ (s : State). s.faults) is) in
+    subst (λ (n : ℕ). Enters old new number (Requested session request) at (record {
+      number = number;
+      at = at;
+      event = Requested session request;
+      outcome = outcome;
+      faults_before = faults_before;
+      faults_after = n;
+    })) (sym after)
+    (subst (λ (n : ℕ). Enters old new number (Requested session request) at (record {
+      number = number;
+      at = at;
+      event = Requested session request;
+      outcome = outcome;
+      faults_before = n;
+      faults_after = new.faults;
+    })) first enters)

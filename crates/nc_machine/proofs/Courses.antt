@@ -1,0 +1,322 @@
+-- What a request comes to is its verdict, and what it changes is what the verdict says.
+use Rattle.std.proofs.Common.{◌≡◌, ◌&&◌, ℕ, Bool, true, false, not, cond, List, [], ◌∷◌, refl, sym, ap, subst, ◌∙◌, Option, Some, None, Result, Ok, Err}
+use Rattle.std.specs.Option.{option_or}
+use Rattle.std.specs.Prelude.{IfOk}
+use Rattle.nc_names.specs.declared.memory.Memory.{Memory}
+use Rattle.nc_names.specs.declared.cause.CauseKind.TheVariants.{DiskFault, UnknownOperation}
+use Rattle.nc_names.specs.declared.path.Row.{Row}
+use Rattle.nc_model.specs.declared.asked.Asked.{Asked}
+use Rattle.nc_model.specs.declared.asked.Asked.TheVariants.{Get, GetConfig, EditConfig, CopyConfig, DeleteConfig, Lock, Unlock, CloseSession, KillSession, Commit as AsksCommit, DiscardChanges, CancelCommit, Validate, PartialLock, PartialUnlock}
+use Rattle.nc_model.specs.declared.asked.Operation.{Operation}
+use Rattle.nc_model.specs.declared.request.Cause.{Cause}
+use Rattle.nc_model.specs.declared.request.Request.{Request}
+use Rattle.nc_model.specs.declared.verdict.Verdict.{Verdict}
+use Rattle.nc_model.specs.declared.verdict.Verdict.TheVariants.{Done, Refused}
+use Rattle.nc_model.specs.Access.{exec_of}
+use Rattle.nc_model.specs.Edited.{cause_where}
+use Rattle.nc_model.specs.Proper.{IsAskedOf, IsProper, operation_of}
+use Rattle.nc_model.specs.State.{State, candidate_in_force}
+use Rattle.nc_model.specs.Step.{answered, appends_record, changed_by, is_done, rows_of_ok, with_candidate}
+use Rattle.nc_model.specs.Verdict.{asked_verdict, cause_of, checked, commit_refusal, copied, edits_made, exec_denied, is_offered, kept_unless, operation_refused, refused_for, rows_set, verdict, verdict_on}
+use Rattle.nc_machine.specs.declared.course.Change.{Change}
+use Rattle.nc_machine.specs.declared.course.Change.TheVariants.{Nothing, Candidate, Discard, Close}
+use Rattle.nc_machine.specs.declared.course.Course.{Course}
+use Rattle.nc_machine.specs.declared.course.Course.TheVariants.{Answer, Commit}
+use Rattle.nc_machine.specs.inner.Courses.{asked_course, changed_to, commit_asked_course, commit_course, copy_config_course, course, course_on, edit_config_course, edit_course, get_config_course, get_course, is_not_offered, made, validate_course}
+
+-- what is asked for has that verdict and changes that, whatever the disk does
+pub record IsSettled (s : State) (session : ℕ) (asked : Result Asked Cause) (v : Verdict) (change : Change) : Type 0 where
+  pub verdict_is : (failed : Bool) → verdict_on s session asked failed ≡ v
+  pub disk : (appends_record asked && is_done v) ≡ false
+  pub state_is : answered s session asked v ≡ made s session change
+
+verdict_same : (x v : Verdict) (y c : Change) → Answer x y ≡ Answer v c → x ≡ v
+verdict_same x v y c is = cc
+
+change_same : (x v : Verdict) (y c : Change) → Answer x y ≡ Answer v c → y ≡ c
+change_same x v y c is = cc
+
+changed_to_is : (s : State) (session : ℕ) (rows : Option (List Row)) → with_candidate s rows ≡ made s session (changed_to rows)
+unfolding made
+changed_to_is s session None = refl
+changed_to_is s session (Some rows) = refl
+
+and_false : (b : Bool) → (b && false) ≡ false
+and_false true = refl
+and_false false = refl
+
+-- an operation that changes nothing
+plain : (s : State) (session : ℕ) (asked : Result Asked Cause) (x v : Verdict) (c : Change) →
+    ((failed : Bool) → verdict_on s session asked failed ≡ x) → appends_record asked ≡ false →
+    ((w : Verdict) → answered s session asked w ≡ s) → Answer x Nothing ≡ Answer v c → IsSettled s session asked v c
+unfolding made
+plain s session asked x v c verdicts appends stays is = record {
+  verdict_is = λ failed. verdicts failed ∙ verdict_same x v Nothing c is;
+  disk = ap (λ (b : Bool). b && is_done v) appends;
+  state_is = stays v ∙ ap (made s session) (change_same x v Nothing c is);
+}
+
+-- one that may change the candidate
+setting : (s : State) (session : ℕ) (asked : Result Asked Cause) (x v : Verdict) (rows : Option (List Row)) (c : Change) →
+    ((failed : Bool) → verdict_on s session asked failed ≡ x) → appends_record asked ≡ false →
+    ((w : Verdict) → answered s session asked w ≡ with_candidate s rows) → Answer x (changed_to rows) ≡ Answer v c →
+    IsSettled s session asked v c
+setting s session asked x v rows c verdicts appends sets is = record {
+  verdict_is = λ failed. verdicts failed ∙ verdict_same x v (changed_to rows) c is;
+  disk = ap (λ (b : Bool). b && is_done v) appends;
+  state_is = sets v ∙ (changed_to_is s session rows ∙ ap (made s session) (change_same x v (changed_to rows) c is));
+}
+
+-- one that is done, and changes something else
+doing : (s : State) (session : ℕ) (asked : Result Asked Cause) (v : Verdict) (change c : Change) →
+    ((failed : Bool) → verdict_on s session asked failed ≡ Done) → appends_record asked ≡ false →
+    answered s session asked Done ≡ made s session change → Answer Done change ≡ Answer v c → IsSettled s session asked v c
+doing s session asked v change c verdicts appends does is = record {
+  verdict_is = λ failed. verdicts failed ∙ verdict_same Done v change c is;
+  disk = ap (λ (b : Bool). b && is_done v) appends;
+  state_is = ap (answered s session asked) (sym (verdict_same Done v change c is))
+      ∙ (does ∙ ap (made s session) (change_same Done v change c is));
+}
+
+-- a commit that is refused
+refused_commit : (s : State) (session : ℕ) (asked : Result Asked Cause) (why : Option Cause) (v : Verdict) (c : Change) →
+    ((failed : Bool) → verdict_on s session asked failed ≡ checked why (kept_unless failed)) →
+    ((causes : List Cause) → answered s session asked (Refused causes) ≡ s) → commit_course why ≡ Answer v c →
+    IsSettled s session asked v c
+unfolding made
+refused_commit s session asked None v c verdicts stays is = absurd (by is)
+  where
+    by : Commit ≡ Answer v c → ⊥
+    by e = cc
+refused_commit s session asked (Some cause) v c verdicts stays is =
+    let same = verdict_same (Refused (cause ∷ [])) v Nothing c is in
+    record {
+      verdict_is = λ failed. verdicts failed ∙ same;
+      disk = ap (λ (w : Verdict). appends_record asked && is_done w) (sym same) ∙ and_false (appends_record asked);
+      state_is = ap (answered s session asked) (sym same)
+          ∙ (stays (cause ∷ []) ∙ ap (made s session) (change_same (Refused (cause ∷ [])) v Nothing c is));
+    }
+
+asked_settles : (s : State) (session : ℕ) (asked : Asked) (v : Verdict) (c : Change) → asked_course s session asked ≡ Answer v c →
+    IsSettled s session (Ok asked) v c
+unfolding asked_course get_course get_config_course edit_config_course edit_course copy_config_course commit_asked_course validate_course made
+asked_settles s session (Get filter) v c is =
+    plain s session (Ok (Get filter)) _ v c (λ failed. refl) refl (λ w. refl) is
+asked_settles s session (GetConfig source filter) v c is =
+    plain s session (Ok (GetConfig source filter)) _ v c (λ failed. refl) refl (λ w. refl) is
+asked_settles s session (EditConfig target default_operation test on_error config) v c is =
+    setting s session (Ok (EditConfig target default_operation test on_error config)) _ v
+    (rows_set s.schema test (edits_made s session target default_operation on_error config)) c
+    (λ failed. refl) refl (λ w. refl) is
+asked_settles s session (CopyConfig target source) v c is =
+    setting s session (Ok (CopyConfig target source)) _ v (rows_of_ok (copied s session target source)) c
+    (λ failed. refl) refl (λ w. refl) is
+asked_settles s session (DeleteConfig target) v c is =
+    plain s session (Ok (DeleteConfig target)) _ v c (λ failed. refl) refl (λ w. refl) is
+asked_settles s session CloseSession v c is =
+    doing s session (Ok CloseSession) v Close c (λ failed. refl) refl refl is
+asked_settles s session DiscardChanges v c is =
+    doing s session (Ok DiscardChanges) v Discard c (λ failed. refl) refl refl is
+asked_settles s session (AsksCommit confirmed timeout persist persist_id) v c is =
+    refused_commit s session (Ok (AsksCommit confirmed timeout persist persist_id))
+    (commit_refusal s session confirmed persist_id) v c (λ failed. refl) (λ causes. refl) is
+asked_settles s session (Validate source) v c is =
+    plain s session (Ok (Validate source)) _ v c (λ failed. refl) refl (λ w. refl) is
+asked_settles s session (Lock target) v c is =
+    plain s session (Ok (Lock target)) _ v c (λ failed. refl) refl (λ w. refl) is
+asked_settles s session (Unlock target) v c is =
+    plain s session (Ok (Unlock target)) _ v c (λ failed. refl) refl (λ w. refl) is
+asked_settles s session (KillSession number) v c is =
+    plain s session (Ok (KillSession number)) _ v c (λ failed. refl) refl (λ w. refl) is
+asked_settles s session (CancelCommit persist_id) v c is =
+    plain s session (Ok (CancelCommit persist_id)) _ v c (λ failed. refl) refl (λ w. refl) is
+asked_settles s session (PartialLock selects) v c is =
+    plain s session (Ok (PartialLock selects)) _ v c (λ failed. refl) refl (λ w. refl) is
+asked_settles s session (PartialUnlock lock) v c is =
+    plain s session (Ok (PartialUnlock lock)) _ v c (λ failed. refl) refl (λ w. refl) is
+
+settles : (s : State) (session : ℕ) (asked : Result Asked Cause) (v : Verdict) (c : Change) → course_on s session asked ≡ Answer v c →
+    IsSettled s session asked v c
+settles s session (Ok asked) v c is = asked_settles s session asked v c is
+settles s session (Err cause) v c is =
+    plain s session (Err cause) (Refused (cause ∷ [])) v c (λ failed. refl) refl (λ w. refl) is
+
+-- an operation that is not offered changes nothing
+stays_unoffered : (s : State) (session : ℕ) (asked : Asked) (w : Verdict) → is_offered (operation_of asked) ≡ false →
+    changed_by s session asked w ≡ s
+stays_unoffered s session (Get filter) w is = cc
+stays_unoffered s session (GetConfig source filter) w is = cc
+stays_unoffered s session (EditConfig target default_operation test on_error config) w is = cc
+stays_unoffered s session (CopyConfig target source) w is = cc
+stays_unoffered s session (DeleteConfig target) w is = cc
+stays_unoffered s session CloseSession w is = cc
+stays_unoffered s session DiscardChanges w is = cc
+stays_unoffered s session (AsksCommit confirmed timeout persist persist_id) w is = cc
+stays_unoffered s session (Validate source) w is = cc
+stays_unoffered s session (Lock target) w is = refl
+stays_unoffered s session (Unlock target) w is = refl
+stays_unoffered s session (KillSession number) w is = refl
+stays_unoffered s session (CancelCommit persist_id) w is = refl
+stays_unoffered s session (PartialLock selects) w is = refl
+stays_unoffered s session (PartialUnlock lock) w is = refl
+
+-- a request has that verdict and changes that, whatever the disk does
+pub record IsAnswer (s : State) (session : ℕ) (request : Request) (v : Verdict) (change : Change) : Type 0 where
+  pub verdict_is : (failed : Bool) → verdict s session request failed ≡ v
+  pub disk : (appends_record request.asked && is_done v) ≡ false
+  pub state_is : answered s session request.asked v ≡ made s session change
+
+-- the check on the operation
+abbrev with_offer : State → ℕ → Operation → Bool → Verdict → Verdict
+with_offer s session operation offered v =
+    checked (option_or (cause_where (not offered) (cause_of UnknownOperation [])) (exec_denied (exec_of s session operation))) v
+
+-- by whether the operation is offered
+by_offer : (s : State) (session : ℕ) (request : Request) (operation : Operation) (v : Verdict) (c : Change) (offered : Bool) →
+    request.operation ≡ Some operation → is_offered operation ≡ offered → IsAskedOf (Some operation) request.asked →
+    cond (not offered) (Answer (refused_for UnknownOperation []) Nothing) (course_on s session request.asked) ≡ Answer v c →
+    IsAnswer s session request v c
+unfolding made
+by_offer s session request operation v c true named offers proper is =
+    let settled = settles s session request.asked v c is in
+    record {
+      verdict_is = λ failed.
+          ap (λ (o : Option Operation). checked (operation_refused s session o) (verdict_on s session request.asked failed)) named
+          ∙ (ap (λ (b : Bool). with_offer s session operation b (verdict_on s session request.asked failed)) offers
+          ∙ settled.verdict_is failed);
+      disk = settled.disk;
+      state_is = settled.state_is;
+    }
+by_offer s session request operation v c false named offers proper is =
+    let same = verdict_same (refused_for UnknownOperation []) v Nothing c is in
+    record {
+      verdict_is = λ failed.
+          ap (λ (o : Option Operation). checked (operation_refused s session o) (verdict_on s session request.asked failed)) named
+          ∙ (ap (λ (b : Bool). with_offer s session operation b (verdict_on s session request.asked failed)) offers
+          ∙ same);
+      disk = ap (λ (w : Verdict). appends_record request.asked && is_done w) (sym same) ∙ and_false (appends_record request.asked);
+      state_is = stays request.asked proper ∙ ap (made s session) (change_same (refused_for UnknownOperation []) v Nothing c is);
+    }
+  where
+    stays : (asked : Result Asked Cause) → IsAskedOf (Some operation) asked → answered s session asked v ≡ s
+    stays (Ok asked) fits = stays_unoffered s session asked v (ap is_offered fits ∙ offers)
+    stays (Err cause) fits = refl
+
+by_name : (s : State) (session : ℕ) (request : Request) (v : Verdict) (c : Change) (operation : Option Operation) →
+    request.operation ≡ operation → IsAskedOf operation request.asked →
+    cond (is_not_offered operation) (Answer (refused_for UnknownOperation []) Nothing) (course_on s session request.asked) ≡ Answer v c →
+    IsAnswer s session request v c
+by_name s session request v c None named proper is =
+    let settled = settles s session request.asked v c is in
+    record {
+      verdict_is = λ failed.
+          ap (λ (o : Option Operation). checked (operation_refused s session o) (verdict_on s session request.asked failed)) named
+          ∙ settled.verdict_is failed;
+      disk = settled.disk;
+      state_is = settled.state_is;
+    }
+by_name s session request v c (Some operation) named proper is =
+    by_offer s session request operation v c (is_offered operation) named refl proper is
+
+pub answers : (s : State) (session : ℕ) (request : Request) (v : Verdict) (c : Change) → IsProper request →
+    course s session request ≡ Answer v c → IsAnswer s session request v c
+unfolding course
+answers s session request v c proper is = by_name s session request v c request.operation refl proper is
+
+-- a request that nothing but the disk makes fail
+pub record IsCommit (s : State) (session : ℕ) (request : Request) : Type 0 where
+  pub verdict_is : (failed : Bool) → verdict s session request failed ≡ kept_unless failed
+  pub appends : appends_record request.asked ≡ true
+  pub done : answered s session request.asked Done ≡ record s { running = candidate_in_force s; candidate = None }
+  pub failed : answered s session request.asked (refused_for DiskFault []) ≡ s
+
+record IsCommitted (s : State) (session : ℕ) (asked : Result Asked Cause) : Type 0 where
+  verdict_is : (failed : Bool) → verdict_on s session asked failed ≡ kept_unless failed
+  appends : appends_record asked ≡ true
+  done : answered s session asked Done ≡ record s { running = candidate_in_force s; candidate = None }
+  failed : answered s session asked (refused_for DiskFault []) ≡ s
+
+no_commit : (x : Verdict) (y : Change) → Answer x y ≡ Commit → ⊥
+no_commit x y is = cc
+
+-- a commit that is not refused is not confirmed
+committed_by : (s : State) (session : ℕ) (timeout : ℕ) (persist persist_id : Option (List ℕ)) (why : Option Cause) →
+    commit_refusal s session false persist_id ≡ why → commit_course why ≡ Commit →
+    IsCommitted s session (Ok (AsksCommit false timeout persist persist_id))
+committed_by s session timeout persist persist_id None why_is is = record {
+  verdict_is = λ failed. ap (λ (why : Option Cause). checked why (kept_unless failed)) why_is;
+  appends = refl;
+  done = refl;
+  failed = refl;
+}
+committed_by s session timeout persist persist_id (Some cause) why_is is = absurd (no_commit (Refused (cause ∷ [])) Nothing is)
+
+asked_commits : (s : State) (session : ℕ) (asked : Asked) → asked_course s session asked ≡ Commit → IsCommitted s session (Ok asked)
+unfolding asked_course get_course get_config_course edit_config_course edit_course copy_config_course commit_asked_course validate_course
+asked_commits s session (AsksCommit false timeout persist persist_id) is =
+    committed_by s session timeout persist persist_id (commit_refusal s session false persist_id) refl is
+asked_commits s session (AsksCommit true timeout persist persist_id) is = absurd (no_commit _ _ is)
+asked_commits s session (Get filter) is = absurd (no_commit _ _ is)
+asked_commits s session (GetConfig source filter) is = absurd (no_commit _ _ is)
+asked_commits s session (EditConfig target default_operation test on_error config) is = absurd (no_commit _ _ is)
+asked_commits s session (CopyConfig target source) is = absurd (no_commit _ _ is)
+asked_commits s session (DeleteConfig target) is = absurd (no_commit _ _ is)
+asked_commits s session CloseSession is = absurd (no_commit _ _ is)
+asked_commits s session DiscardChanges is = absurd (no_commit _ _ is)
+asked_commits s session (Validate source) is = absurd (no_commit _ _ is)
+asked_commits s session (Lock target) is = absurd (no_commit _ _ is)
+asked_commits s session (Unlock target) is = absurd (no_commit _ _ is)
+asked_commits s session (KillSession number) is = absurd (no_commit _ _ is)
+asked_commits s session (CancelCommit persist_id) is = absurd (no_commit _ _ is)
+asked_commits s session (PartialLock selects) is = absurd (no_commit _ _ is)
+asked_commits s session (PartialUnlock lock) is = absurd (no_commit _ _ is)
+
+on_commits : (s : State) (session : ℕ) (asked : Result Asked Cause) → course_on s session asked ≡ Commit → IsCommitted s session asked
+on_commits s session (Ok asked) is = asked_commits s session asked is
+on_commits s session (Err cause) is = absurd (no_commit _ _ is)
+
+commits_by_offer : (s : State) (session : ℕ) (request : Request) (operation : Operation) (offered : Bool) →
+    request.operation ≡ Some operation → is_offered operation ≡ offered →
+    cond (not offered) (Answer (refused_for UnknownOperation []) Nothing) (course_on s session request.asked) ≡ Commit →
+    IsCommit s session request
+commits_by_offer s session request operation false named offers is = absurd (no_commit _ _ is)
+commits_by_offer s session request operation true named offers is =
+    let committed = on_commits s session request.asked is in
+    record {
+      verdict_is = λ failed.
+          ap (λ (o : Option Operation). checked (operation_refused s session o) (verdict_on s session request.asked failed)) named
+          ∙ (ap (λ (b : Bool). with_offer s session operation b (verdict_on s session request.asked failed)) offers
+          ∙ committed.verdict_is failed);
+      appends = committed.appends;
+      done = committed.done;
+      failed = committed.failed;
+    }
+
+commits_by_name : (s : State) (session : ℕ) (request : Request) (operation : Option Operation) → request.operation ≡ operation →
+    cond (is_not_offered operation) (Answer (refused_for UnknownOperation []) Nothing) (course_on s session request.asked) ≡ Commit →
+    IsCommit s session request
+commits_by_name s session request None named is =
+    let committed = on_commits s session request.asked is in
+    record {
+      verdict_is = λ failed.
+          ap (λ (o : Option Operation). checked (operation_refused s session o) (verdict_on s session request.asked failed)) named
+          ∙ committed.verdict_is failed;
+      appends = committed.appends;
+      done = committed.done;
+      failed = committed.failed;
+    }
+commits_by_name s session request (Some operation) named is =
+    commits_by_offer s session request operation (is_offered operation) named refl is
+
+pub commits : (s : State) (session : ℕ) (request : Request) → course s session request ≡ Commit → IsCommit s session request
+unfolding course
+commits s session request is = commits_by_name s session request request.operation refl is
+
+-- a commit as the code makes it
+pub commit_told : (s : State) (session : ℕ) (confirmed : Bool) (persist_id : Option (List ℕ)) (refusal : Option Cause)
+    (result : Result Course Memory) → refusal ≡ commit_refusal s session confirmed persist_id →
+    IfOk result (λ it. it ≡ commit_course refusal) →
+    IfOk result (λ it. it ≡ commit_asked_course s session confirmed persist_id)
+unfolding commit_asked_course
+commit_told s session confirmed persist_id refusal (Err memory) is told = tt
+commit_told s session confirmed persist_id refusal (Ok it) is told = told ∙ ap commit_course is

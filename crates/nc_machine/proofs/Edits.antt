@@ -1,0 +1,85 @@
+-- What edits come to.
+use Rattle.std.proofs.Common.{◌≡◌, ◌++◌, Bool, true, false, List, [], ◌∷◌, refl, sym, ap, ◌∙◌, ℕ, Option, Some, None, Result, Ok, Err}
+use Rattle.std.specs.Option.{option_to_list}
+use Rattle.std.specs.Prelude.{cond, is_some, IfOk}
+use Rattle.nc_names.specs.declared.memory.Memory.{Memory}
+use Rattle.nc_names.specs.declared.path.Row.{Row}
+use Rattle.nc_schema.specs.Tables.{Tables}
+use Rattle.nc_model.specs.declared.asked.TestOption.{TestOption}
+use Rattle.nc_model.specs.declared.asked.TestOption.TheVariants.{TestThenSet, Set, TestOnly}
+use Rattle.nc_model.specs.declared.asked.ErrorOption.{ErrorOption}
+use Rattle.nc_model.specs.declared.edit.Edit.{Edit}
+use Rattle.nc_model.specs.declared.request.Cause.{Cause}
+use Rattle.nc_model.specs.Access.{every_right}
+use Rattle.nc_model.specs.Applied.{Applied, applied}
+use Rattle.nc_model.specs.State.{State, candidate_in_force}
+use Rattle.nc_model.specs.Verdict.{causes_of_test, done_unless, made_by, result_unless, rows_set, violation_in}
+use Rattle.nc_machine.specs.declared.course.Change.{Change}
+use Rattle.nc_machine.specs.declared.course.Course.{Course}
+use Rattle.nc_machine.specs.declared.course.Course.TheVariants.{Answer}
+use Rattle.nc_machine.specs.inner.Courses.{change_by, changed_to, edit_course, refused_course, violation_by}
+
+causes_are : (tables : Tables) (test : TestOption) (rows : List Row) →
+    option_to_list (violation_by tables test rows) ≡ causes_of_test tables test rows
+causes_are tables Set rows = refl
+causes_are tables TestThenSet rows = refl
+causes_are tables TestOnly rows = refl
+
+change_is : (tables : Tables) (test : TestOption) (rows : List Row) (causes : List Cause) →
+    change_by test (is_some (violation_by tables test rows)) rows
+    ≡ changed_to (rows_set tables test (Ok (record { rows = rows; causes = causes })))
+change_is tables Set rows causes = refl
+change_is tables TestOnly rows causes = refl
+change_is tables TestThenSet rows causes = by (is_some (violation_in tables rows))
+  where
+    by : (violated : Bool) → change_by TestThenSet violated rows ≡ changed_to (cond violated None (Some rows))
+    by true = refl
+    by false = refl
+
+pub edit_course_is : (tables : Tables) (test : TestOption) (rows : List Row) (causes : List Cause)
+    (violation : Option Cause) (is_violated : Bool) → violation ≡ violation_by tables test rows → is_violated ≡ is_some violation →
+    Answer (done_unless (causes ++ option_to_list violation)) (change_by test is_violated rows)
+    ≡ edit_course tables test (Ok (record { rows = rows; causes = causes }))
+unfolding edit_course
+edit_course_is tables test rows causes violation is_violated is was =
+    ap (λ (more : List Cause). Answer (done_unless (causes ++ more)) (change_by test is_violated rows))
+    (ap option_to_list is ∙ causes_are tables test rows)
+    ∙ ap (λ (change : Change). Answer (done_unless (causes ++ causes_of_test tables test rows)) change)
+    (ap (λ (v : Bool). change_by test v rows) (was ∙ ap is_some is) ∙ change_is tables test rows causes)
+
+pub payload_refused : (s : State) (session : ℕ) (tables : Tables) (test : TestOption) (on_error : ErrorOption)
+    (read : Result (List Edit) Cause) (cause : Cause) → Err cause ≡ read →
+    refused_course cause ≡ edit_course tables test (made_by s session on_error read)
+unfolding edit_course
+payload_refused s session tables test on_error read cause is =
+    ap (λ (r : Result (List Edit) Cause). edit_course tables test (made_by s session on_error r)) is
+
+pub payload_read : (s : State) (session : ℕ) (test : TestOption) (on_error : ErrorOption)
+    (read : Result (List Edit) Cause) (edits : List Edit) → Ok edits ≡ read →
+    edit_course s.schema test (Ok (applied s.schema every_right on_error (candidate_in_force s) edits))
+    ≡ edit_course s.schema test (made_by s session on_error read)
+payload_read s session test on_error read edits is =
+    ap (λ (r : Result (List Edit) Cause). edit_course s.schema test (made_by s session on_error r)) is
+
+pub target_refused : (tables : Tables) (test : TestOption) (why : Option Cause) (made : Result Applied Cause) (cause : Cause) →
+    Some cause ≡ why → refused_course cause ≡ edit_course tables test (result_unless why made)
+unfolding edit_course
+target_refused tables test why made cause is =
+    ap (λ (w : Option Cause). edit_course tables test (result_unless w made)) is
+
+pub target_taken : (tables : Tables) (test : TestOption) (why : Option Cause) (made : Result Applied Cause) →
+    None ≡ why → edit_course tables test made ≡ edit_course tables test (result_unless why made)
+target_taken tables test why made is = ap (λ (w : Option Cause). edit_course tables test (result_unless w made)) is
+
+pub edit_by_is : (s : State) (test : TestOption) (on_error : ErrorOption) (tables : Tables) (before : List Row)
+    (given edits : List Edit) (rows : List Row) (causes : List Cause) (result : Result Course Memory) →
+    tables ≡ s.schema → before ≡ candidate_in_force s → given ≡ edits →
+    record { rows = rows; causes = causes } ≡ applied tables every_right on_error before given →
+    IfOk result (λ it. it ≡ edit_course s.schema test (Ok (record { rows = rows; causes = causes }))) →
+    IfOk result (λ it. it ≡ edit_course s.schema test (Ok (applied s.schema every_right on_error (candidate_in_force s) edits)))
+edit_by_is s test on_error tables before given edits rows causes (Err memory) by at same made told = tt
+edit_by_is s test on_error tables before given edits rows causes (Ok it) by at same made told =
+    told ∙ ap (λ (left : Applied). edit_course s.schema test (Ok left))
+    (made ∙ (ap (λ (t : Tables). applied t every_right on_error before given) by
+    ∙ (ap (λ (b : List Row). applied s.schema every_right on_error b given) at
+    ∙ ap (applied s.schema every_right on_error (candidate_in_force s)) same)))

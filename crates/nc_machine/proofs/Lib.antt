@@ -1,0 +1,10 @@
+pub mod Told
+pub mod Firsts
+pub mod Unchecked
+pub mod Edits
+pub mod Courses
+pub mod Answering
+pub mod Sound
+pub mod Standing
+pub mod Replies
+pub mod Granted

@@ -1,0 +1,49 @@
+-- A machine stays sound.
+use Rattle.std.proofs.Common.{◌≡◌, ◌<◌, ◌+◌, ℕ, List, refl, sym, ap, subst, ◌∙◌, Result, Ok, Err, arith}
+use Rattle.std.specs.Prelude.{IfOk, OnErr}
+use Rattle.nc_names.specs.Limits.{most_requests}
+use Rattle.nc_names.specs.declared.memory.Memory.{Memory}
+use Rattle.nc_names.specs.declared.path.Row.{Row}
+use Rattle.nc_model.specs.declared.entry.Entry.{Entry}
+use Rattle.nc_model.specs.declared.event.Event.{Event}
+use Rattle.nc_model.specs.State.{State, IsGood, expired}
+use Rattle.nc_model.specs.Step.{next}
+use Rattle.nc_model.proofs.GoodLemmas.{good_next}
+use Rattle.nc_machine.specs.Serving.{IsSound}
+use Rattle.nc_machine.specs.inner.Turns.{Enters}
+
+good_expired : (s : State) (at : ℕ) → IsGood s → IsGood (expired s at)
+good_expired s at good = record {
+  schema = good.schema;
+  running = good.running;
+  valid = good.valid;
+  candidate = good.candidate;
+  given = good.given;
+  distinct = good.distinct;
+  few = good.few;
+  last = good.last;
+}
+
+pub good_entered : (old new : State) (number : ℕ) (event : Event) (at : ℕ) (e : Entry) → Enters old new number event at e →
+    IsGood old → IsGood new
+good_entered old new number event at e enters good = subst IsGood (sym enters.state_is) (good_next old e good enters.fits)
+
+pub good_read : (old new : State) (at : ℕ) → new ≡ expired old at → IsGood old → IsGood new
+good_read old new at is good = subst IsGood (sym is) (good_expired old at good)
+
+pub good_after : (old new : State) (number : ℕ) (event : Event) (at : ℕ) (result : Result Entry Memory) →
+    IfOk result (λ e. Enters old new number event at e) → OnErr result (new ≡ expired old at) → IsGood old → IsGood new
+good_after old new number event at (Ok e) ok err good = good_entered old new number event at e ok good
+good_after old new number event at (Err memory) ok err good = good_read old new at err good
+
+-- an entry that leaves running and the count of faults as they were
+pub sound_kept : {K : Type 0} (base : K → List Row) (failures : K → ℕ) (old new : State) (count : ℕ) (keeper : K) (number : ℕ)
+    (event : Event) (at : ℕ) (e : Entry) → Enters old new number event at e → new.running ≡ old.running → new.faults ≡ old.faults →
+    count < most_requests → IsSound base failures (record { state = old; count = count; keeper = keeper }) →
+    IsSound base failures (record { state = new; count = count + 1; keeper = keeper })
+sound_kept base failures old new count keeper number event at e enters running faults room sound = record {
+  good = good_entered old new number event at e enters sound.good;
+  kept = sound.kept ∙ sym running;
+  faults = sound.faults ∙ sym faults;
+  few = omega (arith, room);
+}

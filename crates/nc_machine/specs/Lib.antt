@@ -1,0 +1,4 @@
+pub mod Serving
+pub mod Seats
+pub mod Laws
+pub mod inner

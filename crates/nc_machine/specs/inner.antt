@@ -1,0 +1,4 @@
+pub mod Copies
+pub mod Courses
+pub mod Turns
+pub mod Views

@@ -1,0 +1,96 @@
+//! Copies into the candidate (RFC 6241 7.3).
+ghost use Rattle.std.specs.Prelude.{◌≡◌, ℕ, IfOk, None};
+ghost use Rattle.std.specs.Option.{option_or};
+ghost use Rattle.nc_model.specs.Edited.{cause_where};
+ghost use Rattle.nc_model.specs.Verdict as meant;
+ghost use Rattle.nc_machine.specs.inner.Copies.{rows_from};
+ghost use Rattle.nc_machine.specs.inner.Courses as course;
+
+use crate::causes::cause_naming;
+use crate::course::{Change, Course, done, refused_course};
+use crate::datastores::{unsupported_origin, unsupported_target};
+use crate::payload::rows_of;
+use crate::server::Server;
+use nc_model::request_words::source as source_text;
+use nc_model::{Cause, Datastore, Origin};
+use nc_names::{CauseKind, Copies, Memory};
+use nc_tree::Config;
+use std::alloc::Global;
+
+// Whether a datastore is to be copied into itself.
+fn is_same_store(target: Datastore, source: &Origin) -> bool
+    ensures { result ≡ meant.is_same_store target source.now }
+{
+    match (target, source) {
+        (Datastore::Candidate, Origin::Store(Datastore::Candidate)) => true,
+        _ => false,
+    }
+}
+
+// Why source and target are no pair, if so.
+fn same_store(alloc: Global, target: Datastore, source: &Origin) -> Result<Option<Cause>, Memory>
+    ensures { IfOk result (λ it. it ≡ course.same_store target source.now) }
+{
+    if is_same_store(target, source) {
+        return Ok(Some(cause_naming(alloc, CauseKind::BadParameter, source_text())?));
+    }
+    Ok(None)
+}
+
+// Why nothing is copied, before the source is read.
+fn uncopied(alloc: Global, target: Datastore, source: &Origin) -> Result<Option<Cause>, Memory>
+    ensures { IfOk result (λ it. it ≡ course.uncopied target source.now) }
+{
+    if let Some(cause) = unsupported_target(alloc, target)? {
+        return Ok(Some(cause));
+    }
+    if let Some(cause) = unsupported_origin(alloc, source)? {
+        return Ok(Some(cause));
+    }
+    same_store(alloc, target, source)
+}
+
+fn copy_course(alloc: Global, copied: Result<Config, Cause>) -> Result<Course, Memory>
+    ensures { IfOk result (λ it. it ≡ course.copy_course copied) }
+{
+    match copied {
+        Ok(rows) => Ok(done(Change::Candidate { rows })),
+        Err(cause) => refused_course(alloc, cause),
+    }
+}
+
+impl Server {
+    // The rows of the source.
+    fn rows_from(&self, source: &Origin) -> Result<Result<Config, Cause>, Memory>
+        ensures { IfOk result (λ it. it ≡ rows_from self.now source.now) }
+    {
+        match source {
+            Origin::Store(store) => Ok(Ok(self.stored(*store).copy()?)),
+            Origin::Inline(config) => rows_of(self.alloc(), self.schema(), config),
+        }
+    }
+
+    // What the candidate is to hold. Every row may be seen, and no change is denied.
+    #[tactic(auto, using(crate::proofs::Unchecked::copied_by, crate::proofs::Unchecked::not_copied))]
+    fn copied(&self, target: Datastore, source: &Origin) -> Result<Result<Config, Cause>, Memory>
+        ensures { (session : ℕ) → IfOk result (λ it. it ≡ meant.copied self.now session target source.now) }
+    {
+        match uncopied(self.alloc(), target, source)? {
+            Some(cause) => Ok(Err(cause)),
+            None => self.rows_from(source),
+        }
+    }
+
+    /// What copy-config comes to.
+    #[tactic(auto, unfolding(crate::specs::inner::Courses::copy_config_course))]
+    pub(crate) fn copy_config_course(
+        &self,
+        target: Datastore,
+        source: &Origin,
+    ) -> Result<Course, Memory>
+        ensures { (session : ℕ) →
+            IfOk result (λ it. it ≡ course.copy_config_course self.now session target source.now) }
+    {
+        copy_course(self.alloc(), self.copied(target, source)?)
+    }
+}

@@ -1,0 +1,60 @@
+//! What a request comes to, before anything is changed.
+ghost use Rattle.std.specs.Prelude.{◌≡◌, IfOk};
+ghost use Rattle.nc_model.specs.declared.verdict.Verdict.TheVariants.{Done};
+ghost use Rattle.nc_machine.specs.declared.course.Change.TheVariants.{Nothing};
+ghost use Rattle.nc_machine.specs.declared.course.Course.TheVariants.{Answer};
+ghost use Rattle.nc_machine.specs.inner.Courses as course;
+
+use crate::causes::refused;
+use nc_model::{Cause, Verdict};
+use nc_names::Memory;
+use nc_tree::Config;
+use std::alloc::Global;
+
+/// What an answered request changes.
+#[derive(Drop)]
+pub(crate) enum Change {
+    Nothing,
+    // The candidate gets rows, unless they are its own.
+    Candidate { rows: Config },
+    // The candidate is unmodified.
+    Discard,
+    // The session that asks is over.
+    Close,
+}
+
+/// What a request comes to.
+#[derive(Drop)]
+pub(crate) enum Course {
+    // It has this verdict, and changes this.
+    Answer { verdict: Verdict, change: Change },
+    // Nothing but the disk can make it fail: the candidate is to be kept and to be running.
+    Commit,
+}
+
+/// A verdict that changes nothing.
+pub(crate) fn unchanging(verdict: Verdict) -> Course
+    ensures { result ≡ Answer verdict Nothing }
+{
+    Course::Answer {
+        verdict,
+        change: Change::Nothing,
+    }
+}
+
+/// Done, with what it changes.
+pub(crate) fn done(change: Change) -> Course
+    ensures { result ≡ Answer Done change }
+{
+    Course::Answer {
+        verdict: Verdict::Done,
+        change,
+    }
+}
+
+/// Refused for one cause.
+pub(crate) fn refused_course(alloc: Global, cause: Cause) -> Result<Course, Memory>
+    ensures { IfOk result (λ it. it ≡ course.refused_course cause) }
+{
+    Ok(unchanging(refused(alloc, cause)?))
+}

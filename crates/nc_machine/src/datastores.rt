@@ -1,0 +1,59 @@
+//! Which datastores are read and written (RFC 6241 8.3): running and the candidate are sources, and the
+//! candidate is the one target.
+ghost use Rattle.std.specs.Prelude.{◌≡◌, IfOk, [], ◌∷◌};
+ghost use Rattle.nc_names.specs.declared.cause.CauseKind.TheVariants.{UnsupportedTarget};
+ghost use Rattle.nc_model.specs.Verdict as meant;
+
+use crate::causes::cause_naming;
+use nc_model::request_words::{candidate, running, startup, url};
+use nc_model::{Cause, Datastore, Origin};
+use nc_names::{CauseKind, Memory};
+use std::alloc::Global;
+
+fn name_of(store: Datastore) -> &'static str
+    ensures { result.now ≡ meant.datastore_name store }
+{
+    match store {
+        Datastore::Running => running(),
+        Datastore::Candidate => candidate(),
+        Datastore::Startup => startup(),
+        Datastore::Url => url(),
+    }
+}
+
+/// The cause for a datastore that is not offered.
+pub(crate) fn not_offered(alloc: Global, store: Datastore) -> Result<Cause, Memory>
+    ensures { IfOk result (λ it. it ≡ meant.cause_of UnsupportedTarget (meant.datastore_name store ∷ [])) }
+{
+    cause_naming(alloc, CauseKind::UnsupportedTarget, name_of(store))
+}
+
+/// Why a datastore is no source, if it is none.
+pub(crate) fn unsupported_source(alloc: Global, store: Datastore) -> Result<Option<Cause>, Memory>
+    ensures { IfOk result (λ it. it ≡ meant.unsupported meant.is_source store) }
+{
+    match store {
+        Datastore::Running | Datastore::Candidate => Ok(None),
+        _ => Ok(Some(not_offered(alloc, store)?)),
+    }
+}
+
+/// Why a datastore is no target, if it is none.
+pub(crate) fn unsupported_target(alloc: Global, store: Datastore) -> Result<Option<Cause>, Memory>
+    ensures { IfOk result (λ it. it ≡ meant.unsupported meant.is_target store) }
+{
+    match store {
+        Datastore::Candidate => Ok(None),
+        _ => Ok(Some(not_offered(alloc, store)?)),
+    }
+}
+
+/// Why nothing is taken from there, if so.
+pub(crate) fn unsupported_origin(alloc: Global, source: &Origin) -> Result<Option<Cause>, Memory>
+    ensures { IfOk result (λ it. it ≡ meant.unsupported_origin source.now) }
+{
+    match source {
+        Origin::Store(store) => unsupported_source(alloc, *store),
+        Origin::Inline(_) => Ok(None),
+    }
+}

@@ -1,0 +1,156 @@
+//! Edits of the candidate (RFC 6241 7.2, 8.5, 8.6.4): they are made on a copy of its rows, which is then
+//! tested, set, or let go.
+ghost use Rattle.std.specs.Prelude.{◌≡◌, ◌++◌, ℕ, IfOk, Ok, is_some};
+ghost use Rattle.std.specs.Option.{option_to_list};
+ghost use Rattle.nc_model.specs.Access.{every_right};
+ghost use Rattle.nc_model.specs.Applied.{applied};
+ghost use Rattle.nc_model.specs.Payload.{edits_of};
+ghost use Rattle.nc_model.specs.State.{candidate_in_force};
+ghost use Rattle.nc_model.specs.Verdict as meant;
+ghost use Rattle.nc_machine.specs.inner.Courses as course;
+
+use crate::causes::done_unless;
+use crate::course::{Change, Course, refused_course};
+use crate::datastores::unsupported_target;
+use crate::payload::edits_of;
+use crate::server::Server;
+use crate::validate::violation_in;
+use nc_edit::apply;
+use nc_message::Elem;
+use nc_model::{Cause, Datastore, Default3, Edit, ErrorOption, TestOption, Unchecked};
+use nc_names::{Copies, Many, Memory};
+use nc_schema::Schema;
+use nc_tree::Config;
+use std::alloc::Global;
+
+// One cause more, if there is one.
+fn with_cause(causes: Many<Cause>, cause: Option<Cause>) -> Result<Many<Cause>, Memory>
+    ensures { IfOk result (λ it. it ≡ causes ++ option_to_list cause) }
+{
+    let mut causes = causes;
+    if let Some(cause) = cause {
+        causes.push(cause)?;
+    }
+    Ok(causes)
+}
+
+// What is set, where the rows have a violation or not.
+fn change_by(test: TestOption, is_violated: bool, rows: Config) -> Change
+    ensures { result ≡ course.change_by test is_violated rows }
+{
+    match test {
+        TestOption::Set => Change::Candidate { rows },
+        TestOption::TestThenSet => {
+            if is_violated {
+                return Change::Nothing;
+            }
+            Change::Candidate { rows }
+        }
+        TestOption::TestOnly => Change::Nothing,
+    }
+}
+
+// Edits are made, with every right.
+fn make(
+    alloc: Global,
+    schema: &Schema,
+    rows: &mut Config,
+    edits: &[Edit],
+    on_error: ErrorOption,
+) -> Result<Many<Cause>, Memory>
+    ensures { IfOk result (λ causes. record { rows = rows.new; causes = causes } ≡
+        applied schema.now every_right on_error rows.old edits.now) }
+{
+    apply(alloc, schema, rows, edits, on_error, &Unchecked)
+}
+
+impl Server {
+    // The violation that is looked for.
+    fn tested(&self, test: TestOption, rows: &Config) -> Result<Option<Cause>, Memory>
+        ensures { IfOk result (λ it. it ≡ course.violation_by self.now.schema test rows.now) }
+    {
+        match test {
+            TestOption::Set => Ok(None),
+            _ => violation_in(self.alloc(), self.schema(), rows),
+        }
+    }
+
+    // What edits come to, by what they leave and why some are refused.
+    #[tactic(auto, using(crate::proofs::Edits::edit_course_is))]
+    fn edit_course(
+        &self,
+        test: TestOption,
+        rows: Config,
+        causes: Many<Cause>,
+    ) -> Result<Course, Memory>
+        ensures { IfOk result (λ it. it ≡
+            course.edit_course self.now.schema test (Ok (record { rows = rows; causes = causes }))) }
+    {
+        let violation = self.tested(test, &rows)?;
+        let is_violated = violation.is_some();
+        let causes = with_cause(causes, violation)?;
+        Ok(Course::Answer {
+            verdict: done_unless(causes),
+            change: change_by(test, is_violated, rows),
+        })
+    }
+
+    // Edits are made on a copy of the candidate.
+    fn edit_by(
+        &self,
+        test: TestOption,
+        on_error: ErrorOption,
+        edits: &Many<Edit>,
+    ) -> Result<Course, Memory>
+        ensures { IfOk result (λ it. it ≡ course.edit_course self.now.schema test
+            (Ok (applied self.now.schema every_right on_error (candidate_in_force self.now) edits.now))) }
+    {
+        let mut rows = self.in_force().copy()?;
+        let causes = make(
+            self.alloc(),
+            self.schema(),
+            &mut rows,
+            edits.as_slice(),
+            on_error,
+        )?;
+        self.edit_course(test, rows, causes)
+    }
+
+    // The payload is read, and its edits are made.
+    #[tactic(auto, using(crate::proofs::Edits::payload_refused, crate::proofs::Edits::payload_read))]
+    fn edit_payload(
+        &self,
+        default_operation: Default3,
+        test: TestOption,
+        on_error: ErrorOption,
+        config: &Elem,
+    ) -> Result<Course, Memory>
+        ensures { (session : ℕ) → IfOk result (λ it. it ≡ course.edit_course self.now.schema test
+            (meant.made_by self.now session on_error
+            (edits_of self.now.schema default_operation config.now))) }
+    {
+        match edits_of(self.alloc(), self.schema(), default_operation, config)? {
+            Err(cause) => refused_course(self.alloc(), cause),
+            Ok(edits) => self.edit_by(test, on_error, &edits),
+        }
+    }
+
+    /// What edit-config comes to.
+    #[tactic(auto, unfolding(crate::specs::inner::Courses::edit_config_course), using(crate::proofs::Edits::target_refused, crate::proofs::Edits::target_taken))]
+    pub(crate) fn edit_config_course(
+        &self,
+        target: Datastore,
+        default_operation: Default3,
+        test: TestOption,
+        on_error: ErrorOption,
+        config: &Elem,
+    ) -> Result<Course, Memory>
+        ensures { (session : ℕ) → IfOk result (λ it. it ≡
+            course.edit_config_course self.now session target default_operation test on_error config.now) }
+    {
+        match unsupported_target(self.alloc(), target)? {
+            Some(cause) => refused_course(self.alloc(), cause),
+            None => self.edit_payload(default_operation, test, on_error, config),
+        }
+    }
+}

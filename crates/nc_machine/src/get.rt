@@ -1,0 +1,59 @@
+//! What get and get-config show (RFC 6241 6, 7.1, 7.7).
+ghost use Rattle.std.specs.Prelude.{◌≡◌, ℕ, IfOk};
+ghost use Rattle.nc_model.specs.Verdict as meant;
+ghost use Rattle.nc_machine.specs.inner.Courses as course;
+
+use crate::course::{Course, refused_course, unchanging};
+use crate::datastores::unsupported_source;
+use crate::server::Server;
+use nc_filter::select;
+use nc_message::Elem;
+use nc_model::{Datastore, Verdict};
+use nc_names::{Copies, Many, Memory, Row};
+
+impl Server {
+    // The rows of a datastore that the filter keeps, or all without one.
+    fn filtered(&self, store: Datastore, filter: &Option<Elem>) -> Result<Many<Row>, Memory>
+        ensures { IfOk result (λ it. it ≡
+            meant.filtered self.now.schema filter.now (meant.stored self.now store)) }
+    {
+        match filter {
+            None => Ok(self.stored(store).copy()?.into_rows()),
+            Some(filter) => select(self.alloc(), self.schema(), filter, self.stored(store)),
+        }
+    }
+
+    // What a session is shown: every row may be seen.
+    #[tactic(auto, using(crate::proofs::Unchecked::shown_is))]
+    fn shown(&self, store: Datastore, filter: &Option<Elem>) -> Result<Many<Row>, Memory>
+        ensures { (session : ℕ) → IfOk result (λ it. it ≡ meant.shown self.now session store filter.now) }
+    {
+        self.filtered(store, filter)
+    }
+
+    /// What get comes to.
+    #[tactic(auto, unfolding(crate::specs::inner::Courses::get_course))]
+    pub(crate) fn get_course(&self, filter: &Option<Elem>) -> Result<Course, Memory>
+        ensures { (session : ℕ) → IfOk result (λ it. it ≡ course.get_course self.now session filter.now) }
+    {
+        let rows = self.shown(Datastore::Running, filter)?;
+        Ok(unchanging(Verdict::Selected { rows }))
+    }
+
+    /// What get-config comes to.
+    #[tactic(auto, unfolding(crate::specs::inner::Courses::get_config_course))]
+    pub(crate) fn get_config_course(
+        &self,
+        source: Datastore,
+        filter: &Option<Elem>,
+    ) -> Result<Course, Memory>
+        ensures { (session : ℕ) →
+            IfOk result (λ it. it ≡ course.get_config_course self.now session source filter.now) }
+    {
+        if let Some(cause) = unsupported_source(self.alloc(), source)? {
+            return refused_course(self.alloc(), cause);
+        }
+        let rows = self.shown(source, filter)?;
+        Ok(unchanging(Verdict::Selected { rows }))
+    }
+}

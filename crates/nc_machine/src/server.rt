@@ -1,0 +1,159 @@
+//! The datastores and sessions of the server, seen as the state of the definitions (RFC 6241 5.1, 8.1
+//! and 8.3).
+ghost use Rattle.std.specs.Prelude.{◌≡◌, None, Some, IfOk};
+ghost use Rattle.nc_model.specs.State as state;
+ghost use Rattle.nc_model.specs.Step.{with_candidate};
+ghost use Rattle.nc_model.specs.Verdict.{stored};
+
+use nc_model::{Datastore, Session};
+use nc_names::{Many, Memory, same_rows};
+use nc_schema::Schema;
+use nc_tree::Config;
+use std::alloc::Global;
+use std::marker::Model;
+use std::sync::Arc;
+
+/// As many sessions are live at once.
+pub(crate) const MOST_SESSIONS: usize = 64;
+
+/// What the server holds. Running and the candidate are moved from one to the other, and never copied.
+#[derive(Drop)]
+pub(crate) struct Server {
+    pub(crate) alloc: Global,
+    schema: Arc<Schema, Global>,
+    running: Config,
+    candidate: Option<Config>,
+    pub(crate) sessions: Many<Session>,
+    latest: u64,
+    pub(crate) last: u32,
+    faults: u64,
+}
+
+impl Model for Server {
+    ghost use Rattle.std.specs.Prelude.{◌≤◌, length};
+    ghost use Rattle.nc_model.specs.State.{State, most_sessions};
+
+    ghost Value = { State };
+
+    ghost view = { λ s. record {
+      schema = s.schema.value;
+      running = s.running;
+      candidate = s.candidate;
+      sessions = s.sessions;
+      now = s.latest;
+      last = s.last;
+      faults = s.faults;
+    } };
+
+    ghost invariant = { λ s. length s.sessions ≤ most_sessions };
+}
+
+impl Server {
+    /// The server before the first event, with room for all sessions that may be live at once.
+    pub(crate) fn new(
+        alloc: Global,
+        schema: Arc<Schema, Global>,
+        running: Config,
+        faults: u64,
+    ) -> Result<Server, Memory>
+        ensures { IfOk result (λ it. it ≡ state.opening schema.value running faults) }
+    {
+        let sessions = Vec::with_capacity(alloc, MOST_SESSIONS)?;
+        Ok(Server {
+            alloc,
+            schema,
+            running,
+            candidate: None,
+            sessions: Many::from_vec(sessions),
+            latest: 0,
+            last: 0,
+            faults,
+        })
+    }
+
+    /// What new collections take their memory from.
+    pub(crate) fn alloc(&self) -> Global {
+        self.alloc
+    }
+
+    /// The schema, which no event changes.
+    pub(crate) fn schema(&self) -> &Schema
+        ensures { result.now ≡ self.now.schema }
+    {
+        &self.schema
+    }
+
+    /// The configuration of running.
+    pub(crate) fn running(&self) -> &Config
+        ensures { result.now ≡ self.now.running }
+    {
+        &self.running
+    }
+
+    /// The candidate, which is running's where it is unmodified.
+    pub(crate) fn in_force(&self) -> &Config
+        ensures { result.now ≡ state.candidate_in_force self.now }
+    {
+        match &self.candidate {
+            None => &self.running,
+            Some(rows) => rows,
+        }
+    }
+
+    /// The configuration of a datastore that is a source.
+    pub(crate) fn stored(&self, store: Datastore) -> &Config
+        ensures { result.now ≡ stored self.now store }
+    {
+        match store {
+            Datastore::Candidate => self.in_force(),
+            _ => &self.running,
+        }
+    }
+
+    /// The count of the disk's faults.
+    pub(crate) fn faults(&self) -> u64
+        ensures { result ≡ self.now.faults }
+    {
+        self.faults
+    }
+
+    /// The clock is read. It does not go back.
+    pub(crate) fn read_clock(&mut self, at: u64)
+        ensures { self.new ≡ state.expired self.old at }
+    {
+        self.latest = self.latest.max(at);
+    }
+
+    /// The candidate gets rows, unless they are its own.
+    pub(crate) fn set_candidate(&mut self, rows: Config)
+        ensures { self.new ≡ with_candidate self.old (Some rows) }
+    {
+        if !same_rows(rows.as_slice(), self.in_force().as_slice()) {
+            self.candidate = Some(rows);
+        }
+    }
+
+    /// The candidate is unmodified.
+    pub(crate) fn discard(&mut self)
+        ensures { self.new ≡ record self.old { candidate = None } }
+    {
+        self.candidate = None;
+    }
+
+    /// The candidate is running, and is unmodified.
+    pub(crate) fn run_candidate(&mut self)
+        ensures { self.new ≡
+            record self.old { running = state.candidate_in_force self.old; candidate = None } }
+    {
+        if let Some(rows) = self.candidate.take() {
+            self.running = rows;
+        }
+    }
+
+    /// The count of the disk's faults is this.
+    pub(crate) fn count_faults(&mut self, faults: u64)
+        ensures { self.new ≡ record self.old { faults = faults } }
+    {
+        self.faults = faults;
+    }
+}

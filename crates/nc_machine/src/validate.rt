@@ -1,0 +1,101 @@
+//! Validity (RFC 7950 8.1, 8.3.3; RFC 6241 8.6.4.1).
+ghost use Rattle.std.specs.Prelude.{◌≡◌, IfOk, slice_get};
+ghost use Rattle.nc_schema.specs.Violations.{violations};
+ghost use Rattle.nc_model.specs.declared.datastore.Origin.TheVariants.{Store, Inline};
+ghost use Rattle.nc_model.specs.declared.verdict.Verdict.TheVariants.{Done};
+ghost use Rattle.nc_model.specs.Verdict as meant;
+ghost use Rattle.nc_machine.specs.inner.Courses as course;
+
+use crate::causes::{checked, refused, violation_cause};
+use crate::course::{Course, unchanging};
+use crate::datastores::unsupported_source;
+use crate::payload::rows_of;
+use crate::server::Server;
+use nc_message::Elem;
+use nc_model::{Cause, Datastore, Origin, Verdict};
+use nc_names::Memory;
+use nc_refs::first_reference;
+use nc_schema::{Schema, Violation};
+use nc_tree::Config;
+use nc_validate::first_structural;
+use std::alloc::Global;
+
+// The first violation of a configuration: structural ones come before references.
+#[tactic(auto, using(crate::proofs::Firsts::first_of_left, crate::proofs::Firsts::first_of_right))]
+fn first_violation(
+    alloc: Global,
+    schema: &Schema,
+    config: &Config,
+) -> Result<Option<Violation>, Memory>
+    ensures { IfOk result (λ it. it ≡ slice_get (violations schema.now config.now) 0) }
+{
+    match first_structural(alloc, schema, config)? {
+        Some(violation) => Ok(Some(violation)),
+        None => first_reference(alloc, schema, config),
+    }
+}
+
+/// It as a cause.
+pub(crate) fn violation_in(
+    alloc: Global,
+    schema: &Schema,
+    config: &Config,
+) -> Result<Option<Cause>, Memory>
+    ensures { IfOk result (λ it. it ≡ meant.violation_in schema.now config.now) }
+{
+    match first_violation(alloc, schema, config)? {
+        Some(violation) => Ok(Some(violation_cause(alloc, violation))),
+        None => Ok(None),
+    }
+}
+
+impl Server {
+    fn valid(&self, config: &Config) -> Result<Verdict, Memory>
+        ensures { IfOk result (λ it. it ≡
+            meant.checked (meant.violation_in self.now.schema config.now) Done) }
+    {
+        checked(
+            self.alloc(),
+            violation_in(self.alloc(), self.schema(), config)?,
+            Verdict::Done,
+        )
+    }
+
+    fn valid_store(&self, store: Datastore) -> Result<Verdict, Memory>
+        ensures { IfOk result (λ it. it ≡
+            meant.validated self.now.schema (meant.rows_to_validate self.now (Store store))) }
+    {
+        match unsupported_source(self.alloc(), store)? {
+            Some(cause) => refused(self.alloc(), cause),
+            None => self.valid(self.stored(store)),
+        }
+    }
+
+    fn valid_inline(&self, config: &Elem) -> Result<Verdict, Memory>
+        ensures { IfOk result (λ it. it ≡
+            meant.validated self.now.schema (meant.rows_to_validate self.now (Inline config.now))) }
+    {
+        match rows_of(self.alloc(), self.schema(), config)? {
+            Err(cause) => refused(self.alloc(), cause),
+            Ok(rows) => self.valid(&rows),
+        }
+    }
+
+    fn validated(&self, source: &Origin) -> Result<Verdict, Memory>
+        ensures { IfOk result (λ it. it ≡
+            meant.validated self.now.schema (meant.rows_to_validate self.now source.now)) }
+    {
+        match source {
+            Origin::Store(store) => self.valid_store(*store),
+            Origin::Inline(config) => self.valid_inline(config),
+        }
+    }
+
+    /// What validate comes to.
+    #[tactic(auto, unfolding(crate::specs::inner::Courses::validate_course))]
+    pub(crate) fn validate_course(&self, source: &Origin) -> Result<Course, Memory>
+        ensures { IfOk result (λ it. it ≡ course.validate_course self.now source.now) }
+    {
+        Ok(unchanging(self.validated(source)?))
+    }
+}

@@ -8,7 +8,7 @@ use Rattle.nc_machine.proofs.event.live_outcome.Goals as goal
 pub returns-in-Commit-clause-answers : goal.returns-in-Commit-clause-answers
 returns-in-Commit-clause-answers g c =
     let is : Commit ≡ course c.args.server.now c.args.session c.args.request.now
-        = sym c.in-Commit.is ∙ c.in_ok-verdict.ensures c.args.session in
+    = sym c.in-Commit.is ∙ c.in_ok-verdict.ensures c.args.session in
     commit_told c.args.server.now _ c.args.session c.args.request.now c.commit.result (sym c.requires.live) is
     (c.commit.ensures.commits c.args.session)
 

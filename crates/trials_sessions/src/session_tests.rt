@@ -395,13 +395,11 @@ fn a_hello_past_the_limit_is_too_big(rt: HostRuntime) -> Result<(), Fail> {
     let alloc = rt.alloc();
     let case = ends_so("", "", SessionEnd::InputEnded);
     let at = MESSAGE_LIMIT as u64;
-    for (past, end) in [(5, SessionEnd::InputEnded), (6, SessionEnd::TooBig { at })] {
-        let came = serve(
-            alloc,
-            signs(alloc, MESSAGE_LIMIT + past)?,
-            &case,
-            PIECE_LIMIT,
-        )?;
+    for (count, end) in [
+        (MESSAGE_LIMIT + 5, SessionEnd::InputEnded),
+        (MESSAGE_LIMIT + 6, SessionEnd::TooBig { at }),
+    ] {
+        let came = serve(alloc, signs(alloc, count)?, &case, PIECE_LIMIT)?;
         assert_eq!(rt; came.end, end);
     }
     Ok(())

@@ -1,5 +1,5 @@
 //! Long texts, spelled short.
-use nc_names::{Bytes, Memory};
+use nc_names::{Bytes, Memory, Text};
 use std::alloc::Global;
 
 // The base namespace as it is declared (RFC 6241 3.1).
@@ -52,14 +52,14 @@ fn word(sign: char) -> &'static str {
 /// those of its reply; `_` for a get-config of running; `&` for an exclamation mark; and a backquote for
 /// the error of a malformed message.
 pub(crate) fn spelled(alloc: Global, short: &str) -> Result<Bytes, Memory> {
-    let mut bytes = Bytes::new(alloc);
+    let mut text = Text::new(alloc);
     for sign in short.chars() {
         let word = word(sign);
         if word.is_empty() {
-            bytes.push(sign as u8)?;
+            text.push(sign)?;
         } else {
-            bytes.push_slice(word.as_bytes())?;
+            text.push_str(word)?;
         }
     }
-    Ok(bytes)
+    Bytes::from_slice(alloc, text.as_str().as_bytes())
 }

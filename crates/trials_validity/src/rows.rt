@@ -1,4 +1,8 @@
-//! Rows written as short texts, and violations shown as texts.
+//! Rows written as short texts, and violations shown as texts. The schemas and the tests stand below this
+//! module and see what is private in it.
+mod module;
+mod refs_module;
+
 use nc_names::{CauseKind, Many, Path, Place, Row, Step, Text};
 use nc_schema::{Schema, Violation};
 use nc_tree::Config;
@@ -6,12 +10,11 @@ use std::alloc::Global;
 use std::fmt::Write;
 use std::process::Abort;
 
-/// A text.
-pub fn text(rt: &impl Abort, alloc: Global, chars: &str) -> Text {
+fn text(rt: &impl Abort, alloc: Global, chars: &str) -> Text {
     Text::from_text(alloc, chars).expect(rt, "memory")
 }
 
-/// A step from `5:a`, a number and a key, or from a number alone.
+// A step from `5:a`, a number and a key, or from a number alone.
 fn step(rt: &impl Abort, alloc: Global, part: &str) -> Step {
     let mut keys = Many::new(alloc);
     let (number, key) = part.split_once(':').unwrap_or((part, ""));
@@ -24,7 +27,7 @@ fn step(rt: &impl Abort, alloc: Global, part: &str) -> Step {
     }
 }
 
-/// A row from `5:a/7=t`, or without a value.
+// A row from `5:a/7=t`, or without a value.
 fn row(rt: &impl Abort, alloc: Global, line: &str) -> Row {
     let (path, value) = line.split_once('=').unwrap_or((line, ""));
     let mut steps = Many::new(alloc);
@@ -41,8 +44,8 @@ fn row(rt: &impl Abort, alloc: Global, line: &str) -> Row {
     }
 }
 
-/// A configuration of rows in document order, written with a space between two.
-pub fn config(rt: &impl Abort, alloc: Global, schema: &Schema, lines: &str) -> Config {
+// A configuration of rows in document order, written with a space between two.
+fn config(rt: &impl Abort, alloc: Global, schema: &Schema, lines: &str) -> Config {
     let mut rows = Many::new(alloc);
     for line in lines.split(' ') {
         if !line.is_empty() {
@@ -80,8 +83,8 @@ fn step_text(rt: &impl Abort, alloc: Global, step: &Step) -> String {
     shown
 }
 
-/// A violation as `NotUnique /5:b`; none as `valid`.
-pub fn shown(rt: &impl Abort, alloc: Global, found: Option<Violation>) -> String {
+// A violation as `NotUnique /5:b`; none as `valid`.
+fn shown(rt: &impl Abort, alloc: Global, found: Option<Violation>) -> String {
     let Some(found) = found else {
         return format!(in alloc; "valid").expect(rt, "memory");
     };

@@ -27,14 +27,16 @@
 //!     case 1: 26 leaf slow } } }
 //! 27 container bare { presence; choice 2 { mandatory } }
 //! ```
-use crate::rows::text;
-use nc_names::{Many, QName};
+mod validity_tests;
+
+use super::text;
+use nc_names::{Boxed, Many, QName};
 use nc_schema::{Case, Choice, Deny, Kind, Node, Schema};
 use std::alloc::Global;
 use std::process::Abort;
 
-/// The number of the node above each node, or 99 where there is none, and the node's kind.
-const NODES: [(u32, Kind); 28] = [
+// The number of the node above each node, or 99 where there is none, and the node's kind.
+const NODES: &[(u32, Kind)] = &[
     (99, Kind::Container { presence: true }),
     (0, Kind::Leaf),
     (0, Kind::Leaf),
@@ -65,20 +67,20 @@ const NODES: [(u32, Kind); 28] = [
     (99, Kind::Container { presence: true }),
 ];
 
-/// The leafs that are mandatory.
-const MANDATORY: [u32; 6] = [1, 4, 6, 17, 20, 23];
+// The leafs that are mandatory.
+const MANDATORY: &[u32] = &[1, 4, 6, 17, 20, 23];
 
-/// Data nodes with their keys, as numbers of list and key.
-const KEYS: [(u32, u32); 2] = [(7, 8), (15, 16)];
+// Data nodes with their keys, as numbers of list and key.
+const KEYS: &[(u32, u32)] = &[(7, 8), (15, 16)];
 
-/// Defaults.
-const DEFAULTS: [(u32, &str); 2] = [(2, "x"), (10, "z")];
+// Defaults.
+const DEFAULTS: &[(u32, &str)] = &[(2, "x"), (10, "z")];
 
-/// Data node, least and most number of entries; 0 is no bound.
-const BOUNDS: [(u32, u64, u64); 4] = [(7, 0, 4), (14, 2, 3), (15, 1, 0), (24, 1, 0)];
+// Data node, least and most number of entries; 0 is no bound.
+const BOUNDS: &[(u32, u64, u64)] = &[(7, 0, 4), (14, 2, 3), (15, 1, 0), (24, 1, 0)];
 
-/// Data node, choice and case.
-const CASES: [(u32, u32, u32); 9] = [
+// Data node, choice and case.
+const CASES: &[(u32, u32, u32)] = &[
     (19, 0, 0),
     (20, 0, 0),
     (21, 0, 1),
@@ -90,8 +92,8 @@ const CASES: [(u32, u32, u32); 9] = [
     (26, 1, 1),
 ];
 
-/// Number of the `unique` statement, data node and leaf.
-const UNIQUES: [(u32, u32, u32); 3] = [(0, 7, 9), (0, 7, 10), (1, 7, 12)];
+// Number of the `unique` statement, data node and leaf.
+const UNIQUES: &[(u32, u32, u32)] = &[(0, 7, 9), (0, 7, 10), (1, 7, 12)];
 
 fn node(rt: &impl Abort, alloc: Global, row: (u32, Kind)) -> Node {
     let (above, kind) = row;
@@ -118,8 +120,8 @@ fn node(rt: &impl Abort, alloc: Global, row: (u32, Kind)) -> Node {
 
 fn keyed(rt: &impl Abort, mut node: Node, number: u32) -> Node {
     for (list, key) in KEYS {
-        if list == number {
-            node.keys.push(key).expect(rt, "memory");
+        if *list == number {
+            node.keys.push(*key).expect(rt, "memory");
         }
     }
     node
@@ -127,7 +129,7 @@ fn keyed(rt: &impl Abort, mut node: Node, number: u32) -> Node {
 
 fn with_defaults(rt: &impl Abort, alloc: Global, mut node: Node, number: u32) -> Node {
     for (leaf, default) in DEFAULTS {
-        if leaf == number {
+        if *leaf == number {
             node.defaults
                 .push(text(rt, alloc, default))
                 .expect(rt, "memory");
@@ -139,9 +141,9 @@ fn with_defaults(rt: &impl Abort, alloc: Global, mut node: Node, number: u32) ->
 fn bounded(mut node: Node, number: u32) -> Node {
     node.mandatory = MANDATORY.iter().any(|leaf| *leaf == number);
     for (list, least, most) in BOUNDS {
-        if list == number {
-            node.least = least;
-            node.most = if most == 0 { None } else { Some(most) };
+        if *list == number {
+            node.least = *least;
+            node.most = if *most == 0 { None } else { Some(*most) };
         }
     }
     node
@@ -149,8 +151,12 @@ fn bounded(mut node: Node, number: u32) -> Node {
 
 fn in_cases(rt: &impl Abort, mut node: Node, number: u32) -> Node {
     for (member, choice, case) in CASES {
-        if member == number {
-            node.cases.push(Case { choice, case }).expect(rt, "memory");
+        if *member == number {
+            let case = Case {
+                choice: *choice,
+                case: *case,
+            };
+            node.cases.push(case).expect(rt, "memory");
         }
     }
     node
@@ -159,8 +165,8 @@ fn in_cases(rt: &impl Abort, mut node: Node, number: u32) -> Node {
 fn unique_leafs(rt: &impl Abort, alloc: Global, number: u32, which: u32) -> Many<u32> {
     let mut leafs = Many::new(alloc);
     for (statement, list, leaf) in UNIQUES {
-        if list == number && statement == which {
-            leafs.push(leaf).expect(rt, "memory");
+        if *list == number && *statement == which {
+            leafs.push(*leaf).expect(rt, "memory");
         }
     }
     leafs
@@ -203,13 +209,13 @@ fn with_choices(rt: &impl Abort, alloc: Global) -> Schema {
     schema
 }
 
-/// The schema.
-pub fn schema(rt: &impl Abort, alloc: Global) -> Schema {
+// The schema, on the heap: what lets it go there is proved once.
+fn schema(rt: &impl Abort, alloc: Global) -> Boxed<Schema> {
     let mut schema = with_choices(rt, alloc);
     for row in NODES {
         let count = schema.nodes();
         assert!(rt; count < 1000);
-        let node = keyed(rt, node(rt, alloc, row), count);
+        let node = keyed(rt, node(rt, alloc, *row), count);
         let node = with_defaults(rt, alloc, node, count);
         let node = in_cases(rt, bounded(node, count), count);
         let node = with_uniques(rt, alloc, node, count);
@@ -218,5 +224,5 @@ pub fn schema(rt: &impl Abort, alloc: Global) -> Schema {
         }
         schema.add_node(node).expect(rt, "memory");
     }
-    schema
+    Boxed::new(alloc, schema).expect(rt, "memory")
 }

@@ -1,19 +1,21 @@
 //! A module with references.
 //!
-//! `0` container top { `1` leaf host; `2` list port { key `3` name; `4` leaf tag; `5` leaf peer { ../../port/name }
-//! `6` leaf own { ../name } } `7` leaf up { ../port/name } `8` leaf any { /top/port/tag }
-//! `9` leaf soft { ../port/name; require-instance false } `10` leaf at { instance-identifier }
-//! `11` leaf lax { instance-identifier; require-instance false } `12` leaf speed { default "10" }
-//! `13` leaf same { ../speed } `14` leaf-list refs { ../port/name } `15` container pres { presence; `16` leaf mode
+//! `0` container top { `1` leaf host; `2` list port { key `3` name; `4` leaf tag; `5` leaf peer {
+//! ../../port/name } `6` leaf own { ../name } } `7` leaf up { ../port/name } `8` leaf any { /top/port/tag
+//! } `9` leaf soft { ../port/name; require-instance false } `10` leaf at { instance-identifier } `11`
+//! leaf lax { instance-identifier; require-instance false } `12` leaf speed { default "10" } `13` leaf
+//! same { ../speed } `14` leaf-list refs { ../port/name } `15` container pres { presence; `16` leaf mode
 //! { default "m" } } `17` leaf shown { ../pres/mode } }
-use crate::rows::text;
-use nc_names::{Many, Module, QName};
+mod refs_tests;
+
+use super::text;
+use nc_names::{Boxed, Many, Module, QName};
 use nc_schema::{Deny, Kind, Node, Schema, ValueType};
 use std::alloc::Global;
 use std::process::Abort;
 
-/// Name, number of the node above (99 is none), kind and type of each node.
-const NODES: [(&str, u32, Kind, u32); 18] = [
+// Name, number of the node above (99 is none), kind and type of each node.
+const NODES: &[(&str, u32, Kind, u32)] = &[
     ("top", 99, Kind::Container { presence: false }, 0),
     ("host", 0, Kind::Leaf, 0),
     ("port", 0, Kind::List, 0),
@@ -114,18 +116,18 @@ fn add_tables(rt: &impl Abort, alloc: Global, schema: &mut Schema) {
     }
 }
 
-/// The schema.
-pub fn schema(rt: &impl Abort, alloc: Global) -> Schema {
+// The schema, on the heap: what lets it go there is proved once.
+fn schema(rt: &impl Abort, alloc: Global) -> Boxed<Schema> {
     let mut schema = Schema::new(alloc);
     add_tables(rt, alloc, &mut schema);
     for row in NODES {
         let count = schema.nodes();
         assert!(rt; count < 1000);
-        let node = node(rt, alloc, count, row);
+        let node = node(rt, alloc, count, *row);
         if let Some(parent) = node.parent {
             assert!(rt; parent < count);
         }
         schema.add_node(node).expect(rt, "memory");
     }
-    schema
+    Boxed::new(alloc, schema).expect(rt, "memory")
 }

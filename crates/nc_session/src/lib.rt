@@ -6,8 +6,6 @@
 //! fed, one by one, however they are cut. `serve_session` promises for any desk, source and sink what is
 //! entered, what is read and what is written, by the end that it answers. `hello` appends the server's
 //! hello. The laws say that the bytes of a session have one reading.
-//!
-//! The crate trials_sessions tests it.
 #![tactic(auto)]
 
 mod base;

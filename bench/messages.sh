@@ -40,8 +40,12 @@ program=$work/copy/crates/messages_bench/out/messages_bench
 # one message on a line: a text, a repeated text in which N is the count so far, how often, and a last text
 message() {
   awk -v first="$1" -v again="$2" -v count="$3" -v last="$4" 'BEGIN {
+    parts = split(again, part, "N")
     printf "%s", first
-    for (i = 0; i < count; i++) { one = again; gsub(/N/, i, one); printf "%s", one }
+    for (i = 0; i < count; i++) {
+      printf "%s", part[1]
+      for (j = 2; j <= parts; j++) printf "%s%s", i, part[j]
+    }
     print last
   }'
 }

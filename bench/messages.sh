@@ -59,12 +59,12 @@ measure() {
   local name=$1 file=$2 bytes seconds memory
   bytes=$(stat -c %s "$file")
   /usr/bin/time -o "$work/used" -f '%U %S %M' "$program" <"$file" >"$work/said"
-  read -r seconds memory < <(awk '{ print $1 + $2, $3 }' "$work/used")
+  read -r seconds memory < <(awk 'END { print $1 + $2, $3 }' "$work/used")
   printf '%-36s %8d bytes %7.2f MB/s %7d KB  %s\n' "$name" "$bytes" \
     "$(echo "$bytes $seconds" | awk '{ print $1 / 1000000 / ($2 > 0 ? $2 : 0.01) }')" "$memory" "$(cat "$work/said")"
   if command -v xmllint >/dev/null && [ "$(wc -l <"$file")" = 1 ]; then
     /usr/bin/time -o "$work/used" -f '%U %S %M' xmllint --huge --noout "$file" 2>/dev/null || true
-    read -r seconds memory < <(awk '{ print $1 + $2, $3 }' "$work/used")
+    read -r seconds memory < <(awk 'END { print $1 + $2, $3 }' "$work/used")
     printf '%-36s %8s       %7.2f MB/s %7d KB\n' "  xmllint" "" \
       "$(echo "$bytes $seconds" | awk '{ print $1 / 1000000 / ($2 > 0 ? $2 : 0.01) }')" "$memory"
   fi

@@ -8,28 +8,16 @@ use Rattle.nc_model.specs.declared.entry.Entry.{Entry}
 use Rattle.nc_model.specs.declared.event.Event.{Event}
 use Rattle.nc_model.specs.State.{State, IsGood, expired}
 use Rattle.nc_model.specs.Step.{next}
-use Rattle.nc_model.proofs.GoodLemmas.{good_next}
+use Rattle.nc_model.proofs.GoodLemmas.{good_next, good_now}
 use Rattle.nc_machine.specs.Serving.{IsSound}
 use Rattle.nc_machine.specs.inner.Turns.{Enters}
-
-good_expired : (s : State) (at : ℕ) → IsGood s → IsGood (expired s at)
-good_expired s at good = record {
-  schema = good.schema;
-  running = good.running;
-  valid = good.valid;
-  candidate = good.candidate;
-  given = good.given;
-  distinct = good.distinct;
-  few = good.few;
-  last = good.last;
-}
 
 pub good_entered : (old new : State) (number : ℕ) (event : Event) (at : ℕ) (e : Entry) → Enters old new number event at e →
     IsGood old → IsGood new
 good_entered old new number event at e enters good = subst IsGood (sym enters.state_is) (good_next old e good enters.fits)
 
 pub good_read : (old new : State) (at : ℕ) → new ≡ expired old at → IsGood old → IsGood new
-good_read old new at is good = subst IsGood (sym is) (good_expired old at good)
+good_read old new at is good = subst IsGood (sym is) (good_now old at good)
 
 pub good_after : (old new : State) (number : ℕ) (event : Event) (at : ℕ) (result : Result Entry Memory) →
     IfOk result (λ e. Enters old new number event at e) → OnErr result (new ≡ expired old at) → IsGood old → IsGood new

@@ -289,7 +289,7 @@ good_changed s (End n) failed good = by (is_live s n)
     by false = good
 good_changed s Reading failed good = good
 
-good_now : (s : State) (at : ℕ) → IsGood s → IsGood (expired s at)
+pub good_now : (s : State) (at : ℕ) → IsGood s → IsGood (expired s at)
 good_now s at good = record {
   schema = good.schema;
   running = good.running;

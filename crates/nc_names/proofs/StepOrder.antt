@@ -1,5 +1,5 @@
 -- The order of steps, and of lists of steps, says that two are the same exactly where they are.
-use Rattle.std.proofs.Common.{◌≡◌, ◌&&◌, Bool, true, List, refl, sym, ◌∙◌}
+use Rattle.std.proofs.Common.{◌≡◌, ◌&&◌, true, List, refl, sym, ◌∙◌}
 use Rattle.std.specs.Cmp.{unsigned_tied}
 use Rattle.std.specs.Cmp.Lexicographic.{lists_ties, slice_cmp}
 use Rattle.std.specs.Ordering.{is_eq, nat_cmp, ordering_then}

@@ -21,7 +21,6 @@ mod own;
 mod payload;
 mod payload_paths;
 mod texts;
-mod turns;
 mod words;
 
 pub use payload::{PayloadFault, edits, rows};

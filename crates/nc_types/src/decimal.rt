@@ -21,8 +21,8 @@ fn split_dot(text: &str) -> Option<(&str, &str)>
     text.split_once('.')
 }
 
-// The text before the point, and the digits after it.
-fn split_point(text: &str) -> (&str, &str)
+/// The text before the first point, and what stands after it: nothing where there is no point (RFC 7950 9.3.1).
+pub fn split_point(text: &str) -> (&str, &str)
     ensures before { result.0.now ≡ before_first (λ c. c == dot) text.now }
     ensures after { result.1.now ≡ numbers.fraction_of text.now }
 {
@@ -49,8 +49,9 @@ fn push_zeros(out: &mut Text, count: usize) -> Result<(), Memory>
     Ok(())
 }
 
-// The number in units of the last digit.
-fn read_units(alloc: Global, digits: u32, text: &str) -> Result<Option<i128>, Memory>
+/// The number that a decimal text writes, in units of the last of so many fraction digits (RFC 7950 9.3.1,
+/// 9.3.4): `None` where it writes none, or has more digits after its point.
+pub fn read_units(alloc: Global, digits: u32, text: &str) -> Result<Option<i128>, Memory>
     ensures { IfOk result (λ it. it ≡ numbers.units_of digits text.now) }
 {
     let (before, fraction) = split_point(text);

@@ -47,7 +47,7 @@ fn before_white(text: &str) -> &str
 }
 
 /// The text without white space at its ends.
-pub(crate) fn trimmed(text: &str) -> &str
+pub fn trimmed(text: &str) -> &str
     ensures { result.now ≡ values.trimmed text.now }
 {
     before_white(after_white(text))

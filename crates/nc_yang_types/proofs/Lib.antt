@@ -1,4 +1,3 @@
-pub mod TrimLemmas
 pub mod CutLemmas
 pub mod RangeLemmas
 pub mod Firsts

@@ -1,15 +1,13 @@
 //! The bounds of ranges and lengths (RFC 7950 9.2.4, 9.4.4).
-ghost use Rattle.std.specs.Prelude.{◌≡◌, ◌==◌, ◌-◌, ◌≤◌, ◌++◌, ◌&&◌, not, length, replicate, IfOk, OnOk};
+ghost use Rattle.std.specs.Prelude.{◌≡◌, ◌==◌, ◌&&◌, not, IfOk};
 ghost use Rattle.std.specs.Char.{is_ascii_digit};
-ghost use Rattle.std.specs.List.{before_first, list_all};
-ghost use Rattle.nc_names.specs.Signs.{dot};
-ghost use Rattle.nc_schema.specs.NumberTexts as numbers;
+ghost use Rattle.std.specs.List.{list_all};
 ghost use Rattle.nc_yang_statements.specs.Arguments as arguments;
 ghost use Rattle.nc_yang_types.specs.Ranges as ranges;
-ghost use Rattle.nc_yang_types.specs.inner.Cuts.{SplitsAt};
 
-use nc_names::{Memory, Text};
+use nc_names::Memory;
 use nc_schema::{Between, read_number};
+use nc_types::{read_units, split_point};
 use std::alloc::Global;
 
 /// What the bounds of a restriction count.
@@ -22,57 +20,11 @@ pub enum Counted {
     Lengths,
 }
 
-// What stands before the first point, and after it; nothing where there is none.
-fn split_dot(text: &str) -> Option<(&str, &str)>
-    ensures { SplitsAt dot text.now result }
-{
-    text.split_once('.')
-}
-
-// The text before the point, and the digits after it.
-fn split_point(text: &str) -> (&str, &str)
-    ensures before { result.0.now ≡ before_first (λ c. c == dot) text.now }
-    ensures after { result.1.now ≡ numbers.fraction_of text.now }
-{
-    match split_dot(text) {
-        Some((before, after)) => (before, after),
-        None => (text, ""),
-    }
-}
-
 // Whether each byte is a digit.
 fn all_digits(bytes: &[u8]) -> bool
     ensures { result ≡ list_all is_ascii_digit bytes.now }
 {
     bytes.iter().all(|byte| byte.is_ascii_digit())
-}
-
-// Puts so many zeros at the end.
-fn push_zeros(out: &mut Text, count: usize) -> Result<(), Memory>
-    ensures { OnOk result (out.new ≡ out.old ++ replicate count numbers.zero_digit) }
-{
-    for turn in 0..count {
-        out.push_str("0")?;
-    }
-    Ok(())
-}
-
-// The number in units of the last digit.
-fn read_units(alloc: Global, digits: u32, text: &str) -> Result<Option<i128>, Memory>
-    ensures { IfOk result (λ it. it ≡ numbers.units_of digits text.now) }
-{
-    let (before, fraction) = split_point(text);
-    if read_number(before).is_some()
-        && all_digits(fraction.as_bytes())
-        && fraction.len() <= digits as usize
-    {
-        let mut whole = Text::from_text(alloc, before)?;
-        whole.push_str(fraction)?;
-        push_zeros(&mut whole, digits as usize - fraction.len())?;
-        Ok(read_number(whole.as_str()))
-    } else {
-        Ok(None)
-    }
 }
 
 // Whether it is `0`, or digits of which the first is another.

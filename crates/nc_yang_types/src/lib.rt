@@ -4,7 +4,7 @@
 //! another type.
 //!
 //! It stands on the statements of nc_yang_words, the rules of single ones in nc_yang_statements, which are
-//! kept, and on the types of nc_schema. Nothing here looks a name up.
+//! kept, on the types of nc_schema, and on nc_types for the numbers in a range. Nothing here looks a name up.
 //!
 //! `own` and `narrowed` promise the entry exactly where the definitions list no fault, and else the first
 //! fault of their list. The crate `trials_modules` tests them.
@@ -25,7 +25,6 @@ mod part;
 mod range;
 mod restricted;
 mod stop;
-mod trim;
 
 pub use bound::Counted;
 pub use conditions::{Always, Conditions};
@@ -34,4 +33,5 @@ pub use over_built_in::own;
 pub use over_type::narrowed;
 pub use part::{misshapen, narrows, needs, takes};
 pub use range::restriction;
+pub use restricted::required;
 pub use stop::TypeStop;

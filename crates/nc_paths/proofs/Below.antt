@@ -4,6 +4,7 @@ use Rattle.std.specs.Option.{option_map_or}
 use Rattle.std.proofs.lemmas.Bool.Decides.{Decides-eqb, nat_tests}
 use Rattle.std.proofs.lemmas.List.Quantifiers.{position-Some}
 use Rattle.nc_names.proofs.SameLemmas.{first_true, second_true, both_true, name_decide}
+use Rattle.nc_names.specs.declared.name.QName.{QName}
 use Rattle.nc_names.specs.Same.{is_same_name}
 use Rattle.nc_schema.specs.Children.{child_number, is_same_number}
 use Rattle.nc_schema.specs.InstancePaths.{has_name, key_nodes, qualified}
@@ -12,7 +13,7 @@ use Rattle.nc_schema.specs.declared.node.Node.{Node}
 use Rattle.nc_schema.specs.declared.written.WrittenName.{WrittenName}
 use Rattle.nc_paths.specs.inner.Halting.{Halts}
 use Rattle.nc_paths.specs.inner.Going.{Reading, GoesOn, StepNames, child_named}
-use Rattle.nc_paths.specs.inner.Candidates.{can_be_given, can_end, child_first, ends_at, farthest, is_nameable, is_named, numbers}
+use Rattle.nc_paths.specs.inner.Candidates.{can_be_given, can_end, child_first, ends_at, farthest, is_nameable, is_named, numbers, stands}
 use Rattle.nc_paths.proofs.Names.{In, bind_some, map_or_true, map_or_some, wording, name_cut, name_reads}
 use Rattle.nc_paths.proofs.Naming.{CanBeWritten, StopsName, stops_name, nameable_is_written, named_is_nameable}
 use Rattle.nc_paths.proofs.Spots.{goes_ends, keys_live, keys_need}
@@ -54,7 +55,7 @@ position_is p (x ∷ xs) n e =
     let is = position-Some p (x ∷ xs) n x e in
     (get_or (x ∷ xs) n x, get_there (x ∷ xs) n x is.0, is.1)
 
-same_number : (o : Option ℕ) (n : ℕ) → is_same_number o (Some n) ≡ true → o ≡ Some n
+pub same_number : (o : Option ℕ) (n : ℕ) → is_same_number o (Some n) ≡ true → o ≡ Some n
 same_number None n e = cc
 same_number (Some k) n e = ap Some ((Decides-eqb k n).0 e)
 
@@ -63,7 +64,7 @@ number_itself o n e = ap (λ x. is_same_number x (Some n)) e ∙ (Decides-eqb n 
 
 module _ (s : Reading) (above : Option ℕ) where
   abbrev is_there : ℕ → Bool
-  is_there number = option_map_or (λ node. is_same_number (child_number s.tables above node.name) (Some number)) (slice_get s.tables.nodes number) false
+  is_there number = stands s.tables above number
 
   pub ends_in : (number : ℕ) → can_end s above number ≡ true → In number (ends_at s above)
   ends_in number e =
@@ -81,26 +82,46 @@ module _ (s : Reading) (above : Option ℕ) where
   end_nameable number e = first_true (is_nameable s number) (can_be_given s number (key_nodes s.tables number)) (second_true (is_there number) (is_nameable s number && can_be_given s number (key_nodes s.tables number)) e)
 
   -- a name of a node there leads to it
-  pub named_child : (number : ℕ) (w : WrittenName) → can_end s above number ≡ true → is_named s number w ≡ true → child_named s above w ≡ Some number
-  named_child number w e named =
-      let (node, node_is, same) = map_or_true (λ (node : Node). is_same_number (child_number s.tables above node.name) (Some number)) (slice_get s.tables.nodes number)
-      (first_true (is_there number) (is_nameable s number && can_be_given s number (key_nodes s.tables number)) e) in
+  pub stands_named : (number : ℕ) (w : WrittenName) → stands s.tables above number ≡ true → is_named s number w ≡ true → child_named s above w ≡ Some number
+  stands_named number w e named =
+      let (node, node_is, same) = map_or_true (λ (node : Node). is_same_number (child_number s.tables above node.name) (Some number)) (slice_get s.tables.nodes number) e in
       let child = same_number (child_number s.tables above node.name) number same in
       let (q, q_is, has) = map_or_true (has_name s.tables number) (qualified s.tables s.bounds w) named in
       let it : is_same_name node.name q ≡ true = sym (map_or_some (λ (n : Node). is_same_name n.name q) (slice_get s.tables.nodes number) false node node_is) ∙ has in
       let names : node.name ≡ q = (name_decide node.name q).0 it in
       ap (λ o. option_and_then (child_number s.tables above) o) q_is ∙ ap (child_number s.tables above) (sym names) ∙ child
 
+  pub named_child : (number : ℕ) (w : WrittenName) → can_end s above number ≡ true → is_named s number w ≡ true → child_named s above w ≡ Some number
+  named_child number w e named = stands_named number w (first_true (is_there number) (is_nameable s number && can_be_given s number (key_nodes s.tables number)) e) named
+
+  -- the node of a name there
+  pub record IsChildOf (number : ℕ) (q : QName) : Type 0 where
+    pub node : Node
+    pub is : slice_get s.tables.nodes number ≡ Some node
+    pub parent : is_same_number node.parent above ≡ true
+    pub name : node.name ≡ q
+    pub there : stands s.tables above number ≡ true
+
+  pub child_stands : (number : ℕ) (q : QName) → child_number s.tables above q ≡ Some number → IsChildOf number q
+  child_stands number q child =
+      let (node, node_is, passes) = position_is (λ (node : Node). is_same_number node.parent above && is_same_name node.name q) s.tables.nodes number child in
+      let names : node.name ≡ q = (name_decide node.name q).0 (second_true (is_same_number node.parent above) (is_same_name node.name q) passes) in
+      record {
+        node = node;
+        is = node_is;
+        parent = first_true (is_same_number node.parent above) (is_same_name node.name q) passes;
+        name = names;
+        there = map_or_some (λ (n : Node). is_same_number (child_number s.tables above n.name) (Some number)) (slice_get s.tables.nodes number) false node node_is ∙ number_itself (child_number s.tables above node.name) number (ap (child_number s.tables above) names ∙ child);
+      }
+
   -- and what it leads to has the name
   pub child_has : (number : ℕ) (w : WrittenName) → child_named s above w ≡ Some number → (is_named s number w ≡ true) × (is_there number ≡ true)
   child_has number w e =
       let (q, q_is, child) = bind_some (qualified s.tables s.bounds w) (child_number s.tables above) number e in
-      let (node, node_is, passes) = position_is (λ (node : Node). is_same_number node.parent above && is_same_name node.name q) s.tables.nodes number child in
-      let name = second_true (is_same_number node.parent above) (is_same_name node.name q) passes in
-      let names : node.name ≡ q = (name_decide node.name q).0 name in
-      let has : has_name s.tables number q ≡ true = map_or_some (λ (n : Node). is_same_name n.name q) (slice_get s.tables.nodes number) false node node_is ∙ name in (
+      let found = child_stands number q child in
+      let has : has_name s.tables number q ≡ true = map_or_some (λ (n : Node). is_same_name n.name q) (slice_get s.tables.nodes number) false found.node found.is ∙ (name_decide found.node.name q).1 found.name in (
         ap (λ o. option_map_or (has_name s.tables number) o false) q_is ∙ has,
-        map_or_some (λ (n : Node). is_same_number (child_number s.tables above n.name) (Some number)) (slice_get s.tables.nodes number) false node node_is ∙ number_itself (child_number s.tables above node.name) number (ap (child_number s.tables above) names ∙ child),
+        found.there,
       )
 
   pub names_end : (text : List ℕ) → StepNames s above text → (number : ℕ) × (can_end s above number ≡ true)

@@ -1,11 +1,11 @@
 -- The place at which a path text stops to be the beginning of one.
-use Rattle.std.proofs.Common.{◌≡◌, ◌≢◌, ℕ, ◌<◌, ◌+◌, ◌-◌, Bool, true, false, cond, eqb, List, [], ◌∷◌, ◌++◌, Option, Some, None, length, length-append, take, is_some, option_map, option_and_then, refl, sym, ap, subst, ◌∙◌, append_assoc, arith}
+use Rattle.std.proofs.Common.{◌≡◌, ◌≢◌, inl, inr, ℕ, ◌<◌, ◌+◌, ◌-◌, Bool, true, false, cond, eqb, List, [], ◌∷◌, ◌++◌, Option, Some, None, length, length-append, take, is_some, option_map, option_and_then, refl, sym, ap, subst, ◌∙◌, append_assoc, arith}
 use Rattle.std.proofs.Math.Seq.{take-append_seam, take-append-add}
 use Rattle.std.specs.Cmp.Lexicographic.{bytes_decides}
 use Rattle.nc_names.specs.declared.name.Bound.{Bound}
 use Rattle.nc_names.specs.Same.{is_same_text}
 use Rattle.nc_names.specs.Signs.{slash}
-use Rattle.nc_schema.specs.InstancePaths.{IsBegun, IsFaultAt, instance_path, instance_steps, node_pattern, pattern_steps}
+use Rattle.nc_schema.specs.InstancePaths.{IsBegun, IsFaultAt, instance_path, instance_steps, leafref_end, node_pattern, pattern_steps}
 use Rattle.nc_schema.specs.PathWords.{begins_with, written_steps, steps_within}
 use Rattle.nc_schema.specs.Tables.{Tables}
 use Rattle.nc_schema.specs.declared.pattern.Pattern.{Pattern}
@@ -15,6 +15,7 @@ use Rattle.nc_paths.specs.Apart.{HasKeysApart}
 use Rattle.nc_paths.specs.inner.Halting.{Halts}
 use Rattle.nc_paths.specs.inner.Going.{Reading, Steps}
 use Rattle.nc_paths.specs.inner.Candidates.{after_root}
+use Rattle.nc_paths.specs.inner.Leafrefs.{LeafrefPath}
 use Rattle.std.proofs.lemmas.Bool.Decides.{Decides-eqb}
 use Rattle.nc_paths.proofs.Names.{bind_some}
 use Rattle.nc_paths.proofs.Readings.{steps_are_read, steps_read}
@@ -218,3 +219,12 @@ module _ (tables : Tables) (bounds : List Bound) (apart : HasKeysApart tables) w
       by : (t : Bool) → eqb (length text - left) 0 ≡ t → PatternFault text (cond t (cond (begins_with slash text) 1 (length text - left)) (length text - left))
       by true e = slashed (begins_with slash text) refl ((Decides-eqb (length text - left) 0).0 e)
       by false e = plain (λ both. (let yes : eqb (length text - left) 0 ≡ true = (Decides-eqb (length text - left) 0).1 (long ∙ both.0) in let clash : true ≡ false = sym yes ∙ e in cc))
+
+-- ---- the paths of leafrefs
+pub leafref_fault : (tables : Tables) (bounds : List Bound) (leaf : ℕ) (text : List ℕ) (left : ℕ) → Halts (LeafrefPath (patterns tables bounds) leaf) text left → leafref_end tables leaf text bounds ≡ None → IsFaultAt (λ t. is_some (leafref_end tables leaf t bounds)) text (length text - left)
+leafref_fault tables bounds leaf text left halts none =
+    ends_there (λ t. is_some (leafref_end tables leaf t bounds)) (LeafrefPath (patterns tables bounds) leaf) text left halts of (ap is_some none) (λ c cs more e holds. inr holds)
+  where
+    of : (t : List ℕ) → t ≢ [] → LeafrefPath (patterns tables bounds) leaf t → is_some (leafref_end tables leaf t bounds) ≡ true
+    of t some (inl none) = absurd (some none)
+    of t some (inr passes) = passes

@@ -57,15 +57,6 @@ common_whole (a ∷ xs) (b ∷ ys) zs most = by (eqb a b) most (common_whole xs 
     by true h further = let rest = further (omega (arith, h)) in omega (arith, rest)
     by false h further = absurd (omega (arith, h))
 
-pub common_most : (xs ys : List ℕ) → common xs ys ≤ length xs
-common_most [] ys = omega arith
-common_most (x ∷ xs) [] = omega arith
-common_most (x ∷ xs) (y ∷ ys) = by (eqb x y) (common_most xs ys)
-  where
-    by : (b : Bool) → common xs ys ≤ length xs → cond b (suc (common xs ys)) 0 ≤ length (x ∷ xs)
-    by true h = omega (arith, h)
-    by false h = omega arith
-
 -- ---- the bindings that count
 far_filter : (s : Reading) (node : Node) (text : List ℕ) (bounds : List Bound) → far_among node text (filter (counts s.tables s.bounds) bounds) ≡ far_of_node s node text bounds
 far_filter s node text [] = refl

@@ -2,15 +2,16 @@
 use Rattle.std.proofs.Common.{◌≡◌, ◌≤◌, ℕ, Bool, true, false, cond, eqb, List, [], ◌∷◌, None, Result, Ok, IfOk, length, min, is_some, sym, ap, subst, ◌∙◌, arith}
 use Rattle.nc_names.specs.declared.name.Bound.{Bound}
 use Rattle.nc_names.specs.Signs.{slash}
-use Rattle.nc_schema.specs.InstancePaths.{IsFaultAt, instance_path, node_pattern}
+use Rattle.nc_schema.specs.InstancePaths.{IsFaultAt, instance_path, leafref_end, node_pattern}
 use Rattle.nc_schema.specs.Tables.{Tables}
 use Rattle.nc_paths.specs.Apart.{HasKeysApart}
 use Rattle.nc_paths.specs.Faults.{IsFaultNumber, OnBadPath, most_place}
 use Rattle.nc_paths.specs.declared.fault.PathFault.{PathFault}
 use Rattle.nc_paths.specs.declared.fault.PathFault.TheVariants.{BadPath, Memory}
 use Rattle.nc_paths.specs.inner.Candidates.{after_root}
+use Rattle.nc_paths.specs.inner.LeafrefPlaces.{IsLeafrefPlace}
 use Rattle.nc_paths.specs.inner.Places.{IsPlace}
-use Rattle.nc_paths.proofs.Ending.{instance_fault, instances, pattern_fault, patterns}
+use Rattle.nc_paths.proofs.Ending.{instance_fault, instances, leafref_fault, pattern_fault, patterns}
 
 abbrev pub IsOf : {E : Type 0} → Result ℕ E → PathFault → Type 0
 IsOf found fault = OnBadPath fault (λ at. (place : ℕ) × (found ≡ Ok place) × (at ≡ min place most_place))
@@ -36,9 +37,6 @@ root_within (c ∷ cs) at within = by (eqb at 0) (eqb c slash)
     by true false = within
     by false u = within
 
-pub plain_within : {E : Type 0} (n : ℕ) (found : Result ℕ E) (fault : PathFault) → IsOf found fault → IfOk found (λ at. at ≤ n) → OnBadPath fault (λ at. at ≤ n)
-plain_within n found fault is holds = at_fault (λ at. at ≤ n) (λ at. at ≤ n) found fault is holds (λ place at within e. omega (arith, within, e))
-
 pub instance_within : {E : Type 0} (tables : Tables) (bounds : List Bound) (text : List ℕ) (found : Result ℕ E) (fault : PathFault) → IsOf found fault → IfOk found (λ at. IsPlace (instances tables bounds) text at) → OnBadPath fault (λ at. at ≤ length text)
 instance_within tables bounds text found fault is holds =
     at_fault (IsPlace (instances tables bounds) text) (λ at. at ≤ length text) found fault is holds (λ place at placed e. (let within = place_within true tables bounds text place placed in omega (arith, within, e)))
@@ -60,3 +58,12 @@ pub pattern_place : {E : Type 0} (tables : Tables) (bounds : List Bound) (text :
 pattern_place tables bounds text found fault none is holds =
     at_fault (IsPatternPlace tables bounds text) (λ at. HasKeysApart tables → IsFaultNumber (λ other. is_some (node_pattern tables other bounds)) text at) found fault is holds
     (λ place at placed e apart. (place, subst (IsFaultAt (λ other. is_some (node_pattern tables other bounds)) text) (ap (after_root text) (sym placed.1.2) ∙ sym placed.2) (pattern_fault tables bounds apart text placed.1.0 placed.1.1 none), e))
+
+pub leafref_within : {E : Type 0} (tables : Tables) (bounds : List Bound) (leaf : ℕ) (text : List ℕ) (found : Result ℕ E) (fault : PathFault) → IsOf found fault → IfOk found (λ at. IsLeafrefPlace (patterns tables bounds) leaf text at) → OnBadPath fault (λ at. at ≤ length text)
+leafref_within tables bounds leaf text found fault is holds =
+    at_fault (IsLeafrefPlace (patterns tables bounds) leaf text) (λ at. at ≤ length text) found fault is holds (λ place at placed e. omega (arith, placed.2, e))
+
+pub leafref_place : {E : Type 0} (tables : Tables) (bounds : List Bound) (leaf : ℕ) (text : List ℕ) (found : Result ℕ E) (fault : PathFault) → leafref_end tables leaf text bounds ≡ None → IsOf found fault → IfOk found (λ at. IsLeafrefPlace (patterns tables bounds) leaf text at) → OnBadPath fault (λ at. IsFaultNumber (λ other. is_some (leafref_end tables leaf other bounds)) text at)
+leafref_place tables bounds leaf text found fault none is holds =
+    at_fault (IsLeafrefPlace (patterns tables bounds) leaf text) (λ at. IsFaultNumber (λ other. is_some (leafref_end tables leaf other bounds)) text at) found fault is holds
+    (λ place at placed e. (place, subst (IsFaultAt (λ other. is_some (leafref_end tables leaf other bounds)) text) (sym placed.2) (leafref_fault tables bounds leaf text placed.0 placed.1 none), e))

@@ -1,5 +1,5 @@
 -- Where readers stop, as they answer it.
-use Rattle.std.proofs.Common.{◌≡◌, ◌↔◌, ℕ, ◌<◌, Bool, true, false, eqb, IsTrue, List, [], ◌∷◌, Option, Some, None, length, Bor, refl, sym, ap, subst, ◌∙◌, arith}
+use Rattle.std.proofs.Common.{◌≡◌, ◌↔◌, ℕ, ◌<◌, Bool, true, false, eqb, IsTrue, List, [], ◌∷◌, Option, Some, None, Result, Ok, Err, IfOk, IfErr, length, Bor, refl, sym, ap, subst, ◌∙◌, arith}
 use Rattle.std.proofs.lemmas.Bool.Decides.{Decides-eqb}
 use Rattle.nc_names.specs.Signs.{equals, opening_bracket, closing_bracket}
 use Rattle.nc_schema.specs.PathWords.{after_white, quoted_string, sign}
@@ -20,6 +20,15 @@ halts_left L text n left e halts = subst (Halts L text) (sym e) halts
 pub on_led : (L M : List ℕ → Type 0) (text mid : List ℕ) (halt : Halt) → Leads L M text mid → OnHere halt (Halts M mid) → OnHere halt (Halts L text)
 on_led L M text mid (Here left) led halts = halts_on L M text mid left led halts
 on_led L M text mid Memory led halts = tt
+
+-- the same of what a reader of the rest answers
+pub ok_led : {A E : Type 0} (L M : List ℕ → Type 0) (text mid : List ℕ) (left : ℕ) (read : Result A E) → Leads L M text mid → IfOk read (λ done. Halts M mid left) → IfOk read (λ done. Halts L text left)
+ok_led L M text mid left (Ok done) led halts = halts_on L M text mid left led halts
+ok_led L M text mid left (Err e) led halts = tt
+
+pub err_led : {A : Type 0} (L M : List ℕ → Type 0) (text mid : List ℕ) (read : Result A Halt) → Leads L M text mid → IfErr read (λ halt. OnHere halt (Halts M mid)) → IfErr read (λ halt. OnHere halt (Halts L text))
+err_led L M text mid (Ok done) led halts = tt
+err_led L M text mid (Err halt) led halts = on_led L M text mid halt led halts
 
 pub reads_some : (o : Option (ℕ × Bor (List ℕ))) (x : ℕ × Bor (List ℕ)) (is : Option (ℕ × List ℕ)) → o ≡ Some x → ReadsNumber o is → is ≡ Some (x.0, x.1.now)
 reads_some o x is e reads = subst (λ (p : Option (ℕ × Bor (List ℕ))). ReadsNumber p is) e reads

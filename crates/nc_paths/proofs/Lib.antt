@@ -4,6 +4,7 @@ pub mod StepLemmas
 pub mod PatternLemmas
 pub mod LeafrefLemmas
 pub mod Cuts
+pub mod Farthest
 pub mod Names
 pub mod Naming
 pub mod Stages
@@ -13,6 +14,11 @@ pub mod Readings
 pub mod Below
 pub mod Ending
 pub mod FarLemmas
+pub mod DownLemmas
+pub mod WayLemmas
+pub mod MarkLemmas
+pub mod TurnLemmas
+pub mod LeafrefPlaces
 pub mod PlaceLemmas
 pub mod KeyLemmas
 pub mod FaultLemmas

@@ -49,7 +49,7 @@ all_lead (c ∷ cs) next e ends =
 begins_in : (c : ℕ) → begins_identifier c ≡ true → is_in_identifier c ≡ true
 begins_in c e = rw e refl
 
-identifier_passes : (name : List ℕ) → is_identifier name ≡ true → list_all is_in_identifier name ≡ true
+pub identifier_passes : (name : List ℕ) → is_identifier name ≡ true → list_all is_in_identifier name ≡ true
 identifier_passes [] e = cc
 identifier_passes (c ∷ cs) e =
     both_true (is_in_identifier c) (list_all is_in_identifier cs) (begins_in c (first_true (begins_identifier c) (list_all is_in_identifier cs) e)) (second_true (begins_identifier c) (list_all is_in_identifier cs) e)

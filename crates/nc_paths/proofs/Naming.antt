@@ -1,9 +1,7 @@
 -- The names of data nodes as they can be written, and how far a text is one.
-use Rattle.std.proofs.Common.{◌≡◌, ◌⊎◌, inl, inr, ℕ, suc, ◌<◌, ◌≤◌, ◌-◌, Bool, true, false, cond, eqb, ltb, ◌&&◌, List, [], ◌∷◌, ◌++◌, Option, Some, None, length, take, drop, max, is_some, slice_get, option_map, option_and_then, refl, sym, ap, subst, ◌∙◌, append_assoc, arith, ltb-true, ltb-false, find, take-append-drop, length-drop}
-use Rattle.std.proofs.lemmas.List.{length-take-le}
+use Rattle.std.proofs.Common.{◌≡◌, ◌⊎◌, inl, inr, ℕ, ◌≤◌, ◌-◌, Bool, true, false, cond, ◌&&◌, List, [], ◌∷◌, ◌++◌, Option, Some, None, length, max, is_some, slice_get, option_map, option_and_then, refl, sym, ap, subst, ◌∙◌, arith, find}
 use Rattle.std.specs.List.{list_any}
 use Rattle.std.specs.Option.{option_map_or}
-use Rattle.std.proofs.lemmas.Bool.Decides.{Decides-eqb}
 use Rattle.std.specs.Cmp.Lexicographic.{bytes_decides}
 use Rattle.nc_names.proofs.SameLemmas.{first_true, second_true, both_true}
 use Rattle.nc_names.specs.declared.name.Bound.{Bound}
@@ -20,12 +18,13 @@ use Rattle.nc_schema.specs.declared.node.Node.{Node}
 use Rattle.nc_schema.specs.declared.written.WrittenName.{WrittenName}
 use Rattle.nc_paths.specs.inner.Going.{Reading}
 use Rattle.nc_paths.specs.inner.Candidates.{counts, spells, spelling, is_nameable, is_named, common, far_of_node, far_of, farthest}
+use Rattle.nc_paths.proofs.Farthest.{IsFarthest, StopsWord, max_is, stops_word}
 use Rattle.nc_paths.proofs.Names.{In, Ends, any_in, in_any, bind_some, map_some, map_or_true, map_or_some, wording, name_cut, name_again}
 
-same_text : (a b : List ℕ) → is_same_text a b ≡ true → a ≡ b
+pub same_text : (a b : List ℕ) → is_same_text a b ≡ true → a ≡ b
 same_text a b e = (bytes_decides a b).0 e
 
-text_itself : (a b : List ℕ) → a ≡ b → is_same_text a b ≡ true
+pub text_itself : (a b : List ℕ) → a ≡ b → is_same_text a b ≡ true
 text_itself a b e = (bytes_decides a b).1 e
 
 found_step : {X : Type 0} (p : X → Bool) (y x : X) (ys : List X) (b : Bool) → p y ≡ b → (find p ys ≡ Some x → (p x ≡ true) × In x ys) → cond b (Some y) (find p ys) ≡ Some x → (p x ≡ true) × In x (y ∷ ys)
@@ -136,37 +135,6 @@ named_is_nameable s number w prefix proper e =
     map_or_some (λ (n : Node). list_any (spells s n) s.bounds) (slice_get s.tables.nodes number) false is.node is.node_is ∙ in_any (spells s is.node) s.bounds is.bound is.at (written_spells s number w prefix proper is)
 
 -- ---- how far
-common_most : (xs ys : List ℕ) → common xs ys ≤ length xs
-common_most [] ys = omega arith
-common_most (x ∷ xs) [] = omega arith
-common_most (x ∷ xs) (y ∷ ys) = by (eqb x y) (common_most xs ys)
-  where
-    by : (b : Bool) → common xs ys ≤ length xs → cond b (suc (common xs ys)) 0 ≤ length (x ∷ xs)
-    by true h = omega (arith, h)
-    by false h = omega arith
-
-common_take : (xs ys : List ℕ) → take (common xs ys) xs ≡ take (common xs ys) ys
-common_take [] [] = refl
-common_take [] (y ∷ ys) = refl
-common_take (x ∷ xs) [] = refl
-common_take (x ∷ xs) (y ∷ ys) = by (eqb x y) refl (common_take xs ys)
-  where
-    by : (b : Bool) → eqb x y ≡ b → take (common xs ys) xs ≡ take (common xs ys) ys → take (cond b (suc (common xs ys)) 0) (x ∷ xs) ≡ take (cond b (suc (common xs ys)) 0) (y ∷ ys)
-    by true same h = let head : x ≡ y = (Decides-eqb x y).0 same in λ i. head i ∷ h i
-    by false same h = refl
-
--- both begin so
-common_least : (front : List ℕ) (c : ℕ) (xs ys : List ℕ) → length front < common (front ++ c ∷ xs) (front ++ c ∷ ys)
-common_least [] c xs ys = rw ((Decides-eqb c c).1 refl) (omega arith)
-common_least (d ∷ front) c xs ys = rw ((Decides-eqb d d).1 refl) (let further = common_least front c xs ys in omega (arith, further))
-
-max_is : (a b : ℕ) → (max a b ≡ a) ⊎ (max a b ≡ b)
-max_is a b = by (ltb a b) refl
-  where
-    by : (t : Bool) → ltb a b ≡ t → (max a b ≡ a) ⊎ (max a b ≡ b)
-    by true e = let less = ltb-true a b e in inr (omega (arith, less))
-    by false e = let more = ltb-false a b e in inl (omega (arith, more))
-
 far_node_least : (s : Reading) (node : Node) (text : List ℕ) (bounds : List Bound) (bound : Bound) → In bound bounds → spells s node bound ≡ true → common text (spelling node bound) ≤ far_of_node s node text bounds
 far_node_least s node text [] bound at e = absurd at
 far_node_least s node text (b ∷ bounds) bound (inl same) e =
@@ -193,6 +161,30 @@ far_node_there s node text (b ∷ bounds) = by (max_is (cond (spells s node b) (
     by : {a r : ℕ} → (max a r ≡ a) ⊎ (max a r ≡ r) → IsFarNode s node text (b ∷ bounds) a → IsFarNode s node text (b ∷ bounds) r → IsFarNode s node text (b ∷ bounds) (max a r)
     by (inl e) one two = subst (IsFarNode s node text (b ∷ bounds)) (sym e) one
     by (inr e) one two = subst (IsFarNode s node text (b ∷ bounds)) (sym e) two
+
+-- of one node
+pub far_of_least : (s : Reading) (text : List ℕ) (number : ℕ) (w : WrittenName) → CanBeWritten s number w → common text (wording w) ≤ far_of s text number
+far_of_least s text number w can =
+    let writes = named_is_written s number w can.named in
+    let spelled = written_spells s number w can.prefix can.name writes in
+    let spell : spelling writes.node writes.bound ≡ wording w = (λ i. writes.prefix i ++ colon ∷ writes.name i) in
+    let it : far_of s text number ≡ far_of_node s writes.node text s.bounds = map_or_some (λ (x : Node). far_of_node s x text s.bounds) (slice_get s.tables.nodes number) 0 writes.node writes.node_is in
+    let least = subst (λ (x : List ℕ). common text x ≤ far_of_node s writes.node text s.bounds) spell (far_node_least s writes.node text s.bounds writes.bound writes.at spelled) in
+    omega (arith, it, least)
+
+abbrev pub IsFarOf : Reading → List ℕ → ℕ → ℕ → Type 0
+IsFarOf s text number far = (far ≡ 0) ⊎ ((w : WrittenName) × CanBeWritten s number w × (far ≡ common text (wording w)))
+
+pub far_of_there : (s : Reading) (text : List ℕ) (number : ℕ) → IsFarOf s text number (far_of s text number)
+far_of_there s text number = by (slice_get s.tables.nodes number) refl
+  where
+    found : (node : Node) → slice_get s.tables.nodes number ≡ Some node → IsFarNode s node text s.bounds (far_of_node s node text s.bounds) → IsFarOf s text number (far_of_node s node text s.bounds)
+    found node e (inl none) = inl none
+    found node e (inr (b, at, spelled, far)) = inr (by_name node b, spells_is_named s number node b e at spelled, far)
+
+    by : (o : Option Node) → slice_get s.tables.nodes number ≡ o → IsFarOf s text number (option_map_or (λ node. far_of_node s node text s.bounds) o 0)
+    by None e = inl refl
+    by (Some node) e = found node e (far_node_there s node text s.bounds)
 
 pub far_least : (s : Reading) (text : List ℕ) (among : List ℕ) (number : ℕ) (node : Node) (bound : Bound) → In number among → slice_get s.tables.nodes number ≡ Some node → In bound s.bounds → spells s node bound ≡ true → common text (spelling node bound) ≤ farthest s text among
 far_least s text [] number node bound among node_is at e = absurd among
@@ -225,13 +217,6 @@ far_there s text (n ∷ ns) = by (max_is (far_of s text n) (farthest s text ns))
     by (inl e) one two = subst (IsFar s text (n ∷ ns)) (sym e) one
     by (inr e) one two = subst (IsFar s text (n ∷ ns)) (sym e) two
 
-pub far_most : (s : Reading) (text among : List ℕ) → farthest s text among ≤ length text
-far_most s text among = by (far_there s text among)
-  where
-    by : IsFar s text among (farthest s text among) → farthest s text among ≤ length text
-    by (inl none) = omega (arith, none)
-    by (inr (number, node, b, among, node_is, at, spelled, e)) = omega (arith, e, common_most text (spelling node b))
-
 -- ---- where a text stops to be the name of one of the nodes
 pub record StopsName (s : Reading) (among text : List ℕ) (left : ℕ) : Type 0 where
   pub front : List ℕ
@@ -241,69 +226,42 @@ pub record StopsName (s : Reading) (among text : List ℕ) (left : ℕ) : Type 0
   pub begun : (front ≡ []) ⊎ ((number : ℕ) × (w : WrittenName) × (more : List ℕ) × In number among × CanBeWritten s number w × (front ++ more ≡ wording w))
   pub there : (c : ℕ) (cs next : List ℕ) (found : WrittenName × List ℕ) (number : ℕ) → rest ≡ c ∷ cs → written_name (front ++ c ∷ next) ≡ Some found → In number among → is_named s number found.0 ≡ true → ⊥
 
--- where two texts begin alike, one goes on as the other does up to a sign, or it ends before
-abbrev Meets : List ℕ → ℕ → List ℕ → List ℕ → List ℕ → Type 0
-Meets front c next u rest =
-    ((more : List ℕ) × (u ≡ front ++ c ∷ more)) ⊎ ((less : List ℕ) × (front ≡ u ++ less) × (rest ≡ less ++ c ∷ next))
-
-meets : (front : List ℕ) (c : ℕ) (next u rest : List ℕ) → front ++ c ∷ next ≡ u ++ rest → Meets front c next u rest
-meets [] c next [] rest e = inr ([], refl, sym e)
-meets [] c next (d ∷ u) rest e = let same : c ≡ d = cc in inl (u, λ i. sym same i ∷ u)
-meets (d ∷ front) c next [] rest e = inr (d ∷ front, refl, sym e)
-meets (d ∷ front) c next (b ∷ u) rest e = by (meets front c next u rest cc)
-  where
-    same : d ≡ b
-    same = cc
-
-    by : Meets front c next u rest → Meets (d ∷ front) c next (b ∷ u) rest
-    by (inl more) = inl (more.0, λ i. sym same i ∷ more.1 i)
-    by (inr less) = inr (less.0, (λ i. same i ∷ less.1 i), less.2)
-
 module _ (s : Reading) (among text : List ℕ)
     (failed : (found : WrittenName × List ℕ) (number : ℕ) → written_name text ≡ Some found → In number among → is_named s number found.0 ≡ true → ⊥) where
-  far : ℕ
-  far = farthest s text among
+  -- the name of one of the nodes
+  abbrev IsNameOf : List ℕ → Type 0
+  IsNameOf u = (number : ℕ) × (w : WrittenName) × In number among × CanBeWritten s number w × (u ≡ wording w)
 
-  begun_by : IsFar s text among (farthest s text among) → (take (farthest s text among) text ≡ []) ⊎ ((number : ℕ) × (w : WrittenName) × (more : List ℕ) × In number among × CanBeWritten s number w × (take (farthest s text among) text ++ more ≡ wording w))
-  begun_by (inl none) = inl (ap (λ k. take k text) none)
-  begun_by (inr (number, node, b, among_it, node_is, at, spelled, e)) =
-      let u : List ℕ = spelling node b in
-      let fronts : take (farthest s text among) text ≡ take (common text u) u = ap (λ k. take k text) e ∙ common_take text u in
-      inr (number, by_name node b, drop (common text u) u, among_it, spells_is_named s number node b node_is at spelled, ap (λ x. x ++ drop (common text u) u) fronts ∙ take-append-drop (common text u) u)
+  name_least : (u : List ℕ) → IsNameOf u → common text u ≤ farthest s text among
+  name_least u (number, w, within, can, e) =
+      let writes = named_is_written s number w can.named in
+      let spelled = written_spells s number w can.prefix can.name writes in
+      let spell : spelling writes.node writes.bound ≡ u = (λ i. writes.prefix i ++ colon ∷ writes.name i) ∙ sym e in
+      subst (λ (x : List ℕ). common text x ≤ farthest s text among) spell (far_least s text among number writes.node writes.bound within writes.node_is writes.at spelled)
 
-  none_there : (front rest : List ℕ) → text ≡ front ++ rest → length front ≡ farthest s text among → (c : ℕ) (cs next : List ℕ) (found : WrittenName × List ℕ) (number : ℕ) → rest ≡ c ∷ cs → written_name (front ++ c ∷ next) ≡ Some found → In number among → is_named s number found.0 ≡ true → ⊥
-  none_there front rest is long c cs next found number e reads among_it named =
-      let cut = name_cut (front ++ c ∷ next) found.0 found.1 reads in
-      let writes = named_is_written s number found.0 named in
-      let spelled = written_spells s number found.0 cut.prefix cut.name writes in
-      let u : List ℕ = wording found.0 in
-      let spell : spelling writes.node writes.bound ≡ u = (λ i. writes.prefix i ++ colon ∷ writes.name i) in
-      let least = far_least s text among number writes.node writes.bound among_it writes.node_is writes.at spelled in
-      let whole : text ≡ front ++ c ∷ cs = is ∙ ap (λ x. front ++ x) e in
-      by cut.ends whole (subst (λ (x : List ℕ). common text x ≤ farthest s text among) spell least) (meets front c next u found.1 cut.is)
-    where
-      last : (less : List ℕ) → Ends (less ++ c ∷ next) → Ends (less ++ c ∷ cs)
-      last [] ends = ends
-      last (d ∷ less) ends = ends
+  name_farthest : IsFar s text among (farthest s text among) → IsFarthest IsNameOf text (farthest s text among)
+  name_farthest (inl none) = inl none
+  name_farthest (inr (number, node, b, within, node_is, at, spelled, e)) =
+      inr (spelling node b, (number, by_name node b, within, spells_is_named s number node b node_is at spelled, refl), e)
 
-      by : Ends found.1 → text ≡ front ++ c ∷ cs → common text (wording found.0) ≤ farthest s text among → Meets front c next (wording found.0) found.1 → ⊥
-      by ends whole least (inl more) =
-          let both : common text (wording found.0) ≡ common (front ++ c ∷ cs) (front ++ c ∷ more.0) = (λ i. common (whole i) (more.1 i)) in
-          omega (arith, both, least, long, common_least front c cs more.0)
-      by ends whole least (inr less) =
-          let joined : text ≡ wording found.0 ++ (less.0 ++ c ∷ cs) = whole ∙ ap (λ x. x ++ c ∷ cs) less.1 ∙ append_assoc (wording found.0) less.0 (c ∷ cs) in
-          let stops : Ends (less.0 ++ c ∷ cs) = last less.0 (subst Ends less.2 ends) in
-          failed (found.0, less.0 ++ c ∷ cs) number (ap written_name joined ∙ name_again (front ++ c ∷ next) found.0 found.1 (less.0 ++ c ∷ cs) reads stops) among_it named
+  stop : StopsWord IsNameOf text (length text - farthest s text among)
+  stop = stops_word IsNameOf text (farthest s text among) name_least (name_farthest (far_there s text among))
+
+  begins : (stop.front ≡ []) ⊎ ((u : List ℕ) × (more : List ℕ) × IsNameOf u × (stop.front ++ more ≡ u)) → (stop.front ≡ []) ⊎ ((number : ℕ) × (w : WrittenName) × (more : List ℕ) × In number among × CanBeWritten s number w × (stop.front ++ more ≡ wording w))
+  begins (inl none) = inl none
+  begins (inr (u, more, (number, w, within, can, e), joined)) = inr (number, w, more, within, can, joined ∙ e)
+
+  last : (less : List ℕ) (c : ℕ) (cs next : List ℕ) → Ends (less ++ c ∷ next) → Ends (less ++ c ∷ cs)
+  last [] c cs next ends = ends
+  last (d ∷ less) c cs next ends = ends
+
+  none_there : (c : ℕ) (cs next : List ℕ) (found : WrittenName × List ℕ) (number : ℕ) → stop.rest ≡ c ∷ cs → written_name (stop.front ++ c ∷ next) ≡ Some found → In number among → is_named s number found.0 ≡ true → ⊥
+  none_there c cs next found number e reads within named =
+      let cut = name_cut (stop.front ++ c ∷ next) found.0 found.1 reads in
+      let word : IsNameOf (wording found.0) = (number, found.0, within, record { named = named; prefix = cut.prefix; name = cut.name }, refl) in
+      let (less, back, whole) = stop.there c cs next (wording found.0) found.1 e word cut.is in
+      let ends : Ends (less ++ c ∷ cs) = last less c cs next (subst Ends back cut.ends) in
+      failed (found.0, less ++ c ∷ cs) number (ap written_name whole ∙ name_again (stop.front ++ c ∷ next) found.0 found.1 (less ++ c ∷ cs) reads ends) within named
 
   pub stops_name : StopsName s among text (length text - farthest s text among)
-  stops_name = record {
-    front = take (farthest s text among) text;
-    rest = drop (farthest s text among) text;
-    is = sym (take-append-drop (farthest s text among) text);
-    long = length-drop (farthest s text among) text;
-    begun = begun_by (far_there s text among);
-    there = none_there (take (farthest s text among) text) (drop (farthest s text among) text) (sym (take-append-drop (farthest s text among) text)) taken;
-  }
-    where
-      taken : length (take (farthest s text among) text) ≡ farthest s text among
-      taken = let most = far_most s text among in omega (arith, most, length-take-le (farthest s text among) text most)
+  stops_name = record { front = stop.front; rest = stop.rest; is = stop.is; long = stop.long; begun = begins stop.begun; there = none_there }

@@ -7,4 +7,6 @@ pub mod Halting
 pub mod Candidates
 pub mod Places
 pub mod Counted
-pub mod LeafrefWords
+pub mod Leafrefs
+pub mod LeafrefNames
+pub mod LeafrefPlaces

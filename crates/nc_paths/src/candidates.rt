@@ -1,8 +1,6 @@
 //! The names that can be written at a place of a path text, and how far a text is one of them.
 ghost use Rattle.std.specs.Prelude.{◌≡◌, ◌≤◌, ◌++◌, ◌∷◌, ◌&&◌, Some, length, filter, IfOk};
 ghost use Rattle.std.specs.List.{list_any, list_all};
-ghost use Rattle.nc_names.specs.Identifiers as identifiers;
-ghost use Rattle.nc_names.specs.Same.{is_same_text};
 ghost use Rattle.nc_names.specs.Signs.{colon};
 ghost use Rattle.nc_paths.specs.inner.Candidates as candidates;
 ghost use Rattle.nc_paths.specs.inner.Counted.{HasUsable, reading_of};
@@ -147,8 +145,8 @@ fn far_among(node: &Node, text: &[u8], bounds: &[Bound]) -> usize
     far
 }
 
-// How far a text is the name of the data node.
-fn far_of(names: &Names<'_>, text: &[u8], number: u32) -> usize
+/// How far a text is the name of the data node.
+pub(crate) fn far_of(names: &Names<'_>, text: &[u8], number: u32) -> usize
     requires { HasUsable names.now }
     ensures { result ≡ candidates.far_of (reading_of names.now) text.now number }
 {
@@ -182,8 +180,8 @@ fn any_fits(node: &Node, bounds: &[Bound]) -> bool
     false
 }
 
-// Whether the name of the data node can be written.
-fn is_nameable(names: &Names<'_>, number: u32) -> bool
+/// Whether the name of the data node can be written.
+pub(crate) fn is_nameable(names: &Names<'_>, number: u32) -> bool
     requires { HasUsable names.now }
     ensures { result ≡ candidates.is_nameable (reading_of names.now) number }
 {
@@ -253,6 +251,16 @@ fn is_number(found: Option<u32>, number: u32) -> bool
     }
 }
 
+/// Whether the name of the data node, from there, is that of the data node itself.
+pub(crate) fn stands(schema: &Schema, above: Option<u32>, number: u32) -> bool
+    ensures { result ≡ candidates.stands schema.now above number }
+{
+    match schema.node(number) {
+        Some(node) => is_number(schema.child(above, &node.name), number),
+        None => false,
+    }
+}
+
 /// Whether the data node stands there, and a path can end at it.
 pub(crate) fn can_end(
     alloc: Global,
@@ -263,10 +271,7 @@ pub(crate) fn can_end(
     requires { HasUsable names.now }
     ensures { IfOk result (λ it. it ≡ candidates.can_end (reading_of names.now) above number) }
 {
-    let Some(node) = names.schema.node(number) else {
-        return Ok(false);
-    };
-    if !is_number(names.schema.child(above, &node.name), number) {
+    if !stands(names.schema, above, number) {
         return Ok(false);
     }
     if !is_nameable(names, number) {

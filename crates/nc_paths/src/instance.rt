@@ -228,6 +228,8 @@ pub fn leafref_path<B: Binds>(
     ensures bad { IfErr result (λ fault. OnBadPath fault (λ at. paths.leafref_end schema.now leaf text.now
         (B.bound bounds.now) ≡ None)) }
     ensures within { IfErr result (λ fault. OnBadPath fault (λ at. at ≤ length text.now)) }
+    ensures place { IfErr result (λ fault. OnBadPath fault (λ at. IsFaultNumber (λ other. is_some
+        (paths.leafref_end schema.now leaf other (B.bound bounds.now))) text.now at)) }
 {
     match leafref_end(alloc, schema, leaf, text, bounds)? {
         Some(end) => Ok(end),

@@ -1,8 +1,8 @@
 //! The paths of leafrefs (RFC 7950 9.9.2).
-ghost use Rattle.std.specs.Prelude.{◌≡◌, ◌==◌, ◌∷◌, None, Some, IfOk, IfErr, option_copied, option_and_then};
+ghost use Rattle.std.specs.Prelude.{◌≡◌, ◌==◌, ◌∷◌, None, Some, IfOk, IfErr, option_copied};
 ghost use Rattle.std.specs.List.{slice_split};
 ghost use Rattle.nc_names.specs.Signs.{slash};
-ghost use Rattle.nc_paths.specs.inner.Parts.{parts_of};
+ghost use Rattle.nc_paths.specs.inner.Parts.{IsNext, parts_of};
 ghost use Rattle.nc_paths.specs.inner.Stops.{OnRefused};
 ghost use Rattle.nc_schema.specs.InstancePaths as paths;
 
@@ -15,10 +15,12 @@ use nc_names::{Binds, Copies, QName, Text, is_identifier};
 use nc_schema::{Kind, LeafrefEnd, Schema};
 use std::alloc::Global;
 
-// What stands before the next slash, and the text after it, where there is one.
+/// What stands before the next slash, and the text after it, where there is one.
 #[tactic(auto, using(crate::proofs::LeafrefLemmas::part_cut, crate::proofs::LeafrefLemmas::part_last))]
-fn next_part(text: &str) -> (&str, Option<&str>)
-    ensures { slice_split (λ c. c == slash) text.now ≡ result.0.now ∷ parts_of (option_copied result.1) }
+pub(crate) fn next_part(text: &str) -> (&str, Option<&str>)
+    ensures parts { slice_split (λ c. c == slash) text.now ≡ result.0.now ∷ parts_of (option_copied
+        result.1) }
+    ensures next { IsNext text.now result.0.now (option_copied result.1) }
 {
     match up_to(text, '/') {
         Some((part, rest)) => (part, Some(rest)),
@@ -26,8 +28,8 @@ fn next_part(text: &str) -> (&str, Option<&str>)
     }
 }
 
-// The name of a step: `prefix:name`, or `name` in that namespace.
-fn leafref_name<B: Binds>(
+/// The name of a step: `prefix:name`, or `name` in that namespace.
+pub(crate) fn leafref_name<B: Binds>(
     alloc: Global,
     schema: &Schema,
     space: &Text,

@@ -1,203 +1,291 @@
 //! The place at which a text stops to be the beginning of a leafref path: it is looked for after a refusal
 //! alone.
-ghost use Rattle.std.specs.Prelude.{◌≡◌, ◌≤◌, length, IfOk};
+ghost use Rattle.std.specs.Prelude.{◌≡◌, None, Some, true, false, length, IfOk, IfErr, MatchOption};
+ghost use Rattle.nc_names.specs.Signs.{dot};
+ghost use Rattle.nc_paths.specs.inner.Candidates as candidates;
+ghost use Rattle.nc_paths.specs.inner.Counted.{OnHere, reading_of};
+ghost use Rattle.nc_paths.specs.inner.Halting.{Halts};
+ghost use Rattle.nc_paths.specs.inner.LeafrefNames as spelled;
+ghost use Rattle.nc_paths.specs.inner.LeafrefPlaces as places;
+ghost use Rattle.nc_paths.specs.inner.Leafrefs as leafrefs;
+ghost use Rattle.nc_schema.specs.PathWords as words;
 
-use crate::candidates::usable;
-use crate::leafref::parent_of;
-use crate::leafref_words::{
-    Halt, Names, after_sign, has_word, is_in_space, is_usable, locals_of, named, place_of,
-    prefixes_of, space_of, word,
-};
-use nc_names::{Binds, Many, Memory, Text};
-use nc_schema::{Kind, Schema};
+use crate::candidates::{common, far_of, names_of, stands};
+use crate::cut::{after_byte, begins_with};
+use crate::halt::Halt;
+use crate::leafref::{leafref_name, next_part, parent_of};
+use crate::leafref_ways::{Ways, goes_down, is_own, is_writable, leads, marks_of};
+use crate::stop::Stop;
+use nc_names::{Binds, Memory, Text};
+use nc_schema::Schema;
 use std::alloc::Global;
 
-// Whether the data node has a value.
-fn has_value(schema: &Schema, number: u32) -> bool {
+// How far a text is the name of the data node without a prefix.
+fn far_own(schema: &Schema, own: &Text, text: &[u8], number: u32) -> usize
+    ensures { result ≡ spelled.far_own schema.now own.now text.now number }
+{
+    if !is_own(schema, own, number) {
+        return 0;
+    }
     match schema.node(number) {
-        Some(node) => match node.kind {
-            Kind::Leaf | Kind::LeafList => true,
-            Kind::Container { .. } | Kind::List => false,
-        },
-        None => false,
+        Some(node) => common(text, node.name.name.as_str().as_bytes()),
+        None => 0,
     }
 }
 
-// Whether the name of a data node can be written, with or without a prefix.
-fn is_nameable(names: &Names<'_>, own: &Text, number: u32) -> bool {
-    is_in_space(names.schema, number, own) || is_usable(names, number)
-}
-
-// Whether names lead down from a data node to another.
-fn is_below(names: &Names<'_>, own: &Text, lower: u32, number: u32) -> bool {
-    let mut here = lower;
-    for turn in 0..names.schema.nodes() {
-        if !is_nameable(names, own, here) {
-            return false;
-        }
-        if here == number {
-            return true;
-        }
-        let Some(above) = parent_of(names.schema, here) else {
-            return false;
-        };
-        here = above;
+// Whether a name leads from there to the data node, and a path can end at it or below it.
+fn is_way(ways: &Ways<'_>, above: Option<u32>, number: u32) -> bool
+    requires { places.AreWays ways.now }
+    ensures { result ≡ spelled.is_way (reading_of ways.now.names) ways.now.own.now ways.now.marks above
+        number }
+{
+    if !stands(ways.names.schema, above, number) {
+        return false;
     }
-    false
+    if !is_writable(&ways.names, ways.own, number) {
+        return false;
+    }
+    leads(ways.names.schema, ways.marks.as_slice(), number)
 }
 
-// Whether names lead down from a data node to one with a value.
-fn leads(names: &Names<'_>, own: &Text, number: u32) -> bool {
-    for lower in 0..names.schema.nodes() {
-        if has_value(names.schema, lower) && is_below(names, own, lower, number) {
-            return true;
+// How far a text is the name of the data node.
+fn far_name(ways: &Ways<'_>, text: &[u8], number: u32) -> usize
+    requires { places.AreWays ways.now }
+    ensures { result ≡ spelled.far_name (reading_of ways.now.names) ways.now.own.now text.now number }
+{
+    let own = far_own(ways.names.schema, ways.own, text, number);
+    own.max(far_of(&ways.names, text, number))
+}
+
+// How far a text is a name that leads from there.
+#[tactic(auto, using(crate::proofs::WayLemmas::far_next, crate::proofs::WayLemmas::far_skip))]
+fn far_way(ways: &Ways<'_>, above: Option<u32>, text: &[u8]) -> usize
+    requires { places.AreWays ways.now }
+    ensures { result ≡ spelled.far_way (reading_of ways.now.names) ways.now.own.now ways.now.marks above
+        text.now (length ways.now.names.schema.now.nodes) }
+{
+    let mut far = 0;
+    for number in 0..ways.names.schema.nodes() {
+        if is_way(ways, above, number) {
+            far = far.max(far_name(ways, text, number));
         }
     }
-    false
+    far
 }
 
-// The data nodes there from which names lead to a value.
-fn choices(
+// The data node to which a name leads, if a path can end at it or below it.
+fn way(
     alloc: Global,
-    names: &Names<'_>,
-    own: &Text,
+    ways: &Ways<'_>,
     above: Option<u32>,
-) -> Result<Many<u32>, Memory> {
-    let mut out = Many::new(alloc);
-    for number in 0..names.schema.nodes() {
-        if parent_of(names.schema, number) == above && leads(names, own, number) {
-            out.push(number)?;
-        }
-    }
-    Ok(out)
-}
-
-// Whether a path goes on from there, down or up.
-fn goes_on(
-    alloc: Global,
-    names: &Names<'_>,
-    own: &Text,
-    above: Option<u32>,
-) -> Result<bool, Memory> {
-    let mut here = above;
-    for turn in 0..names.schema.nodes() {
-        if !choices(alloc, names, own, here)?.is_empty() {
-            return Ok(true);
-        }
-        let Some(number) = here else {
-            return Ok(false);
-        };
-        here = parent_of(names.schema, number);
-    }
-    Ok(false)
-}
-
-// The name of one of the data nodes, with or without a prefix.
-fn leafref_name<'a>(
-    alloc: Global,
-    names: &Names<'_>,
-    own: &Text,
-    among: &[u32],
-    text: &'a [u8],
-) -> Result<(u32, &'a [u8]), Halt<'a>> {
-    let prefixes = prefixes_of(alloc, names, among)?;
-    let mut words = locals_of(alloc, names.schema, among, own)?;
-    for prefix in prefixes.as_slice() {
-        words.push(Text::from_text(alloc, prefix.as_str())?)?;
-    }
-    let (run, rest) = word(text, words.as_slice())?;
-    if rest.first() == Some(&b':') && has_word(prefixes.as_slice(), run) {
-        return prefixed(alloc, names, among, run, rest);
-    }
-    match named(names.schema, among, own, run) {
-        Some(number) => Ok((number, rest)),
-        None => Err(Halt::Here(rest)),
-    }
-}
-
-// What stands after a prefix.
-fn prefixed<'a>(
-    alloc: Global,
-    names: &Names<'_>,
-    among: &[u32],
-    prefix: &[u8],
-    text: &'a [u8],
-) -> Result<(u32, &'a [u8]), Halt<'a>> {
-    let rest = after_sign(text, b':')?;
-    let Some(space) = space_of(names, prefix) else {
-        return Err(Halt::Here(text));
+    part: &str,
+) -> Result<Option<u32>, Memory>
+    ensures { IfOk result (λ it. it ≡ spelled.way (reading_of ways.now.names) ways.now.own.now
+        ways.now.marks above part.now) }
+{
+    let schema = ways.names.schema;
+    let name = match leafref_name(alloc, schema, ways.own, &ways.names.every, part) {
+        Ok(name) => name,
+        Err(Stop::Refused) => return Ok(None),
+        Err(Stop::Memory) => return Err(Memory),
     };
-    let locals = locals_of(alloc, names.schema, among, space)?;
-    let (local, rest) = word(rest, locals.as_slice())?;
-    match named(names.schema, among, space, local) {
-        Some(number) => Ok((number, rest)),
-        None => Err(Halt::Here(rest)),
+    let Some(number) = schema.child(above, &name) else {
+        return Ok(None);
+    };
+    if leads(schema, ways.marks.as_slice(), number) {
+        Ok(Some(number))
+    } else {
+        Ok(None)
     }
 }
 
-// Where names that lead down stop.
-fn down<'a>(
+// A name and the slash after it: its data node, and the text after the slash.
+fn name_step<'a>(
     alloc: Global,
-    names: &Names<'_>,
-    own: &Text,
+    ways: &Ways<'_>,
     above: Option<u32>,
-    text: &'a [u8],
-) -> Result<&'a [u8], Halt<'a>> {
-    let mut among = choices(alloc, names, own, above)?;
-    let mut rest = text;
-    for turn in 0..text.len() {
-        let (number, after) = leafref_name(alloc, names, own, among.as_slice(), rest)?;
-        among = choices(alloc, names, own, Some(number))?;
-        if among.is_empty() {
-            return Err(Halt::Here(after));
-        }
-        rest = after_sign(after, b'/')?;
+    text: &'a str,
+) -> Result<(u32, &'a str), Halt>
+    requires ways { places.AreWays ways.now }
+    requires goes { spelled.goes_down ways.now.marks above ≡ true }
+    ensures ok { IfOk result (λ found. places.IsNameStep ways.now above text.now found.0 found.1.now) }
+    ensures here { IfErr result (λ halt. OnHere halt (Halts (places.Downs ways.now above) text.now)) }
+{
+    let (part, more) = next_part(text);
+    let Some(number) = way(alloc, ways, above, part)? else {
+        let far = far_way(ways, above, text.as_bytes());
+        return Err(Halt::Here(text.len().saturating_sub(far)));
+    };
+    let Some(rest) = more else {
+        return Err(Halt::Here(0));
+    };
+    if goes_down(ways.marks.as_slice(), Some(number)) {
+        Ok((number, rest))
+    } else {
+        Err(Halt::Here(text.len().saturating_sub(part.len())))
     }
-    Ok(rest)
 }
 
-// Where a path stops that begins with `..`, which leads to that node.
-fn up<'a>(
-    alloc: Global,
-    names: &Names<'_>,
-    own: &Text,
-    first: Option<u32>,
-    text: &'a [u8],
-) -> Result<&'a [u8], Halt<'a>> {
-    let mut next = first;
+// All names of a text that leads down.
+fn names_down(alloc: Global, ways: &Ways<'_>, first: Option<u32>, text: &str) -> Result<(), Halt>
+    requires ways { places.AreWays ways.now }
+    requires goes { spelled.goes_down ways.now.marks first ≡ true }
+    ensures ok { IfOk result (λ done. Halts (places.Downs ways.now first) text.now 0) }
+    ensures here { IfErr result (λ halt. OnHere halt (Halts (places.Downs ways.now first) text.now)) }
+{
+    let mut above = first;
     let mut rest = text;
-    for turn in 0..text.len() {
-        if !goes_on(alloc, names, own, next)? {
-            return Err(Halt::Here(rest));
-        }
-        let after = after_sign(after_sign(after_sign(rest, b'.')?, b'.')?, b'/')?;
-        if after.first() != Some(&b'.') {
-            return down(alloc, names, own, next, after);
-        }
-        let Some(number) = next else {
-            return Err(Halt::Here(after));
-        };
-        next = parent_of(names.schema, number);
+    while !rest.is_empty() {
+        let (number, after) = name_step(alloc, ways, above, rest)?;
+        above = Some(number);
         rest = after;
     }
-    Ok(rest)
+    Ok(())
 }
 
-// Where a leafref path stops.
-fn stops<'a>(
+// Whether a path goes on after `../` that led to the node.
+fn is_open(ways: &Ways<'_>, above: Option<u32>) -> bool
+    requires { places.AreWays ways.now }
+    ensures yes { result ≡ true → places.Opens ways.now above }
+    ensures no { result ≡ false → places.Opens ways.now above → ⊥ }
+{
+    let mut here = above;
+    while let Some(number) = here {
+        if goes_down(ways.marks.as_slice(), here) {
+            return true;
+        }
+        here = parent_of(ways.names.schema, number);
+    }
+    goes_down(ways.marks.as_slice(), None)
+}
+
+// The text after `../`.
+fn after_up(text: &str) -> Option<&str>
+    ensures { MatchOption result (places.after_up text.now ≡ None) (λ rest. places.after_up text.now ≡ Some
+        rest.now) }
+{
+    after_byte(after_byte(after_byte(text, b'.')?, b'.')?, b'/')
+}
+
+// How far a text is `../`.
+fn far_up(text: &[u8]) -> usize
+    ensures { result ≡ candidates.common text.now leafrefs.up }
+{
+    common(text, b"../")
+}
+
+// The node to which `../` leads from one, and the text after it.
+fn rise<'a>(
+    ways: &Ways<'_>,
+    above: Option<u32>,
+    text: &'a str,
+) -> Result<(Option<u32>, &'a str), Halt>
+    requires { places.AreWays ways.now }
+    ensures ok { IfOk result (λ found. places.IsRise ways.now above text.now found.0 found.1.now) }
+    ensures here { IfErr result (λ halt. OnHere halt (places.IsNoRise ways.now above text.now)) }
+{
+    let Some(number) = above else {
+        return Err(Halt::Here(text.len()));
+    };
+    let next = parent_of(ways.names.schema, number);
+    if !is_open(ways, next) {
+        return Err(Halt::Here(text.len()));
+    }
+    match after_up(text) {
+        Some(rest) => Ok((next, rest)),
+        None => Err(Halt::Here(text.len().saturating_sub(far_up(text.as_bytes())))),
+    }
+}
+
+// The node to which all `../` lead, and the text after them.
+fn rises<'a>(ways: &Ways<'_>, leaf: u32, text: &'a str) -> Result<(Option<u32>, &'a str), Halt>
+    requires ways { places.AreWays ways.now }
+    requires own { places.IsSpaceOf ways.now.names.schema.now leaf ways.now.own.now }
+    requires dot { words.begins_with dot text.now ≡ true }
+    ensures ok { IfOk result (λ found. places.AreRises ways.now leaf text.now found.0 found.1.now) }
+    ensures over { IfOk result (λ found. words.begins_with dot found.1.now ≡ false) }
+    ensures here { IfErr result (λ halt. OnHere halt (Halts (places.Paths ways.now leaf) text.now)) }
+{
+    let (first, after) = rise(ways, Some(leaf), text)?;
+    let mut above = first;
+    let mut rest = after;
+    while begins_with(rest, b'.') {
+        let (next, after) = rise(ways, above, rest)?;
+        above = next;
+        rest = after;
+    }
+    Ok((above, rest))
+}
+
+// The node at which a path turns down, or the top, and the text from there.
+fn turn<'a>(ways: &Ways<'_>, leaf: u32, text: &'a str) -> Result<(Option<u32>, &'a str), Halt>
+    requires ways { places.AreWays ways.now }
+    requires own { places.IsSpaceOf ways.now.names.schema.now leaf ways.now.own.now }
+    ensures ok { IfOk result (λ found. places.IsTurn ways.now leaf text.now found.0 found.1.now) }
+    ensures here { IfErr result (λ halt. OnHere halt (Halts (places.Paths ways.now leaf) text.now)) }
+{
+    let marks = ways.marks.as_slice();
+    if begins_with(text, b'.') {
+        let (above, rest) = rises(ways, leaf, text)?;
+        if goes_down(marks, above) {
+            return Ok((above, rest));
+        }
+        return Err(Halt::Here(rest.len()));
+    }
+    match after_byte(text, b'/') {
+        Some(rest) => {
+            if goes_down(marks, None) {
+                Ok((None, rest))
+            } else {
+                Err(Halt::Here(text.len()))
+            }
+        }
+        None => Err(Halt::Here(text.len())),
+    }
+}
+
+// Reads a path of the leaf up to its end, or to where it stops.
+fn whole(alloc: Global, ways: &Ways<'_>, leaf: u32, text: &str) -> Result<(), Halt>
+    requires ways { places.AreWays ways.now }
+    requires own { places.IsSpaceOf ways.now.names.schema.now leaf ways.now.own.now }
+    ensures ok { IfOk result (λ done. Halts (places.Paths ways.now leaf) text.now 0) }
+    ensures here { IfErr result (λ halt. OnHere halt (Halts (places.Paths ways.now leaf) text.now)) }
+{
+    let (above, rest) = turn(ways, leaf, text)?;
+    names_down(alloc, ways, above, rest)
+}
+
+// The place in a text that is read by these names.
+fn place_by(alloc: Global, ways: &Ways<'_>, leaf: u32, text: &str) -> Result<usize, Memory>
+    requires ways { places.AreWays ways.now }
+    requires own { places.IsSpaceOf ways.now.names.schema.now leaf ways.now.own.now }
+    ensures { IfOk result (λ at. places.IsLeafrefPlace (reading_of ways.now.names) leaf text.now at) }
+{
+    match whole(alloc, ways, leaf, text) {
+        Ok(()) => Ok(text.len()),
+        Err(Halt::Here(left)) => Ok(text.len().saturating_sub(left)),
+        Err(Halt::Memory) => Err(Memory),
+    }
+}
+
+// What a path is read by whose leaf has a name in that namespace.
+fn ways_of<'n, B: Binds>(
     alloc: Global,
-    names: &Names<'_>,
-    own: &Text,
-    first: Option<u32>,
-    text: &'a [u8],
-) -> Result<&'a [u8], Halt<'a>> {
-    if text.first() == Some(&b'.') {
-        return up(alloc, names, own, first, text);
-    }
-    if choices(alloc, names, own, None)?.is_empty() {
-        return Err(Halt::Here(text));
-    }
-    down(alloc, names, own, None, after_sign(text, b'/')?)
+    schema: &'n Schema,
+    own: &'n Text,
+    bounds: &B,
+) -> Result<Ways<'n>, Memory>
+    ensures ways { IfOk result (λ it. places.AreWays it) }
+    ensures own { IfOk result (λ it. it.own.now ≡ own.now) }
+    ensures reading { IfOk result (λ it. reading_of it.names ≡ record {
+      tables = schema.now;
+      bounds = B.bound bounds.now;
+      all = false;
+    }) }
+{
+    let names = names_of(alloc, schema, bounds, false)?;
+    let marks = marks_of(alloc, &names, own)?;
+    Ok(Ways { names, own, marks })
 }
 
 /// The place of the fault of a leafref path that is refused.
@@ -208,17 +296,15 @@ pub(crate) fn leafref_place<B: Binds>(
     text: &str,
     bounds: &B,
 ) -> Result<usize, Memory>
-    ensures { IfOk result (λ at. at ≤ length text.now) }
+    ensures { IfOk result (λ at. places.IsLeafrefPlace (record {
+      tables = schema.now;
+      bounds = B.bound bounds.now;
+      all = false;
+    }) leaf text.now at) }
 {
     let Some(node) = schema.node(leaf) else {
         return Ok(0);
     };
-    let every = bounds.to_many(alloc)?;
-    let names = Names {
-        schema,
-        usable: usable(alloc, schema, bounds, every.as_slice())?,
-    };
-    let first = parent_of(schema, leaf);
-    let bytes = text.as_bytes();
-    place_of(bytes, stops(alloc, &names, &node.name.space, first, bytes))
+    let ways = ways_of(alloc, schema, &node.name.space, bounds)?;
+    place_by(alloc, &ways, leaf, text)
 }

@@ -3,10 +3,10 @@
 //! (RFC 7950 9.9.2). It stands on the plain types of `nc_names` and on the schema.
 //!
 //! Each call answers exactly what the definitions of `nc_schema` say; keys are as they are written. What
-//! is not of the grammar, or names nothing in the schema, is refused. Of an instance identifier and a
-//! node-instance identifier that are refused `at` is the first byte that no path of the schema has there
-//! (clause `place`), where no predicate is of two keys of a list, as in every schema that modules define
-//! (`proper_keys_are_apart`); of a leafref path that is refused it is a place within the text.
+//! is not of the grammar, or names nothing in the schema, is refused, and `at` is the first byte that no
+//! path of the schema has there (clause `place`): of an instance identifier and a node-instance identifier
+//! where no predicate is of two keys of a list, as in every schema that modules define
+//! (`proper_keys_are_apart`), and of the path of a leafref in every schema.
 #![tactic(auto)]
 
 mod candidates;
@@ -17,7 +17,7 @@ mod instance;
 mod laws;
 mod leafref;
 mod leafref_place;
-mod leafref_words;
+mod leafref_ways;
 mod place;
 mod resolve;
 mod steps;

@@ -3,8 +3,4 @@
 #![tactic(auto)]
 
 #[cfg(test)]
-mod paths_tests;
-#[cfg(test)]
 mod sample;
-#[cfg(test)]
-mod types_tests;

@@ -47,12 +47,16 @@ is_giveable s number key = key == number || is_nameable s key
 abbrev pub can_be_given : Reading → ℕ → List ℕ → Bool
 can_be_given s number left = not s.all || list_all (is_giveable s number) left
 
+-- the name of the node, from there, is that of the node itself
+abbrev pub stands : Tables → Option ℕ → ℕ → Bool
+stands tables above number =
+    option_map_or (λ node. is_same_number (child_number tables above node.name) (Some number))
+    (slice_get tables.nodes number) false
+
 -- the node stands there, and a path can end at it
 abbrev pub can_end : Reading → Option ℕ → ℕ → Bool
 can_end s above number =
-    option_map_or (λ node. is_same_number (child_number s.tables above node.name) (Some number))
-    (slice_get s.tables.nodes number) false &&
-    (is_nameable s number && can_be_given s number (key_nodes s.tables number))
+    stands s.tables above number && (is_nameable s number && can_be_given s number (key_nodes s.tables number))
 
 -- the numbers below one
 abbrev pub numbers : ℕ → List ℕ

@@ -1,5 +1,5 @@
 -- How the texts of a language are read up to a place, and the place at which a text leaves it.
-use Rattle.std.specs.Prelude.{◌≡◌, ℕ, List, [], ◌∷◌, ◌++◌, length, Option, Some, None}
+use Rattle.std.specs.Prelude.{◌≡◌, ◌-◌, ℕ, List, [], ◌∷◌, ◌++◌, length, Option, Some, None}
 
 -- the sign that stands first
 abbrev pub first_sign : List ℕ → Option ℕ
@@ -23,3 +23,7 @@ pub record Halts (L : List ℕ → Type 0) (text : List ℕ) (left : ℕ) : Type
   pub more : List ℕ
   pub before : L (front ++ more)
   pub there : (c : ℕ) (cs next : List ℕ) → rest ≡ c ∷ cs → L (front ++ c ∷ next) → ⊥
+
+-- the place at which a text stops to be the beginning of a text of the language
+abbrev pub IsPlaceIn : (List ℕ → Type 0) → List ℕ → ℕ → Type 0
+IsPlaceIn L text at = (left : ℕ) × Halts L text left × (at ≡ length text - left)

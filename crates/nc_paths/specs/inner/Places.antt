@@ -1,10 +1,10 @@
 -- What readers of a path text that is refused answer.
-use Rattle.std.specs.Prelude.{◌≡◌, ◌<◌, ◌-◌, ℕ, Bool, true, false, List, [], ◌∷◌, Option, Some, None, length, if◌then◌else◌}
+use Rattle.std.specs.Prelude.{◌≡◌, ◌<◌, ℕ, Bool, true, false, List, [], ◌∷◌, Option, Some, None, length, if◌then◌else◌}
 use Rattle.nc_names.specs.Signs.{equals}
 use Rattle.nc_schema.specs.InstancePaths.{key_nodes}
 use Rattle.nc_paths.specs.inner.Candidates.{can_be_given}
 use Rattle.nc_paths.specs.inner.Going.{Reading, Keys, Signed, Steps, Valued, without}
-use Rattle.nc_paths.specs.inner.Halting.{Halts, Leads}
+use Rattle.nc_paths.specs.inner.Halting.{IsPlaceIn, Leads}
 
 -- a step to that node without its predicates has been read
 pub record IsStepName (s : Reading) (above : Option ℕ) (text : List ℕ) (number : ℕ) (rest : List ℕ) : Type 0 where
@@ -31,4 +31,4 @@ may_end s left = if s.all then is_empty left else true
 
 -- the place at which a text stops to be the beginning of steps from the top
 abbrev pub IsPlace : Reading → List ℕ → ℕ → Type 0
-IsPlace s text at = (left : ℕ) × Halts (Steps s None) text left × (at ≡ length text - left)
+IsPlace s text at = IsPlaceIn (Steps s None) text at

@@ -26,7 +26,7 @@ use Rattle.nc_model.specs.ModuleNames.{value_bounds}
 use Rattle.nc_print.specs.Laws.{PrintedIsNamed, PrintedValueIsRead, LeafIsReadBack, LeafListIsReadBack, ContainerIsReadBack, StandsFree, inline_at, merge_at, printed_elem}
 
 -- a data node is the first of its name in its parent, since it is the only one
-child_of_its_name : (tables : Tables) (number : ℕ) (node : Node) → IsProperSchema tables → slice_get tables.nodes number ≡ Some node →
+pub child_of_its_name : (tables : Tables) (number : ℕ) (node : Node) → IsProperSchema tables → slice_get tables.nodes number ≡ Some node →
     child_number tables node.parent node.name ≡ Some number
 child_of_its_name tables number node proper at =
     let within : number < length tables.nodes = slice_get_within tables.nodes number node at in

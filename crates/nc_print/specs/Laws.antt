@@ -1,14 +1,16 @@
 -- What follows from how rows are printed, in the words of what reads a payload.
-use Rattle.std.specs.Prelude.{◌≡◌, ◌≢◌, ◌≤◌, ℕ, Bool, false, List, [], ◌∷◌, ◌++◌, Option, Some, None, Ok, length, slice_get}
-use Rattle.std.specs.List.{AllPairs, flat_map, list_any, zip}
+use Rattle.std.specs.Prelude.{◌≡◌, ◌≢◌, ◌≤◌, ℕ, Bool, false, List, [], ◌∷◌, ◌++◌, ◌+◌, zero, suc, fold, take, Option, Some, None, Ok, length, slice_get}
+use Rattle.std.specs.List.{All, AllPairs, flat_map, list_any, zip}
 use Rattle.std.specs.Option.{option_map_or}
 use Rattle.nc_names.specs.declared.path.Place.TheVariants.{Kept}
 use Rattle.nc_names.specs.declared.path.Row.{Row}
 use Rattle.nc_names.specs.declared.path.Step.{Step}
 use Rattle.nc_message.specs.declared.tree.Elem.{Elem}
 use Rattle.nc_message.specs.declared.tree.Part.{Part}
+use Rattle.nc_schema.specs.Configuration.{HasValueThat, IsConfiguration, IsDataTree}
 use Rattle.nc_schema.specs.Proper.{IsProperSchema}
 use Rattle.nc_schema.specs.Tables.{Tables}
+use Rattle.nc_schema.specs.Values.{IsCanonical}
 use Rattle.nc_schema.specs.declared.node.Kind.TheVariants.{Container, Leaf, LeafList, List as ListKind}
 use Rattle.nc_schema.specs.declared.node.Node.{Node}
 use Rattle.nc_model.specs.declared.edit.Action.TheVariants.{Merge}
@@ -16,11 +18,12 @@ use Rattle.nc_model.specs.declared.edit.Edit.{Edit}
 use Rattle.nc_model.specs.declared.position.Position.{Position}
 use Rattle.nc_model.specs.declared.position.Under.TheVariants.{Inline}
 use Rattle.nc_model.specs.Content.{text_parts}
+use Rattle.nc_model.specs.Edited.{left_by}
 use Rattle.nc_model.specs.Elements.{Reading, Named, has_text, key_values, named_part, value_in}
 use Rattle.nc_model.specs.Faults.{clashes}
 use Rattle.nc_model.specs.ModuleNames.{value_bounds}
-use Rattle.nc_model.specs.Payload.{if_read, list_edits, part_edits}
-use Rattle.nc_model.specs.Printed.{node_part, parts_at, step_parts}
+use Rattle.nc_model.specs.Payload.{config_edits, if_read, list_edits, part_edits, reading_of, rows_of}
+use Rattle.nc_model.specs.Printed.{cut, goes_on, longest, node_part, own_value, parts_at, printed, step_parts}
 
 -- the element that is printed for a data node
 abbrev pub printed_elem : Tables → ℕ → Option (List ℕ) → List Part → Node → Elem
@@ -140,3 +143,62 @@ PrintedKeysAreRead =
     IsKeyReadBack reading it.number key value) →
     it.elem.parts ≡ key_parts reading.tables it.node.keys values ++ more →
     key_values reading it it.node.keys ≡ Some values
+
+-- ---- a whole configuration
+-- a text is read as itself at a data node: it is the canonical text of the value that it stands for where the names of
+-- the modules in it are bound to their namespaces (RFC 7950 9.1)
+abbrev pub IsReadAsItself : Reading → ℕ → List ℕ → Type 0
+IsReadAsItself reading number text = reading.value number text (value_bounds reading.tables number text) ≡ Some text
+
+-- so is the value of each row
+abbrev pub AreReadAsThemselves : Reading → List Row → Type 0
+AreReadAsThemselves reading rows = All (HasValueThat (IsReadAsItself reading) reading.tables) rows
+
+-- the canonical text of a value is so read: by the types of the schema, whichever text the value was given as
+abbrev pub CanonicalIsReadAsItself : Type 0
+CanonicalIsReadAsItself =
+    (tables : Tables) (number : ℕ) (text : List ℕ) →
+    IsProperSchema tables → IsCanonical tables number text → IsReadAsItself (reading_of tables) number text
+
+-- the merge of a node, and those of what stands in it
+abbrev pub step_merges : List Step → Option (List ℕ) → List Edit → Option Step → List Edit
+step_merges above value below None = []
+step_merges above value below (Some step) = merge_at above step value ∷ below
+
+-- the merges of rows that stand in one element
+abbrev pub run_merges : (List Row → List Edit) → ℕ → List Row → List Edit
+run_merges inner depth [] = []
+run_merges inner depth (row ∷ rows) =
+    step_merges (take depth row.path.steps) (own_value depth row) (inner (row ∷ rows)) (slice_get row.path.steps depth)
+
+-- the merges of rows at a depth, with so many levels of elements in them
+abbrev pub merges_at : (levels : ℕ) → ℕ → List Row → List Edit
+merges_at zero depth rows = []
+merges_at (suc levels) depth rows =
+    flat_map (run_merges (merges_at levels (depth + 1)) depth) (cut (goes_on depth) rows)
+
+-- the merges of a configuration, in document order: one of each row's value at its path, and one of no value for each
+-- container without presence that has a row below it
+abbrev pub merges_of : List Row → List Edit
+merges_of rows = merges_at (longest rows) 0 rows
+
+-- what is printed of a data tree is read as its merges, without a fault
+abbrev pub PrintedIsMerges : Type 0
+PrintedIsMerges =
+    (reading : Reading) (rows : List Row) (config : Elem) →
+    IsProperSchema reading.tables → IsDataTree reading.tables rows → AreReadAsThemselves reading rows →
+    config.parts ≡ printed reading.tables rows → config_edits reading Inline config ≡ Ok (merges_of rows)
+
+-- the merges of a data tree, made one after another where nothing is, leave its rows: each in its place, entries that
+-- the user orders in their order (RFC 7950 7.7.7)
+abbrev pub MergesLeaveRows : Type 0
+MergesLeaveRows =
+    (tables : Tables) (rows : List Row) → IsProperSchema tables → IsDataTree tables rows →
+    fold (left_by tables) [] (merges_of rows) ≡ rows
+
+-- reading what is printed of a configuration, as an inline configuration (RFC 6241 7.3), gives its rows
+abbrev pub PrintedRowsAreReadBack : Type 0
+PrintedRowsAreReadBack =
+    (tables : Tables) (rows : List Row) (config : Elem) →
+    IsProperSchema tables → IsConfiguration tables rows → config.parts ≡ printed tables rows →
+    rows_of tables config ≡ Ok rows

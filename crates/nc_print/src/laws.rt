@@ -1,5 +1,5 @@
 //! What follows from how rows are printed, each as the contract of a function that does nothing.
-ghost use Rattle.nc_print.specs.Laws.{PrintedIsNamed, PrintedValueIsRead, LeafIsReadBack, LeafListIsReadBack, ContainerIsReadBack, PrintedHoldsNoText, NothingBelowItsEnd, ListEntryIsReadBack, PrintedKeysAreRead};
+ghost use Rattle.nc_print.specs.Laws.{PrintedIsNamed, PrintedValueIsRead, LeafIsReadBack, LeafListIsReadBack, ContainerIsReadBack, PrintedHoldsNoText, NothingBelowItsEnd, ListEntryIsReadBack, PrintedKeysAreRead, CanonicalIsReadAsItself, PrintedIsMerges, MergesLeaveRows, PrintedRowsAreReadBack};
 
 /// The element of a data node is read as that data node (RFC 7950 6.2.1).
 pub fn printed_is_named()
@@ -45,4 +45,25 @@ pub fn list_entry_is_read_back()
 /// Keys that are printed first in a list entry are read as they are (RFC 7950 7.8.5).
 pub fn printed_keys_are_read()
     ensures { PrintedKeysAreRead }
+{}
+
+/// The canonical text of a value is the canonical text of itself, under the bindings of its element (RFC 7950 9.1).
+pub fn canonical_is_read_as_itself()
+    ensures { CanonicalIsReadAsItself }
+{}
+
+/// What is printed of a data tree is read, without a fault, as one merge for each row and for each container
+/// without presence that has a row below it (RFC 7950 7.5.7, 7.6.5, 7.7.8 and 7.8.5).
+pub fn printed_is_merges()
+    ensures { PrintedIsMerges }
+{}
+
+/// The merges of a data tree, made one after another where nothing is, leave its rows in their order.
+pub fn merges_leave_rows()
+    ensures { MergesLeaveRows }
+{}
+
+/// Reading what is printed of a configuration as an inline configuration gives its rows (RFC 6241 7.3).
+pub fn printed_rows_are_read_back()
+    ensures { PrintedRowsAreReadBack }
 {}

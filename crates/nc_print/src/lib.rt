@@ -4,7 +4,8 @@
 //! for each row, and for each container without presence that has a row below it. Where a value may have module
 //! names as prefixes these are bound on its element. Each row is looked at once for each step of its path.
 //! `names_bound` gives the bindings that a path text needs. The laws say that an element so made for a data node is
-//! read back as that node, by nc_model's definition of a payload.
+//! read back as that node, by nc_model's definition of a payload, and that the elements of a whole configuration
+//! are read back as its rows.
 #![tactic(auto)]
 
 mod element;
@@ -16,8 +17,9 @@ mod value_types;
 
 pub use elements::print;
 pub use laws::{
-    container_is_read_back, leaf_is_read_back, leaf_list_is_read_back, list_entry_is_read_back,
-    nothing_below_its_end, printed_holds_no_text, printed_is_named, printed_keys_are_read,
+    canonical_is_read_as_itself, container_is_read_back, leaf_is_read_back, leaf_list_is_read_back,
+    list_entry_is_read_back, merges_leave_rows, nothing_below_its_end, printed_holds_no_text,
+    printed_is_merges, printed_is_named, printed_keys_are_read, printed_rows_are_read_back,
     printed_value_is_read,
 };
 pub use module_names::names_bound;

@@ -155,7 +155,7 @@ fn timed(
     println!(rt; "{count} of {element}: {kept} rows in {micros} us")
 }
 
-const ELEMENTS: [(&str, u64); 8] = [
+const ELEMENTS: [(&str, u64); 14] = [
     ("<user><name>u#</name></user>", 1_000),
     ("<user><name>u#</name></user>", 10_000),
     ("<a/>", 10_000),
@@ -164,6 +164,18 @@ const ELEMENTS: [(&str, u64); 8] = [
     ("<user><type>admin</type><a/></user>", 10_000),
     ("<user><type>admin</type><name>u#</name></user>", 10_000),
     ("<user><type>x#</type><a/></user>", 10_000),
+    ("<user><type>x#</type><a/></user>", 100_000),
+    ("<user><type>admin</type><name/></user>", 100_000),
+    ("<user><type>admin</type><a#/></user>", 100_000),
+    (
+        "<user><type>admin</type><a/></user><user><a/><type>admin</type><type> admin</type></user>",
+        40_000,
+    ),
+    (
+        "<user><type>admin</type><a/></user><user><type xmlns=\"\">admin</type><a/></user>",
+        40_000,
+    ),
+    ("<user><name>u#</name><type>admin</type><a/></user><user><a/></user>", 40_000),
 ];
 
 fn main(rt: HostRuntime) -> io::Result<()> {

@@ -1,5 +1,5 @@
 -- What is asked of the elements of a level, as it is asked of the parts in which they stand.
-use Rattle.std.proofs.Common.{◌≡◌, ◌&&◌, ◌||◌, Bool, true, false, not, List, [], ◌∷◌, Some, None, refl, sym, ap, ◌∙◌, if◌then◌else◌}
+use Rattle.std.proofs.Common.{◌≡◌, ◌&&◌, ◌||◌, Bool, true, false, List, [], ◌∷◌, Some, None, refl, sym, ap, ◌∙◌, if◌then◌else◌}
 use Rattle.std.specs.Prelude.{Option, is_some}
 use Rattle.std.specs.List.{cons_option, filter_map, last_or, list_all, list_any}
 use Rattle.std.specs.Option.{option_map_or}
@@ -11,8 +11,8 @@ use Rattle.nc_names.specs.declared.path.Step.{Step}
 use Rattle.nc_schema.specs.Blocks.{above_last}
 use Rattle.nc_schema.specs.Tables.{Tables}
 use Rattle.nc_model.specs.Elements.{elem_of}
-use Rattle.nc_model.specs.Filter.{holds, is_content_match, is_of_matches, is_of_node, is_of_text, meets}
-use Rattle.nc_filter.specs.inner.Levels.{children, fits, is_element, is_met, is_part_match, is_part_met}
+use Rattle.nc_model.specs.Filter.{is_content_match, is_of_matches, is_of_node, is_of_text, meets}
+use Rattle.nc_filter.specs.inner.Levels.{children, fits, is_element, is_part_match}
 
 -- a test of all elements, as one of the parts
 pub all_parts : (test : Elem → Bool) (parts : List Part) → list_all test (filter_map elem_of parts) ≡ list_all (λ part. option_map_or test (elem_of part) true) parts
@@ -34,7 +34,7 @@ level_of_matches (part ∷ parts) = by (elem_of part) (level_of_matches parts)
     by (Some elem) more = ap (λ b. is_content_match elem && b) (all_parts is_content_match parts)
 
 -- the rows in an instance that fit an element are those that meet it there
-any_children : (tables : Tables) (elem : Elem) (above : List Step) (rows : List Row) → list_any (fits tables elem) (children rows above) ≡ list_any (meets tables elem above) rows
+pub any_children : (tables : Tables) (elem : Elem) (above : List Step) (rows : List Row) → list_any (fits tables elem) (children rows above) ≡ list_any (meets tables elem above) rows
 any_children tables elem above [] = refl
 any_children tables elem above (row ∷ rows) = by (is_same_path (above_last row.path.steps) above) refl (any_children tables elem above rows)
   where
@@ -48,13 +48,3 @@ any_children tables elem above (row ∷ rows) = by (is_same_path (above_last row
         ap (λ c. list_any (fits tables elem) (if c then row ∷ children rows above else children rows above)) e
         ∙ more
         ∙ ap (λ c. (c && option_map_or (is_of_node tables elem) (last_or None row.path.steps) false && is_of_text elem row) || list_any (meets tables elem above) rows) (sym e)
-
-all_same : {X : Type 0} (p q : X → Bool) (xs : List X) → ((x : X) → p x ≡ q x) → list_all p xs ≡ list_all q xs
-all_same p q xs same = λ i. list_all (λ x. same x i) xs
-
-pub level_holds : (tables : Tables) (rows : List Row) (above : List Step) (parts : List Part) →
-    list_all (is_part_met tables (children rows above)) parts ≡ holds tables rows above (filter_map elem_of parts)
-level_holds tables rows above parts =
-    sym (all_parts (is_met tables (children rows above)) parts)
-    ∙ all_same (is_met tables (children rows above)) (λ elem. not (is_content_match elem) || list_any (meets tables elem above) rows) (filter_map elem_of parts)
-    (λ elem. ap (λ b. not (is_content_match elem) || b) (any_children tables elem above rows))

@@ -5,8 +5,12 @@ pub mod IndexLemmas
 pub mod Unions
 pub mod LevelLemmas
 pub mod PickLemmas
+pub mod KeyLemmas
+pub mod ListLemmas
 pub mod WalkLemmas
 pub mod TableLemmas
 pub mod ClassLemmas
+pub mod GroupLemmas
+pub mod NameLemmas
 pub mod PlacesLemmas
 pub mod KeptLemmas

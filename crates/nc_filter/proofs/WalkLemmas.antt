@@ -1,19 +1,18 @@
 -- One level of a filter: what its functions find is what the level selects.
-use Rattle.std.proofs.Common.{◌≡◌, ◌&&◌, ◌||◌, ◌+◌, ◌<◌, ◌≤◌, ◌==◌, ℕ, Bool, true, false, not, List, [], ◌∷◌, ◌++◌, None, Some, length, take, refl, sym, ap, ◌∙◌, if◌then◌else◌, arith}
-use Rattle.std.specs.Prelude.{Option}
-use Rattle.std.specs.List.{filter, flat_map, list_all, list_any}
+use Rattle.std.proofs.Common.{◌≡◌, ◌&&◌, ◌||◌, ◌+◌, ◌<◌, ◌==◌, ℕ, zero, suc, Bool, true, false, not, cond, List, [], ◌∷◌, ◌++◌, None, Some, drop, length, take, refl, sym, ap, subst, ◌∙◌, Bor, arith}
+use Rattle.std.specs.Prelude.{Option, map}
+use Rattle.std.specs.List.{filter, flat_map, list_any, prefix_len}
 use Rattle.std.specs.Option.{option_map_or}
 use Rattle.std.proofs.lemmas.Bool.Decides.{Decides-eqb}
+use Rattle.std.proofs.lemmas.List.{length-drop, length-map}
 use Rattle.nc_message.specs.declared.tree.Elem.{Elem}
-use Rattle.nc_message.specs.declared.tree.Part.{Part}
 use Rattle.nc_names.specs.declared.path.Row.{Row}
 use Rattle.nc_schema.specs.Tables.{Tables}
-use Rattle.nc_model.specs.Elements.{elem_of}
-use Rattle.nc_model.specs.Filter.{chosen, is_containment, is_content_match, is_of_matches, level_of, selects}
-use Rattle.nc_model.proofs.ListLemmas.{filter_shorter}
-use Rattle.nc_filter.specs.inner.Levels.{children, fits, is_free, is_met, is_part_met}
-use Rattle.nc_filter.specs.inner.Picks.{Adds, first_node, has_node, is_matched, is_named, is_number, is_plain, is_plain_as, is_selection, node_at, opens, picked, picks_at, says, within}
-use Rattle.nc_filter.proofs.LevelLemmas.{level_holds}
+use Rattle.nc_model.specs.Filter.{chosen, is_containment, is_content_match, is_of_matches, is_of_text, level_of, selects}
+use Rattle.nc_filter.specs.inner.Lists.{IsSame}
+use Rattle.nc_filter.specs.inner.Names.{AreNamed}
+use Rattle.nc_filter.specs.inner.Picks.{Adds, ends, first_node, has_node, is_matched, is_guarded, is_named, is_number, is_plain, is_selection, node_at, opens, picked, picks_at, says, within}
+use Rattle.nc_filter.proofs.KeyLemmas.{holds_free}
 use Rattle.nc_filter.proofs.PickLemmas.{picks_whole, picks_parts, within_is}
 use Rattle.nc_filter.proofs.Unions.{adds_all, adds_among, adds_none, adds_same, adds_then, and_assoc, any_filter, any_flat_map, any_nothing, any_or, any_same, or_assoc, or_false}
 
@@ -22,18 +21,33 @@ number_itself None = refl
 number_itself (Some n) = (Decides-eqb n n).1 refl
 
 -- ---- the loop over the data nodes at a depth
-pub shorter_rest : (depth : ℕ) (rows : List Row) (wanted : Option ℕ) → wanted ≡ first_node depth rows → 0 < length rows →
-    length (filter (λ row. not (is_number (node_at depth row) wanted)) rows) < length rows
-shorter_rest depth [] wanted is some = absurd (omega (arith, some))
-shorter_rest depth (row ∷ rows) wanted is some = by (not (is_number (node_at depth row) wanted)) gone (filter_shorter (λ row. not (is_number (node_at depth row) wanted)) rows)
-  where
-    gone : not (is_number (node_at depth row) wanted) ≡ false
-    gone = ap (λ n. not (is_number (node_at depth row) n)) is ∙ ap not (number_itself (node_at depth row))
+one_more : (n : ℕ) → 1 + n ≡ suc n
+one_more n = omega arith
 
-    by : (b : Bool) → b ≡ false → length (filter (λ row. not (is_number (node_at depth row) wanted)) rows) ≤ length rows →
-        length (if b then row ∷ filter (λ row. not (is_number (node_at depth row) wanted)) rows else filter (λ row. not (is_number (node_at depth row) wanted)) rows) < length (row ∷ rows)
-    by true e less = let clash : true ≡ false = e in cc
-    by false e less = omega (arith, less)
+map_take : {X Y : Type 0} (f : X → Y) (n : ℕ) (xs : List X) → map f (take n xs) ≡ take n (map f xs)
+map_take f zero xs = refl
+map_take f (suc n) [] = refl
+map_take f (suc n) (x ∷ xs) = ap (λ more. f x ∷ more) (map_take f n xs)
+
+map_drop : {X Y : Type 0} (f : X → Y) (n : ℕ) (xs : List X) → map f (drop n xs) ≡ drop n (map f xs)
+map_drop f zero xs = refl
+map_drop f (suc n) [] = refl
+map_drop f (suc n) (x ∷ xs) = map_drop f n xs
+
+prefix_map : {X Y : Type 0} (p : Y → Bool) (f : X → Y) (xs : List X) → prefix_len (λ x. p (f x)) xs ≡ prefix_len p (map f xs)
+prefix_map p f [] = refl
+prefix_map p f (x ∷ xs) = ap (λ n. cond (p (f x)) (1 + n) 0) (prefix_map p f xs)
+
+some_first : (depth : ℕ) (rows : List Row) (wanted : Option ℕ) → wanted ≡ first_node depth rows → 0 < length rows → 0 < prefix_len (λ row. is_number (node_at depth row) wanted) rows
+some_first depth [] wanted is some = absurd (omega (arith, some))
+some_first depth (row ∷ rows) wanted is some = by (is_number (node_at depth row) wanted) there
+  where
+    there : is_number (node_at depth row) wanted ≡ true
+    there = ap (λ n. is_number (node_at depth row) n) is ∙ number_itself (node_at depth row)
+
+    by : (b : Bool) → b ≡ true → 0 < cond b (1 + prefix_len (λ row. is_number (node_at depth row) wanted) rows) 0
+    by true e = omega arith
+    by false e = let clash : false ≡ true = e in cc
 
 pub none_there : {X : Type 0} (xs : List X) (b : Bool) → b ≡ (length xs == 0) → b ≡ true → xs ≡ []
 none_there [] b is e = refl
@@ -46,32 +60,60 @@ pub some_there : {X : Type 0} (xs : List X) (b : Bool) → (xs ≡ [] → b ≡ 
 some_there [] b back e = let clash : false ≡ true = sym e ∙ back refl in cc
 some_there (x ∷ xs) b back e = omega arith
 
+pub shorter_rest : (depth count : ℕ) (rows rest : List (Bor Row)) (wanted : Option ℕ) → wanted ≡ first_node depth (map (λ row. row.now) rows) → 0 < length rows →
+    count ≡ prefix_len (λ row. is_number (node_at depth row.now) wanted) rows → rest ≡ drop count rows → length rest < length rows
+shorter_rest depth count rows rest wanted is some count_is rest_is =
+    let first = some_first depth (map (λ row. row.now) rows) wanted is (subst (λ n. 0 < n) (sym (length-map rows (λ (row : Bor Row). row.now))) some) in
+    let same = prefix_map (λ row. is_number (node_at depth row) wanted) (λ (row : Bor Row). row.now) rows in
+    let left = ap length rest_is ∙ length-drop count rows in
+    omega (arith, first, same, count_is, left, some)
+
 module _ (tables : Tables) (all : List Row) (depth : ℕ) (level : List Elem) where
   abbrev left : (Row → Bool) → List Row → Bool
   left test rows = list_any (λ row. picked tables all depth level row && test row) rows
 
-  -- rows of one data node, and the others
-  parted : (p f : Row → Bool) (rows : List Row) → list_any f rows ≡ (list_any (λ row. p row && f row) rows || list_any f (filter (λ row. not (p row)) rows))
-  parted p f rows =
-      any_same f (λ row. (p row && f row) || (not (p row) && f row)) rows (λ row. by (p row) (f row))
-      ∙ any_or (λ row. p row && f row) (λ row. not (p row) && f row) rows
-      ∙ ap (λ b. list_any (λ row. p row && f row) rows || b) (sym (any_filter f (λ row. not (p row)) rows))
+  -- the rows that stand first and pass a test, and those from there on
+  parted : (p f : Row → Bool) (rows : List Row) → list_any f rows ≡ (list_any (λ row. p row && f row) (take (prefix_len p rows) rows) || list_any f (drop (prefix_len p rows) rows))
+  parted p f [] = refl
+  parted p f (row ∷ rows) = by (p row) refl (parted p f rows)
     where
-      by : (a b : Bool) → b ≡ ((a && b) || (not a && b))
-      by true b = sym (or_false b)
-      by false b = refl
+      by : (b : Bool) → p row ≡ b → list_any f rows ≡ (list_any (λ row. p row && f row) (take (prefix_len p rows) rows) || list_any f (drop (prefix_len p rows) rows)) →
+          (f row || list_any f rows)
+          ≡ (list_any (λ row. p row && f row) (take (cond b (1 + prefix_len p rows) 0) (row ∷ rows)) || list_any f (drop (cond b (1 + prefix_len p rows) 0) (row ∷ rows)))
+      by true e more =
+          ap (λ b. f row || b) more
+          ∙ sym (or_assoc (f row) (list_any (λ row. p row && f row) (take (prefix_len p rows) rows)) (list_any f (drop (prefix_len p rows) rows)))
+          ∙ ap (λ b. ((b && f row) || list_any (λ row. p row && f row) (take (prefix_len p rows) rows)) || list_any f (drop (prefix_len p rows) rows)) (sym e)
+          ∙ ap (λ n. list_any (λ row. p row && f row) (take n (row ∷ rows)) || list_any f (drop n (row ∷ rows))) (sym (one_more (prefix_len p rows)))
+      by false e more = refl
 
-  pub level_next : (out now rows rest : List Row) (node : Option ℕ) → rest ≡ filter (λ row. not (is_number (node_at depth row) node)) rows →
-      Adds out now (λ row. is_number (node_at depth row) node && picked tables all depth level row) rows →
-      (test : Row → Bool) → (list_any test now || left test rest) ≡ (list_any test out || left test rows)
-  level_next out now rows rest node is adds test =
-      (λ i. adds test i || left test (is i))
-      ∙ or_assoc (list_any test out) (list_any (λ row. (is_number (node_at depth row) node && picked tables all depth level row) && test row) rows) (left test (filter (λ row. not (is_number (node_at depth row) node)) rows))
+  pub level_next : (out now : List Row) (rows here rest : List (Bor Row)) (node : Option ℕ) (count : ℕ) → count ≡ prefix_len (λ row. is_number (node_at depth row.now) node) rows →
+      here ≡ take count rows → rest ≡ drop count rows → Adds out now (λ row. is_number (node_at depth row) node && picked tables all depth level row) (map (λ row. row.now) here) →
+      (test : Row → Bool) → (list_any test now || left test (map (λ row. row.now) rest)) ≡ (list_any test out || left test (map (λ row. row.now) rows))
+  level_next out now rows here rest node count count_is here_is rest_is adds test =
+      ap (λ b. b || left test (map (λ row. row.now) rest)) (adds test)
+      ∙ (λ i. (list_any test out || list_any (λ row. (is_number (node_at depth row) node && picked tables all depth level row) && test row) (front i)) || left test (back i))
+      ∙ or_assoc (list_any test out) (list_any (λ row. (is_number (node_at depth row) node && picked tables all depth level row) && test row) (take end whole)) (left test (drop end whole))
       ∙ ap (λ b. list_any test out || b)
-      (ap (λ b. b || left test (filter (λ row. not (is_number (node_at depth row) node)) rows))
-      (any_same (λ row. (is_number (node_at depth row) node && picked tables all depth level row) && test row) (λ row. is_number (node_at depth row) node && (picked tables all depth level row && test row)) rows
+      (ap (λ b. b || left test (drop end whole))
+      (any_same (λ row. (is_number (node_at depth row) node && picked tables all depth level row) && test row) (λ row. is_number (node_at depth row) node && (picked tables all depth level row && test row)) (take end whole)
       (λ row. and_assoc (is_number (node_at depth row) node) (picked tables all depth level row) (test row)))
-      ∙ sym (parted (λ row. is_number (node_at depth row) node) (λ row. picked tables all depth level row && test row) rows))
+      ∙ sym (parted (λ row. is_number (node_at depth row) node) (λ row. picked tables all depth level row && test row) whole))
+    where
+      whole : List Row
+      whole = map (λ row. row.now) rows
+
+      end : ℕ
+      end = prefix_len (λ row. is_number (node_at depth row) node) whole
+
+      counted : count ≡ end
+      counted = count_is ∙ prefix_map (λ row. is_number (node_at depth row) node) (λ (row : Bor Row). row.now) rows
+
+      front : map (λ row. row.now) here ≡ take end whole
+      front = ap (map (λ row. row.now)) here_is ∙ map_take (λ (row : Bor Row). row.now) count rows ∙ ap (λ n. take n whole) counted
+
+      back : map (λ row. row.now) rest ≡ drop end whole
+      back = ap (map (λ row. row.now)) rest_is ∙ map_drop (λ (row : Bor Row). row.now) count rows ∙ ap (λ n. drop n whole) counted
 
   pub some_node : (out now : List Row) (node : ℕ) (rows : List Row) → Adds out now (λ row. has_node depth node row && picks_at tables all depth level row node) rows →
       Adds out now (λ row. is_number (node_at depth row) (Some node) && picked tables all depth level row) rows
@@ -110,65 +152,48 @@ module _ (tables : Tables) (all : List Row) (depth node : ℕ) (level : List Ele
   guarded p q true same = same refl
   guarded p q false same = refl
 
-  pub node_whole : (out rows : List Row) → true ≡ list_any is_selection ones → Adds out (out ++ filter (has_node depth node) rows) here rows
-  node_whole out rows selection =
+  same_ones : (named : List Elem) → AreNamed tables node level named → (p : Elem → Bool) → list_any p named ≡ list_any p ones
+  same_ones named are p = are p ∙ sym (any_filter p (is_named tables node) level)
+
+  pub node_whole : (out rows : List Row) (named : List Elem) → AreNamed tables node level named → true ≡ list_any is_selection named → Adds out (out ++ filter (has_node depth node) rows) here rows
+  node_whole out rows named are selection =
       adds_same out (out ++ filter (has_node depth node) rows) (λ row. has_node depth node row && true) here rows
-      (λ row. guarded true (picks_at tables all depth level row node) (has_node depth node row) (λ has. sym (picks_whole tables all row depth node level has (sym selection))))
+      (λ row. guarded true (picks_at tables all depth level row node) (has_node depth node row) (λ has. sym (picks_whole tables all row depth node level has (sym (selection ∙ same_ones named are is_selection)))))
       (adds_among out (out ++ filter (has_node depth node) rows) (λ row. true) (has_node depth node) rows (adds_all out (filter (has_node depth node) rows)))
 
-  pub node_parts : (out mid now rows : List Row) → false ≡ list_any is_selection ones →
-      Adds out mid (is_matched ones depth) (filter (has_node depth node) rows) →
-      Adds mid now (λ row. list_any (within tables all (depth + 1) row) (filter is_containment ones)) (filter (has_node depth node) rows) →
+  pub node_parts : (out mid now rows : List Row) (named : List Elem) → AreNamed tables node level named → false ≡ list_any is_selection named →
+      Adds out mid (is_matched named depth) (filter (has_node depth node) rows) →
+      Adds mid now (λ row. list_any (within tables all (depth + 1) row) (filter is_containment named)) (filter (has_node depth node) rows) →
       Adds out now here rows
-  node_parts out mid now rows none first second =
-      adds_same out now (λ row. has_node depth node row && (is_matched ones depth row || list_any (within tables all (depth + 1) row) (filter is_containment ones))) here rows
-      (λ row. guarded (is_matched ones depth row || list_any (within tables all (depth + 1) row) (filter is_containment ones)) (picks_at tables all depth level row node) (has_node depth node row)
-      (λ has. ap (λ b. is_matched ones depth row || b) (any_filter (within tables all (depth + 1) row) is_containment ones) ∙ sym (picks_parts tables all row depth node level has (sym none))))
-      (adds_among out now (λ row. is_matched ones depth row || list_any (within tables all (depth + 1) row) (filter is_containment ones)) (has_node depth node) rows
-      (adds_then out mid now (is_matched ones depth) (λ row. list_any (within tables all (depth + 1) row) (filter is_containment ones)) (filter (has_node depth node) rows) first second))
+  node_parts out mid now rows named are none first second =
+      adds_same out now (λ row. has_node depth node row && (is_matched named depth row || list_any (within tables all (depth + 1) row) (filter is_containment named))) here rows
+      (λ row. guarded (is_matched named depth row || list_any (within tables all (depth + 1) row) (filter is_containment named)) (picks_at tables all depth level row node) (has_node depth node row)
+      (λ has. (λ i. (ends depth row && same_ones named are (λ elem. is_content_match elem && is_of_text elem row) i)
+      || (any_filter (within tables all (depth + 1) row) is_containment named ∙ same_ones named are (λ elem. is_containment elem && within tables all (depth + 1) row elem)) i)
+      ∙ sym (picks_parts tables all row depth node level has (sym (none ∙ same_ones named are is_selection)))))
+      (adds_among out now (λ row. is_matched named depth row || list_any (within tables all (depth + 1) row) (filter is_containment named)) (has_node depth node) rows
+      (adds_then out mid now (is_matched named depth) (λ row. list_any (within tables all (depth + 1) row) (filter is_containment named)) (filter (has_node depth node) rows) first second))
 
 -- ---- levels without and with content matches
 module _ (tables : Tables) (all : List Row) (depth : ℕ) where
-  no_match : (inside : List Row) (part : Part) → is_free part ≡ true → is_part_met tables inside part ≡ true
-  no_match inside part free = by (elem_of part) free
-    where
-      by : (o : Option Elem) → not (option_map_or is_content_match o false) ≡ true → option_map_or (is_met tables inside) o true ≡ true
-      by None free = refl
-      by (Some elem) free = ap (λ b. b || list_any (fits tables elem) inside) free
-
-  free_holds : (inside : List Row) (parts : List Part) → list_all is_free parts ≡ true → list_all (is_part_met tables inside) parts ≡ true
-  free_holds inside [] free = refl
-  free_holds inside (part ∷ parts) free = by (is_free part) refl free (free_holds inside parts)
-    where
-      by : (b : Bool) → is_free part ≡ b → (b && list_all is_free parts) ≡ true → (list_all is_free parts ≡ true → list_all (is_part_met tables inside) parts ≡ true) →
-          (is_part_met tables inside part && list_all (is_part_met tables inside) parts) ≡ true
-      by true e more rest = ap (λ b. b && list_all (is_part_met tables inside) parts) (no_match inside part e) ∙ rest more
-      by false e more rest = let clash : false ≡ true = more in cc
-
-  pub plain_opens : (row : Row) (elem : Elem) → is_plain elem ≡ true → within tables all depth row elem ≡ opens tables all depth row elem
+  plain_opens : (row : Row) (elem : Elem) → is_plain elem ≡ true → within tables all depth row elem ≡ opens tables all depth row elem
   plain_opens row elem plain =
-      within_is tables all row depth elem
-      ∙ ap (λ b. b && opens tables all depth row elem) (sym (level_holds tables all (take depth row.path.steps) elem.parts) ∙ free_holds (children all (take depth row.path.steps)) elem.parts plain)
+      within_is tables all row depth elem ∙ ap (λ b. b && opens tables all depth row elem) (holds_free tables all (take depth row.path.steps) elem.parts plain)
 
-  pub within_done : (out mid now rows : List Row) (elems : List Elem) →
-      Adds out mid (λ row. list_any (opens tables all depth row) (filter (is_plain_as true) elems)) rows →
-      Adds mid now (λ row. list_any (within tables all depth row) (filter (is_plain_as false) elems)) rows →
-      Adds out now (λ row. list_any (within tables all depth row) elems) rows
-  within_done out mid now rows elems first second =
-      adds_same out now (λ row. list_any (opens tables all depth row) (filter (is_plain_as true) elems) || list_any (within tables all depth row) (filter (is_plain_as false) elems))
-      (λ row. list_any (within tables all depth row) elems) rows same
-      (adds_then out mid now (λ row. list_any (opens tables all depth row) (filter (is_plain_as true) elems)) (λ row. list_any (within tables all depth row) (filter (is_plain_as false) elems)) rows first second)
+  opens_same : (row : Row) (elems : List Elem) → list_any is_guarded elems ≡ false → list_any (opens tables all depth row) elems ≡ list_any (within tables all depth row) elems
+  opens_same row [] none = refl
+  opens_same row (elem ∷ elems) none = by (is_plain elem) refl none (opens_same row elems)
     where
-      same : (row : Row) → (list_any (opens tables all depth row) (filter (is_plain_as true) elems) || list_any (within tables all depth row) (filter (is_plain_as false) elems)) ≡ list_any (within tables all depth row) elems
-      same row =
-          (λ i. any_filter (opens tables all depth row) is_plain elems i || any_filter (within tables all depth row) (λ elem. not (is_plain elem)) elems i)
-          ∙ sym (any_or (λ elem. is_plain elem && opens tables all depth row elem) (λ elem. not (is_plain elem) && within tables all depth row elem) elems)
-          ∙ any_same (λ elem. (is_plain elem && opens tables all depth row elem) || (not (is_plain elem) && within tables all depth row elem)) (within tables all depth row) elems
-          (λ elem. by elem (is_plain elem) refl)
-        where
-          by : (elem : Elem) (b : Bool) → is_plain elem ≡ b → ((b && opens tables all depth row elem) || (not b && within tables all depth row elem)) ≡ within tables all depth row elem
-          by elem true e = or_false (opens tables all depth row elem) ∙ sym (plain_opens row elem e)
-          by elem false e = refl
+      by : (b : Bool) → is_plain elem ≡ b → (not b || list_any is_guarded elems) ≡ false →
+          (list_any is_guarded elems ≡ false → list_any (opens tables all depth row) elems ≡ list_any (within tables all depth row) elems) →
+          (opens tables all depth row elem || list_any (opens tables all depth row) elems) ≡ (within tables all depth row elem || list_any (within tables all depth row) elems)
+      by true plain none more = λ i. sym (plain_opens row elem plain) i || more none i
+      by false plain none more = let clash : true ≡ false = none in cc
+
+  pub open_done : (out now rows : List Row) (elems : List Elem) → false ≡ list_any is_guarded elems → Adds out now (λ row. list_any (opens tables all depth row) elems) rows →
+      Adds out now (λ row. list_any (within tables all depth row) elems) rows
+  open_done out now rows elems none =
+      adds_same out now (λ row. list_any (opens tables all depth row) elems) (λ row. list_any (within tables all depth row) elems) rows (λ row. opens_same row elems (sym none))
 
   picked_joined : (row : Row) (elems : List Elem) → picked tables all depth (flat_map level_of elems) row ≡ list_any (λ elem. picked tables all depth (level_of elem) row) elems
   picked_joined row elems = by (node_at depth row)
@@ -190,11 +215,12 @@ module _ (tables : Tables) (all : List Row) (depth : ℕ) where
       adds_same out (out ++ rows) (λ row. true) (λ row. list_any (opens tables all depth row) elems) rows
       (λ row. sym (opens_all row elems ∙ ap (λ b. b || picked tables all depth (flat_map level_of elems) row) (sym whole))) (adds_all out rows)
 
-  pub open_level : (out now rows : List Row) (elems : List Elem) → false ≡ list_any (λ elem. is_of_matches (level_of elem)) elems →
-      Adds out now (picked tables all depth (flat_map level_of elems)) rows → Adds out now (λ row. list_any (opens tables all depth row) elems) rows
-  open_level out now rows elems none =
+  pub open_level : (out now rows moved : List Row) (elems : List Elem) → false ≡ list_any (λ elem. is_of_matches (level_of elem)) elems → IsSame rows moved →
+      Adds out now (picked tables all depth (flat_map level_of elems)) moved → Adds out now (λ row. list_any (opens tables all depth row) elems) rows
+  open_level out now rows moved elems none same adds =
       adds_same out now (picked tables all depth (flat_map level_of elems)) (λ row. list_any (opens tables all depth row) elems) rows
       (λ row. sym (opens_all row elems ∙ ap (λ b. b || picked tables all depth (flat_map level_of elems) row) (sym none)))
+      (λ test. adds test ∙ ap (λ b. list_any test out || b) (same (λ row. picked tables all depth (flat_map level_of elems) row && test row)))
 
 -- the whole filter
 pub chosen_done : (tables : Tables) (all now : List Row) (elem : Elem) → Adds [] now (λ row. list_any (within tables all 0 row) (elem ∷ [])) all →

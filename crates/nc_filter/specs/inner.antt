@@ -1,4 +1,7 @@
+pub mod Lists
 pub mod Levels
+pub mod Keys
 pub mod Tables
 pub mod Picks
 pub mod Runs
+pub mod Names

@@ -1,19 +1,17 @@
 //! What an element of a filter is, and which data nodes it names (RFC 6241 6.2).
-ghost use Rattle.std.specs.Prelude.{◌≡◌, ◌&&◌, ◌||◌, ◌++◌, [], not, false, true, IfOk, None};
+ghost use Rattle.std.specs.Prelude.{◌≡◌, ◌&&◌, ◌||◌, [], not, None};
 ghost use Rattle.std.specs.List.{list_any, last_or};
-ghost use Rattle.std.specs.Option.{option_copied, option_map_or};
+ghost use Rattle.std.specs.Option.{option_copied};
 ghost use Rattle.nc_names.specs.Same.{is_same_text};
 ghost use Rattle.nc_names.specs.Signs as signs;
 ghost use Rattle.nc_model.specs.Elements as elements;
 ghost use Rattle.nc_model.specs.Filter as meant;
-ghost use Rattle.nc_filter.specs.inner.Levels.{fits};
 ghost use Rattle.nc_filter.specs.inner.Picks.{is_named};
 
-use crate::text::{is_value, text_of};
+use crate::text::text_of;
 use nc_message::{Attr, Elem, Part};
-use nc_names::{Many, Memory, Row, Step, Text, is_white};
+use nc_names::{Many, Step, Text, is_white};
 use nc_schema::{Node, Schema};
-use std::alloc::Global;
 
 /// The child element that a part is.
 pub(crate) fn child(part: &Part) -> Option<&Elem>
@@ -91,16 +89,6 @@ fn is_of_name(elem: &Elem, node: &Node) -> bool
         && is_of_space(&elem.name.space, &node.name.space)
 }
 
-/// Whether an element has the name of the data node of a step.
-pub(crate) fn is_of_node(schema: &Schema, elem: &Elem, step: &Step) -> bool
-    ensures { result ≡ meant.is_of_node schema.now elem.now step.now }
-{
-    match schema.node(step.node) {
-        Some(node) => is_of_name(elem, node),
-        None => false,
-    }
-}
-
 /// Whether an element has the name of a data node.
 pub(crate) fn is_named(schema: &Schema, number: u32, elem: &Elem) -> bool
     ensures { result ≡ is_named schema.now number elem.now }
@@ -120,23 +108,4 @@ pub(crate) fn last_step(steps: &[Step]) -> Option<&Step>
         last = Some(step);
     }
     last
-}
-
-fn is_of_last(schema: &Schema, elem: &Elem, steps: &Many<Step>) -> bool
-    ensures { result ≡ option_map_or (meant.is_of_node schema.now elem.now) (last_or None steps.now) false }
-{
-    match last_step(steps.as_slice()) {
-        Some(step) => is_of_node(schema, elem, step),
-        None => false,
-    }
-}
-
-/// Whether a row is at a node of an element's name and has its text.
-pub(crate) fn fits(alloc: Global, schema: &Schema, elem: &Elem, row: &Row) -> Result<bool, Memory>
-    ensures { IfOk result (λ it. it ≡ fits schema.now elem.now row.now) }
-{
-    if !is_of_last(schema, elem, &row.path.steps) {
-        return Ok(false);
-    }
-    is_value(alloc, &elem.parts, &row.value)
 }

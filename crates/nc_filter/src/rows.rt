@@ -1,7 +1,8 @@
 //! Rows by the data node at a depth of their paths.
 ghost use Rattle.std.specs.Prelude.{◌≡◌, ◌∷◌, ◌++◌, [], if◌then◌else◌, ◌+◌, ◌<◌, ◌^◌, ◌==◌, not};
 ghost use Rattle.std.specs.Prelude.{length, IfOk, OnSome, map};
-ghost use Rattle.std.specs.List.{filter};
+ghost use Rattle.std.specs.List.{filter, prefix_len};
+ghost use Rattle.nc_filter.specs.inner.Lists.{IsSame};
 ghost use Rattle.nc_filter.specs.inner.Picks as picks;
 
 use nc_names::{Many, Memory, Row};
@@ -60,24 +61,22 @@ pub(crate) fn with_node<'a>(
     Ok(out)
 }
 
-/// Those of some rows that have another data node at a depth.
-pub(crate) fn without_node<'a>(
-    alloc: Global,
-    depth: usize,
-    node: Option<u32>,
-    rows: &[&'a Row],
-) -> Result<Many<&'a Row>, Memory>
-    ensures { IfOk result (λ it. map (λ row. row.now) it
-        ≡ filter (λ row. not (picks.is_number (picks.node_at depth row) node))
-        (map (λ row. row.now) rows.now)) }
+/// How many of some rows, from the first on, have a data node at a depth, or none there.
+pub(crate) fn count_node(depth: usize, node: Option<u32>, rows: &[&Row]) -> usize
+    ensures { result ≡ prefix_len (λ row. picks.is_number (picks.node_at depth row.now) node) rows.now }
 {
-    let mut out = Many::new(alloc);
-    for row in rows {
-        if !is_number(node_at(depth, row), node) {
-            out.push(*row)?;
-        }
-    }
-    Ok(out)
+    rows.iter()
+        .take_while(|row| is_number(node_at(depth, row), node))
+        .count()
+}
+
+/// Some rows in the order of the data nodes at a depth.
+pub(crate) fn by_node<'a>(depth: usize, rows: Many<&'a Row>) -> Result<Many<&'a Row>, Memory>
+    ensures { IfOk result (λ it. IsSame (map (λ row. row.now) rows.entry) (map (λ row. row.now) it)) }
+{
+    let mut items = rows.into_vec();
+    items.sort_by_key(|row| node_at(depth, row))?;
+    Ok(Many::from_vec(items))
 }
 
 /// Puts rows at the end of others.

@@ -1,16 +1,24 @@
 //! Rows by the instances at a depth above them.
-ghost use Rattle.std.specs.Prelude.{◌≡◌, ◌∷◌, ◌++◌, [], List, IfOk, map, take, min};
+ghost use Rattle.std.specs.Prelude.{◌≡◌, ◌∷◌, ◌++◌, [], ℕ, List, IfOk, map, take, min};
 ghost use Rattle.nc_names.specs.Same.{is_same_path};
 ghost use Rattle.nc_names.specs.declared.path.Row.{Row};
-ghost use Rattle.nc_filter.specs.inner.Runs.{AreRuns};
+ghost use Rattle.nc_filter.specs.inner.Keys.{among};
+ghost use Rattle.nc_filter.specs.inner.Runs.{AreKnown, AreRuns, IsKnown};
+ghost use Rattle.nc_filter.specs.inner.Tables.{IsIndex, has_text};
 
+use crate::index::Index;
+use crate::keys::keys_in;
+use crate::texts::{bytes_of, with_text};
 use nc_names::{Many, Memory, Row, Step, same_steps};
+use nc_schema::Schema;
 use std::alloc::Global;
+use std::collections::BTreeSet;
 
-/// An instance, and some of the rows at or below it.
+/// An instance with the keys of the rows directly in it, and some of the rows at or below it.
 #[derive(Drop)]
 pub(crate) struct Run<'a> {
     pub(crate) above: &'a [Step],
+    pub(crate) keys: BTreeSet<Many<u8>>,
     pub(crate) rows: Many<&'a Row>,
 }
 
@@ -23,38 +31,64 @@ fn front(depth: usize, steps: &[Step]) -> &[Step]
 
 // A run with a row more, which stands in the same instance.
 fn with_row<'a>(run: Run<'a>, row: &'a Row) -> Result<Run<'a>, Memory>
-    ensures { IfOk result (λ it. (it.above ≡ run.entry.above)
-        × (map (λ row. row.now) it.rows ≡ map (λ row. row.now) run.entry.rows ++ row.now ∷ [])) }
+    ensures same { IfOk result (λ it. (it.above ≡ run.entry.above) × (it.keys ≡ run.entry.keys)) }
+    ensures more { IfOk result (λ it.
+        map (λ row. row.now) it.rows ≡ map (λ row. row.now) run.entry.rows ++ row.now ∷ []) }
 {
-    let Run { above, rows } = run;
+    let Run { above, keys, rows } = run;
     let mut rows = rows;
     rows.push(row)?;
-    Ok(Run { above, rows })
+    Ok(Run { above, keys, rows })
 }
 
-fn new_run<'a>(alloc: Global, above: &'a [Step], row: &'a Row) -> Result<Run<'a>, Memory>
-    ensures { IfOk result (λ it. (it.above ≡ above.entry)
-        × (map (λ row. row.now) it.rows ≡ row.now ∷ [])) }
+// The set of some keys.
+fn key_set(alloc: Global, keys: &[Many<u8>]) -> Result<BTreeSet<Many<u8>>, Memory>
+    ensures { IfOk result (λ it. (wanted : List ℕ) → has_text it wanted ≡ among keys.now wanted) }
 {
+    let mut set = BTreeSet::new(alloc);
+    for key in keys {
+        set = with_text(set, bytes_of(alloc, key.as_slice())?)?;
+    }
+    Ok(set)
+}
+
+fn new_run<'a>(
+    alloc: Global,
+    schema: &Schema,
+    index: &Index<'a>,
+    above: &'a [Step],
+    row: &'a Row,
+) -> Result<Run<'a>, Memory>
+    ensures rows { IfOk result (λ it. (it.above ≡ above.entry)
+        × (map (λ row. row.now) it.rows ≡ row.now ∷ [])) }
+    ensures keys { IfOk result (λ it. (all : List Row) → IsIndex index.now.table all →
+        IsKnown schema.now all it) }
+{
+    let inside = keys_in(alloc, schema, index, above)?;
+    let keys = key_set(alloc, inside.as_slice())?;
     let mut rows = Many::new(alloc);
     rows.push(row)?;
-    Ok(Run { above, rows })
+    Ok(Run { above, keys, rows })
 }
 
 // Runs with a row more.
 fn with_next<'a>(
     alloc: Global,
+    schema: &Schema,
+    index: &Index<'a>,
     depth: usize,
     runs: Many<Run<'a>>,
     row: &'a Row,
 ) -> Result<Many<Run<'a>>, Memory>
-    ensures { IfOk result (λ it. (rows : List Row) → AreRuns depth rows runs.entry →
+    ensures runs { IfOk result (λ it. (rows : List Row) → AreRuns depth rows runs.entry →
         AreRuns depth (rows ++ row.now ∷ []) it) }
+    ensures known { IfOk result (λ it. (all : List Row) → IsIndex index.now.table all →
+        AreKnown schema.now all runs.entry → AreKnown schema.now all it) }
 {
     let above = front(depth, row.path.steps.as_slice());
     let mut runs = runs;
     let Some(last) = runs.pop() else {
-        runs.push(new_run(alloc, above, row)?)?;
+        runs.push(new_run(alloc, schema, index, above, row)?)?;
         return Ok(runs);
     };
     if same_steps(last.above, above) {
@@ -62,21 +96,25 @@ fn with_next<'a>(
         return Ok(runs);
     }
     runs.push(last)?;
-    runs.push(new_run(alloc, above, row)?)?;
+    runs.push(new_run(alloc, schema, index, above, row)?)?;
     Ok(runs)
 }
 
 /// Rows by the instances at a depth above them.
 pub(crate) fn cut<'a>(
     alloc: Global,
+    schema: &Schema,
+    index: &Index<'a>,
     depth: usize,
     rows: &[&'a Row],
 ) -> Result<Many<Run<'a>>, Memory>
-    ensures { IfOk result (λ it. AreRuns depth (map (λ row. row.now) rows.now) it) }
+    ensures runs { IfOk result (λ it. AreRuns depth (map (λ row. row.now) rows.now) it) }
+    ensures known { IfOk result (λ it. (all : List Row) → IsIndex index.now.table all →
+        AreKnown schema.now all it) }
 {
     let mut runs = Many::new(alloc);
     for row in rows {
-        runs = with_next(alloc, depth, runs, row)?;
+        runs = with_next(alloc, schema, index, depth, runs, row)?;
     }
     Ok(runs)
 }

@@ -1,8 +1,6 @@
 //! The texts of content match nodes and of leafs (RFC 6241 6.2.5).
-ghost use Rattle.std.specs.Prelude.{◌≡◌, ◌++◌, ◌<◌, length, [], false, IfOk, IfSome};
+ghost use Rattle.std.specs.Prelude.{◌≡◌, ◌++◌, ◌<◌, length, [], IfOk};
 ghost use Rattle.std.specs.List.{prefix_len, flat_map};
-ghost use Rattle.std.specs.Option.{option_map_or};
-ghost use Rattle.nc_names.specs.Same.{is_same_text};
 ghost use Rattle.nc_names.specs.Signs as signs;
 ghost use Rattle.nc_schema.specs.PathWords as words;
 ghost use Rattle.nc_schema.specs.Values as values;
@@ -59,17 +57,6 @@ pub(crate) fn text_of(part: &Part) -> &str
     }
 }
 
-// The text that is all of an element's content, where it is one part.
-fn only_text(parts: &[Part]) -> Option<&str>
-    ensures { IfSome result (λ text. text.now ≡ elements.whole_text parts.now) }
-{
-    let (first, more) = parts.split_first()?;
-    if !more.is_empty() {
-        return None;
-    }
-    Some(text_of(first))
-}
-
 /// The text of an element's content without its child elements.
 pub(crate) fn whole_text(alloc: Global, parts: &[Part]) -> Result<Text, Memory>
     ensures { IfOk result (λ it. it ≡ elements.whole_text parts.now) }
@@ -79,30 +66,4 @@ pub(crate) fn whole_text(alloc: Global, parts: &[Part]) -> Result<Text, Memory>
         text.push_str(text_of(part))?;
     }
     Ok(text)
-}
-
-// Whether two texts are the same, white space at both ends aside.
-fn is_same_trimmed(text: &str, other: &str) -> bool
-    ensures { result ≡ is_same_text (values.trimmed text.now) (values.trimmed other.now) }
-{
-    trimmed(text.as_bytes()) == trimmed(other.as_bytes())
-}
-
-/// Whether a value is the text of an element's content, white space at both ends aside.
-pub(crate) fn is_value(
-    alloc: Global,
-    parts: &Many<Part>,
-    value: &Option<Text>,
-) -> Result<bool, Memory>
-    ensures { IfOk result (λ it. it ≡ option_map_or (λ value. is_same_text (values.trimmed value)
-        (values.trimmed (elements.whole_text parts.now))) value.now false) }
-{
-    let Some(value) = value else {
-        return Ok(false);
-    };
-    if let Some(text) = only_text(parts.as_slice()) {
-        return Ok(is_same_trimmed(value.as_str(), text));
-    }
-    let text = whole_text(alloc, parts.as_slice())?;
-    Ok(is_same_trimmed(value.as_str(), text.as_str()))
 }

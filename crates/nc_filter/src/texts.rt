@@ -16,7 +16,8 @@ use nc_names::{Many, Memory, Row, Text};
 use std::alloc::Global;
 use std::collections::BTreeSet;
 
-fn bytes_of(alloc: Global, bytes: &[u8]) -> Result<Many<u8>, Memory>
+/// A copy of some bytes.
+pub(crate) fn bytes_of(alloc: Global, bytes: &[u8]) -> Result<Many<u8>, Memory>
     ensures { IfOk result (λ it. it ≡ bytes.now) }
 {
     Ok(Many::from_vec(Vec::from_slice(alloc, bytes)?))
@@ -36,7 +37,11 @@ pub(crate) fn elem_text(alloc: Global, elem: &Elem) -> Result<Many<u8>, Memory>
     trimmed_text(alloc, &text)
 }
 
-fn with_text(items: BTreeSet<Many<u8>>, text: Many<u8>) -> Result<BTreeSet<Many<u8>>, Memory>
+/// A set with one text more.
+pub(crate) fn with_text(
+    items: BTreeSet<Many<u8>>,
+    text: Many<u8>,
+) -> Result<BTreeSet<Many<u8>>, Memory>
     ensures { IfOk result (λ it. adds_text items it text) }
 {
     let mut items = items;

@@ -1,24 +1,33 @@
 //! The filter from the top down: which of some rows the elements of a level select (RFC 6241 6.2).
-ghost use Rattle.std.specs.Prelude.{◌≡◌, ◌+◌, ◌<◌, ◌^◌, ◌&&◌, ◌||◌, List, IfOk, OnSome, map};
+ghost use Rattle.std.specs.Prelude.{◌≡◌, ◌+◌, ◌<◌, ◌≤◌, ◌^◌, ◌&&◌, ◌||◌, List, IfOk, OnSome, length, map, take};
 ghost use Rattle.std.specs.List.{list_any};
 ghost use Rattle.nc_names.specs.declared.path.Row.{Row};
 ghost use Rattle.nc_model.specs.Filter as meant;
+ghost use Rattle.nc_filter.specs.inner.Names as names;
 ghost use Rattle.nc_filter.specs.inner.Picks as picks;
 ghost use Rattle.nc_filter.specs.inner.Tables.{IsIndex};
 
-use crate::guards::{classes, rows_of_class};
+use crate::groups::{groups, rows_at};
+use crate::guards::classes;
 use crate::index::Index;
-use crate::level::{
-    containments, has_level_of_matches, has_selection, levels_of, named, plain_ones,
-};
-use crate::rows::{extended, first_node, listed, with_node, without_node};
+use crate::level::{containments, has_level_of_matches, has_match, has_selection, levels_of};
+use crate::names::Level;
+use crate::rows::{by_node, count_node, extended, first_node, listed, with_node};
 use crate::runs::cut;
 use crate::table::Table;
 use crate::texts::matched;
 use nc_message::Elem;
-use nc_names::{Many, Memory, Row};
+use nc_names::{Many, Memory, Row, tail};
 use nc_schema::Schema;
 use std::alloc::Global;
+
+// The first of some rows, so many.
+fn front<'a, 'r>(rows: &'r [&'a Row], count: usize) -> &'r [&'a Row]
+    requires { count ≤ length rows.now }
+    ensures { result.now ≡ take count rows.now }
+{
+    &rows[..count]
+}
 
 // Adds those of some rows that the elements of a level pick, in the instances at a depth.
 #[cycle(pick)]
@@ -27,22 +36,24 @@ fn pick_level<'a>(
     schema: &Schema,
     index: &Index<'a>,
     depth: usize,
-    elems: &[&'a Elem],
-    rows: Many<&'a Row>,
+    level: &Level<'a>,
+    rows: &[&'a Row],
     out: Many<&'a Row>,
 ) -> Result<Many<&'a Row>, Memory>
     ensures { IfOk result (λ it. (all : List Row) → IsIndex index.now.table all →
+        names.AreNames level.now.items level.now.elems level.now.elems →
         picks.Adds (map (λ row. row.now) out.entry) (map (λ row. row.now) it)
-        (picks.picked schema.now all depth (map (λ elem. elem.now) elems.now))
-        (map (λ row. row.now) rows.entry)) }
+        (picks.picked schema.now all depth (map (λ elem. elem.now) level.now.elems))
+        (map (λ row. row.now) rows.now)) }
 {
     let mut out = out;
     let mut rest = rows;
     'nodes: while !rest.is_empty() {
-        let left = rest.as_slice();
-        let node = first_node(depth, left);
-        out = pick_some(alloc, schema, index, depth, node, elems, left, out)?;
-        rest = without_node(alloc, depth, node, left)?;
+        let node = first_node(depth, rest);
+        let count = count_node(depth, node, rest);
+        let here = front(rest, count);
+        out = pick_some(alloc, schema, index, depth, node, level, here, out)?;
+        rest = tail(rest, count);
     }
     Ok(out)
 }
@@ -55,19 +66,20 @@ fn pick_some<'a>(
     index: &Index<'a>,
     depth: usize,
     node: Option<u32>,
-    elems: &[&'a Elem],
+    level: &Level<'a>,
     rows: &[&'a Row],
     out: Many<&'a Row>,
 ) -> Result<Many<&'a Row>, Memory>
     requires { OnSome node (depth + 1 < 2 ^ 64) }
     ensures { IfOk result (λ it. (all : List Row) → IsIndex index.now.table all →
+        names.AreNames level.now.items level.now.elems level.now.elems →
         picks.Adds (map (λ row. row.now) out.entry) (map (λ row. row.now) it)
         (λ row. picks.is_number (picks.node_at depth row) node
-        && picks.picked schema.now all depth (map (λ elem. elem.now) elems.now) row)
+        && picks.picked schema.now all depth (map (λ elem. elem.now) level.now.elems) row)
         (map (λ row. row.now) rows.now)) }
 {
     match node {
-        Some(number) => Ok(pick_node(alloc, schema, index, depth, number, elems, rows, out)?),
+        Some(number) => Ok(pick_node(alloc, schema, index, depth, number, level, rows, out)?),
         None => Ok(out),
     }
 }
@@ -80,18 +92,19 @@ fn pick_node<'a>(
     index: &Index<'a>,
     depth: usize,
     node: u32,
-    elems: &[&'a Elem],
+    level: &Level<'a>,
     rows: &[&'a Row],
     out: Many<&'a Row>,
 ) -> Result<Many<&'a Row>, Memory>
     requires { depth + 1 < 2 ^ 64 }
     ensures { IfOk result (λ it. (all : List Row) → IsIndex index.now.table all →
+        names.AreNames level.now.items level.now.elems level.now.elems →
         picks.Adds (map (λ row. row.now) out.entry) (map (λ row. row.now) it)
         (λ row. picks.has_node depth node row
-        && picks.picks_at schema.now all depth (map (λ elem. elem.now) elems.now) row node)
+        && picks.picks_at schema.now all depth (map (λ elem. elem.now) level.now.elems) row node)
         (map (λ row. row.now) rows.now)) }
 {
-    let named = named(alloc, schema, node, elems)?;
+    let named = level.named(alloc, schema, node)?;
     let ones = named.as_slice();
     let rows = with_node(alloc, depth, node, rows)?;
     let here = rows.as_slice();
@@ -122,12 +135,11 @@ pub(crate) fn pick_within<'a>(
         (λ row. list_any (picks.within schema.now all depth row) (map (λ elem. elem.now) elems.now))
         (map (λ row. row.now) rows.now)) }
 {
-    let plain = plain_ones(alloc, elems, true)?;
-    let guarded = plain_ones(alloc, elems, false)?;
-    let free = plain.as_slice();
-    let bound = guarded.as_slice();
-    let out = pick_open(alloc, schema, index, depth, free, rows, out)?;
-    let found = pick_guarded(alloc, schema, index, depth, bound, rows, out)?;
+    if has_match(elems) {
+        let found = pick_guarded(alloc, schema, index, depth, elems, rows, out)?;
+        return Ok(found);
+    }
+    let found = pick_open(alloc, schema, index, depth, elems, rows, out)?;
     Ok(found)
 }
 
@@ -151,10 +163,12 @@ fn pick_open<'a>(
         let found = extended(out, rows)?;
         return Ok(found);
     }
-    let level = levels_of(alloc, elems)?;
-    let below = level.as_slice();
+    let below = levels_of(alloc, elems)?;
+    let level = Level::new(alloc, below)?;
     let copy = listed(alloc, rows)?;
-    let found = pick_level(alloc, schema, index, depth, below, copy, out)?;
+    let sorted = by_node(depth, copy)?;
+    let some = sorted.as_slice();
+    let found = pick_level(alloc, schema, index, depth, &level, some, out)?;
     Ok(found)
 }
 
@@ -174,18 +188,15 @@ fn pick_guarded<'a>(
         (λ row. list_any (picks.within schema.now all depth row) (map (λ elem. elem.now) elems.now))
         (map (λ row. row.now) rows.now)) }
 {
-    if elems.is_empty() {
-        return Ok(out);
-    }
-    let runs = cut(alloc, depth, rows)?;
+    let runs = cut(alloc, schema, index, depth, rows)?;
     let whole = runs.as_slice();
     let table = Table::new(alloc, schema, index, whole)?;
     let classes = classes(alloc, elems)?;
+    let groups = groups(alloc, &table, whole, classes)?;
     let mut out = out;
-    for class in classes.as_slice() {
-        let matches = class.matches.as_slice();
-        let held = rows_of_class(alloc, schema, index, &table, matches, whole)?;
-        let inner = class.elems.as_slice();
+    for group in groups.as_slice() {
+        let held = rows_at(alloc, whole, group.numbers.as_slice())?;
+        let inner = group.elems.as_slice();
         let here = held.as_slice();
         out = pick_open(alloc, schema, index, depth, inner, here, out)?;
     }

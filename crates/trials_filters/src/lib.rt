@@ -2,6 +2,4 @@
 #![tactic(auto)]
 
 #[cfg(test)]
-mod filter_tests;
-#[cfg(test)]
 mod site;

@@ -1,4 +1,5 @@
-//! A module of the shape that RFC 6241 6.4 filters, and rows of it written as short texts.
+//! A module of the shape that RFC 6241 6.4 filters, and rows of it written as short texts. The tests stand below
+//! this module and see what is private in it.
 //!
 //! ```text
 //! 0 container top {
@@ -21,13 +22,15 @@
 //!     14 leaf x }
 //!   15 leaf mode }
 //! ```
+mod filter_tests;
+
 use nc_names::{Many, Path, Place, QName, Row, Step, Text};
 use nc_schema::{Deny, Kind, Node, Schema};
 use nc_tree::Config;
 use std::alloc::Global;
 use std::process::Abort;
 
-/// Name, number of the node above, kind and number of the key; 99 is none.
+// Name, number of the node above, kind and number of the key; 99 is none.
 const NODES: [(&str, u32, Kind, u32); 19] = [
     ("top", 99, Kind::Container { presence: false }, 99),
     ("users", 0, Kind::Container { presence: false }, 99),
@@ -50,8 +53,8 @@ const NODES: [(&str, u32, Kind, u32); 19] = [
     ("via", 16, Kind::Leaf, 99),
 ];
 
-/// A text.
-pub fn text(rt: &impl Abort, alloc: Global, chars: &str) -> Text {
+// A text.
+fn text(rt: &impl Abort, alloc: Global, chars: &str) -> Text {
     Text::from_text(alloc, chars).expect(rt, "memory")
 }
 
@@ -82,8 +85,8 @@ fn node(rt: &impl Abort, alloc: Global, row: (&str, u32, Kind, u32)) -> Node {
     }
 }
 
-/// The schema.
-pub fn schema(rt: &impl Abort, alloc: Global) -> Schema {
+// The schema.
+fn schema(rt: &impl Abort, alloc: Global) -> Schema {
     let mut schema = Schema::new(alloc);
     for row in NODES {
         let node = node(rt, alloc, row);
@@ -97,7 +100,7 @@ pub fn schema(rt: &impl Abort, alloc: Global) -> Schema {
     schema
 }
 
-/// A step from `2:fred`, a number and a key, or from a number alone.
+// A step from `2:fred`, a number and a key, or from a number alone.
 fn step(rt: &impl Abort, alloc: Global, part: &str) -> Step {
     let mut keys = Many::new(alloc);
     let (number, key) = part.split_once(':').unwrap_or((part, ""));
@@ -110,7 +113,7 @@ fn step(rt: &impl Abort, alloc: Global, part: &str) -> Step {
     }
 }
 
-/// A row from `fred/4=admin`, below a user, or from `.10=h`, below `top`.
+// A row from `fred/4=admin`, below a user, or from `.10=h`, below `top`.
 fn row(rt: &impl Abort, alloc: Global, line: &str) -> Row {
     let (steps, value) = line.split_once('=').unwrap_or((line, ""));
     let mut whole = text(rt, alloc, "0/");
@@ -135,8 +138,8 @@ fn row(rt: &impl Abort, alloc: Global, line: &str) -> Row {
     }
 }
 
-/// Rows, written with a space between two.
-pub fn rows(rt: &impl Abort, alloc: Global, lines: &str) -> Many<Row> {
+// Rows, written with a space between two.
+fn rows(rt: &impl Abort, alloc: Global, lines: &str) -> Many<Row> {
     let mut rows = Many::new(alloc);
     for line in lines.split(' ') {
         if !line.is_empty() {
@@ -146,8 +149,8 @@ pub fn rows(rt: &impl Abort, alloc: Global, lines: &str) -> Many<Row> {
     rows
 }
 
-/// A configuration of these rows.
-pub fn config(rt: &impl Abort, alloc: Global, schema: &Schema, lines: &str) -> Config {
+// A configuration of these rows.
+fn config(rt: &impl Abort, alloc: Global, schema: &Schema, lines: &str) -> Config {
     let mut config = Config::empty(alloc);
     let top = Path {
         steps: Many::new(alloc),

@@ -1,7 +1,7 @@
 -- What is asked of the elements of one level, as it is asked of the parts in which they stand.
-use Rattle.std.specs.Prelude.{◌&&◌, ◌||◌, Bool, true, false, not, List, None}
+use Rattle.std.specs.Prelude.{◌&&◌, Bool, true, false, not, List, None}
 use Rattle.std.specs.Prelude.{is_some}
-use Rattle.std.specs.List.{filter, last_or, list_all, list_any}
+use Rattle.std.specs.List.{filter, last_or}
 use Rattle.std.specs.Option.{option_map_or}
 use Rattle.nc_names.specs.Same.{is_same_path}
 use Rattle.nc_names.specs.declared.path.Row.{Row}
@@ -20,17 +20,6 @@ children rows above = filter (λ row. is_same_path (above_last row.path.steps) a
 -- a row is at a node of an element's name and has its text
 abbrev pub fits : Tables → Elem → Row → Bool
 fits tables elem row = option_map_or (is_of_node tables elem) (last_or None row.path.steps) false && is_of_text elem row
-
--- each of some content matches is met by one of the rows in the instance
-abbrev pub are_met : Tables → List Elem → List Row → Bool
-are_met tables matches inside = list_all (λ elem. list_any (fits tables elem) inside) matches
-
--- an element that is a content match is met by one of the rows in the instance
-abbrev pub is_met : Tables → List Row → Elem → Bool
-is_met tables inside elem = not (is_content_match elem) || list_any (fits tables elem) inside
-
-abbrev pub is_part_met : Tables → List Row → Part → Bool
-is_part_met tables inside part = option_map_or (is_met tables inside) (elem_of part) true
 
 abbrev pub is_element : Part → Bool
 is_element part = is_some (elem_of part)

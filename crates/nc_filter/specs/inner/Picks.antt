@@ -65,8 +65,8 @@ opens tables rows depth row elem = is_of_matches (level_of elem) || picked table
 abbrev pub is_plain : Elem → Bool
 is_plain elem = list_all is_free elem.parts
 
-abbrev pub is_plain_as : Bool → Elem → Bool
-is_plain_as plain elem = if plain then is_plain elem else not (is_plain elem)
+abbrev pub is_guarded : Elem → Bool
+is_guarded elem = not (is_plain elem)
 
 -- a row is where a content match of that text stands
 abbrev pub is_matched : List Elem → ℕ → Row → Bool

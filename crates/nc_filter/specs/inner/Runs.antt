@@ -1,8 +1,7 @@
 -- Instances, the rows at and below them, and where content matches hold.
-use Rattle.std.specs.Prelude.{◌≡◌, ◌&&◌, ◌||◌, ◌≤◌, ℕ, Bool, false, cond, List, Option, None, [], ◌∷◌, ◌++◌, map}
-use Rattle.std.specs.Prelude.{drop, length, option_and_then, slice_get, take}
-use Rattle.std.proofs.Common.{Bor}
-use Rattle.std.specs.List.{last_or, list_all, list_any}
+use Rattle.std.specs.Prelude.{◌≡◌, ◌&&◌, ◌||◌, ℕ, Bool, false, cond, List, None, [], map}
+use Rattle.std.specs.Prelude.{slice_get, take}
+use Rattle.std.specs.List.{All, list_any}
 use Rattle.std.specs.Option.{option_map_or}
 use Rattle.std.specs.BTreeMap.{BTreeMap, get}
 use Rattle.std.specs.Cmp.Lexicographic.{slice_cmp}
@@ -12,12 +11,11 @@ use Rattle.nc_names.specs.declared.path.Row.{Row}
 use Rattle.nc_names.specs.declared.path.Step.{Step}
 use Rattle.nc_message.specs.declared.tree.Elem.{Elem}
 use Rattle.nc_schema.specs.Tables.{Tables}
-use Rattle.nc_schema.specs.Values.{trimmed}
-use Rattle.nc_schema.specs.declared.node.Node.{Node}
-use Rattle.nc_model.specs.Elements.{whole_text}
-use Rattle.nc_filter.specs.inner.Levels.{are_met, children, fits, is_part_met}
+use Rattle.nc_filter.specs.inner.Keys.{among, asked, has_all, keys_in}
+use Rattle.nc_filter.specs.inner.Tables.{has_text}
 use Rattle.nc_filter.specs.declared.runs.Run.{Run}
 use Rattle.nc_filter.specs.declared.guards.Class.{Class}
+use Rattle.nc_filter.specs.declared.groups.Group.{Group}
 
 -- the runs are those of the rows: each row is in one whose instance is at that depth above it
 abbrev pub AreRuns : ℕ → List Row → List Run → Type 0
@@ -25,29 +23,16 @@ AreRuns depth rows runs = (f : List Step → Row → Bool) →
     list_any (λ run. list_any (f run.above.now) (map (λ row. row.now) run.rows)) runs
     ≡ list_any (λ row. f (take depth row.path.steps) row) rows
 
-abbrev pub key : List ℕ → List ℕ → List ℕ → List ℕ
-key space name text = space ++ 0 ∷ name ++ 0 ∷ text
-
-abbrev pub elem_key : Elem → List ℕ
-elem_key elem = key elem.name.space elem.name.name (trimmed (whole_text elem.parts))
-
-abbrev pub row_node : Tables → Row → Option Node
-row_node tables row = option_and_then (λ step. slice_get tables.nodes step.node) (last_or None row.path.steps)
-
--- a key of a value of a data node: with its namespace, and without one
-abbrev pub is_value_key : Node → List ℕ → List ℕ → Bool
-is_value_key node value wanted =
-    is_same_text (key node.name.space node.name.name (trimmed value)) wanted ||
-    is_same_text (key [] node.name.name (trimmed value)) wanted
-
-abbrev pub is_row_key : Tables → List ℕ → Row → Bool
-is_row_key tables wanted row =
-    option_map_or (λ node. option_map_or (λ value. is_value_key node value wanted) row.value false)
-    (row_node tables row) false
-
 -- one of the rows directly in an instance has a key
-abbrev pub has_key : Tables → List Row → List ℕ → Run → Bool
-has_key tables all wanted run = list_any (is_row_key tables wanted) (children all run.above.now)
+abbrev pub has_key : Tables → List Row → Run → List ℕ → Bool
+has_key tables all run wanted = among (keys_in tables all run.above.now) wanted
+
+-- a run has the keys of the rows directly in its instance
+abbrev pub IsKnown : Tables → List Row → Run → Type 0
+IsKnown tables all run = (wanted : List ℕ) → has_text run.keys wanted ≡ has_key tables all run wanted
+
+abbrev pub AreKnown : Tables → List Row → List Run → Type 0
+AreKnown tables all runs = All (IsKnown tables all) runs
 
 abbrev pub Slots : Type 0
 Slots = BTreeMap (List ℕ) (List ℕ)
@@ -68,17 +53,8 @@ Puts before now here number = (other : List ℕ) (test : ℕ → Bool) →
 abbrev pub adds_key : Slots → Slots → List ℕ → ℕ → Type 0
 adds_key before now wanted number = Puts before now (is_same_text wanted) number
 
-abbrev pub adds_value : Slots → Slots → Node → List ℕ → ℕ → Type 0
-adds_value before now node value number = Puts before now (is_value_key node value) number
-
-abbrev pub adds_row : Tables → Slots → Slots → Row → ℕ → Type 0
-adds_row tables before now row number = Puts before now (λ other. is_row_key tables other row) number
-
-abbrev pub adds_rows : Tables → Slots → Slots → List Row → ℕ → Type 0
-adds_rows tables before now rows number = Puts before now (λ other. list_any (is_row_key tables other) rows) number
-
-abbrev pub adds_run : Tables → List Row → Slots → Slots → Run → ℕ → Type 0
-adds_run tables all before now run number = Puts before now (λ other. has_key tables all other run) number
+abbrev pub adds_keys : Slots → Slots → List (List ℕ) → ℕ → Type 0
+adds_keys before now keys number = Puts before now (among keys) number
 
 -- a test of the instance of a number in a list
 abbrev pub at_number : List Run → (Run → Bool) → ℕ → Bool
@@ -88,63 +64,80 @@ at_number whole test number = option_map_or test (slice_get whole number) false
 abbrev pub IsTable : Tables → List Row → Slots → List Run → List Run → Type 0
 IsTable tables all items whole runs = (wanted : List ℕ) (test : Run → Bool) →
     list_any (at_number whole test) (in_slot items wanted)
-    ≡ list_any (λ run. has_key tables all wanted run && test run) runs
+    ≡ list_any (λ run. has_key tables all run wanted && test run) runs
 
--- these content matches hold in an instance
-abbrev pub hold_in : Tables → List Row → List Elem → Run → Bool
-hold_in tables all matches run = are_met tables matches (children all run.above.now)
+-- an instance has each of some keys
+abbrev pub holds_in : List (List ℕ) → Run → Bool
+holds_in keys run = has_all (λ wanted. has_text run.keys wanted) keys
 
--- the rows of those instances in which these content matches hold
-abbrev pub AreHeld : Tables → List Row → List Elem → List Run → List Row → Type 0
-AreHeld tables all matches runs rows = (test : Row → Bool) →
-    list_any test rows
-    ≡ list_any (λ run. hold_in tables all matches run && list_any test (map (λ row. row.now) run.rows)) runs
+-- of the instances of some numbers, those that have each of some keys
+abbrev pub AreHeldOf : List (List ℕ) → List Run → List ℕ → List ℕ → Type 0
+AreHeldOf keys whole some numbers = (test : Run → Bool) →
+    list_any (at_number whole test) numbers ≡ list_any (at_number whole (λ run. holds_in keys run && test run)) some
 
--- the rows of the instance of a number are added, where these content matches hold in it
-abbrev pub PutsAt : Tables → List Row → List Elem → List Run → ℕ → List Row → List Row → Type 0
-PutsAt tables all matches whole number before now = (test : Row → Bool) →
-    list_any test now ≡ (list_any test before ||
-    at_number whole (λ run. hold_in tables all matches run && list_any test (map (λ row. row.now) run.rows)) number)
+-- of all instances, those that have each of some keys
+abbrev pub AreHeld : List (List ℕ) → List Run → List ℕ → Type 0
+AreHeld keys whole numbers = (test : Run → Bool) →
+    list_any (at_number whole test) numbers ≡ list_any (λ run. holds_in keys run && test run) whole
 
--- the same for the instances of some numbers
-abbrev pub AreHeldAt : Tables → List Row → List Elem → List Run → List ℕ → List Row → Type 0
-AreHeldAt tables all matches whole numbers rows = (test : Row → Bool) →
-    list_any test rows ≡ list_any
-    (at_number whole (λ run. hold_in tables all matches run && list_any test (map (λ row. row.now) run.rows))) numbers
+-- what a class of elements says, each by a test, in an instance with these keys
+abbrev pub class_says : (List ℕ → Bool) → (Elem → Bool) → Class → Bool
+class_says has test class = has_all has class.keys && list_any test (map (λ elem. elem.now) class.elems)
 
--- what a class of elements says, each by a test, in an instance with these rows
-abbrev pub class_says : Tables → List Row → (Elem → Bool) → Class → Bool
-class_says tables inside test class =
-    are_met tables (map (λ elem. elem.now) class.matches) inside && list_any test (map (λ elem. elem.now) class.elems)
+abbrev pub elem_says : (List ℕ → Bool) → (Elem → Bool) → Elem → Bool
+elem_says has test elem = has_all has (asked elem) && test elem
 
-abbrev pub elem_says : Tables → List Row → (Elem → Bool) → Elem → Bool
-elem_says tables inside test elem = list_all (is_part_met tables inside) elem.parts && test elem
+abbrev pub IsClass : Class → Elem → Type 0
+IsClass class elem = (has : List ℕ → Bool) (test : Elem → Bool) → class_says has test class ≡ elem_says has test elem
 
-abbrev pub IsClass : Tables → Class → Elem → Type 0
-IsClass tables class elem =
-    (inside : List Row) (test : Elem → Bool) → class_says tables inside test class ≡ elem_says tables inside test elem
-
-abbrev pub AreClasses : Tables → List Elem → List Class → Type 0
-AreClasses tables elems classes = (inside : List Row) (test : Elem → Bool) →
-    list_any (class_says tables inside test) classes ≡ list_any (elem_says tables inside test) elems
-
--- two content matches are met by the same rows
-abbrev pub AreSame : Elem → Elem → Type 0
-AreSame one other = (tables : Tables) (row : Row) → fits tables one row ≡ fits tables other row
-
--- the first of some content matches is met by the rows that meet another
-abbrev pub BeginsWith : Elem → List (Bor Elem) → Type 0
-BeginsWith elem rest = (1 ≤ length rest) × ((tables : Tables) (inside : List Row) →
-    are_met tables (map (λ elem. elem.now) rest) inside
-    ≡ (list_any (fits tables elem) inside && are_met tables (map (λ elem. elem.now) (drop 1 rest)) inside))
-
--- two lists of content matches hold in the same instances
-abbrev pub AreSameMatches : List Elem → List Elem → Type 0
-AreSameMatches some others =
-    (tables : Tables) (inside : List Row) → are_met tables some inside ≡ are_met tables others inside
+abbrev pub AreClasses : List Elem → List Class → Type 0
+AreClasses elems classes = (has : List ℕ → Bool) (test : Elem → Bool) →
+    list_any (class_says has test) classes ≡ list_any (elem_says has test) elems
 
 -- what a class says is added, in a class more or in another class
 abbrev pub AddsClass : List Class → List Class → Class → Type 0
-AddsClass before now class = (tables : Tables) (inside : List Row) (test : Elem → Bool) →
-    list_any (class_says tables inside test) now
-    ≡ (list_any (class_says tables inside test) before || class_says tables inside test class)
+AddsClass before now class = (has : List ℕ → Bool) (test : Elem → Bool) →
+    list_any (class_says has test) now ≡ (list_any (class_says has test) before || class_says has test class)
+
+-- what a class says of the instances in which its keys are
+abbrev pub class_tells : List Run → (Run → Elem → Bool) → Class → Bool
+class_tells whole test class =
+    list_any (λ run. class_says (λ wanted. has_text run.keys wanted) (test run) class) whole
+
+-- what a group of elements says of its instances
+abbrev pub group_tells : List Run → (Run → Elem → Bool) → Group → Bool
+group_tells whole test group =
+    list_any (at_number whole (λ run. list_any (test run) (map (λ elem. elem.now) group.elems))) group.numbers
+
+abbrev pub AreGroups : List Run → List Class → List Group → Type 0
+AreGroups whole classes groups = (test : Run → Elem → Bool) →
+    list_any (group_tells whole test) groups ≡ list_any (class_tells whole test) classes
+
+-- what a group says is added, in a group more or in another group
+abbrev pub AddsGroup : List Run → List Group → List Group → Group → Type 0
+AddsGroup whole before now group = (test : Run → Elem → Bool) →
+    list_any (group_tells whole test) now ≡ (list_any (group_tells whole test) before || group_tells whole test group)
+
+-- the rows of the instances of some numbers
+abbrev pub AreRowsAt : List Run → List ℕ → List Row → Type 0
+AreRowsAt whole numbers rows = (test : Row → Bool) →
+    list_any test rows
+    ≡ list_any (at_number whole (λ run. list_any test (map (λ row. row.now) run.rows))) numbers
+
+-- to what was found come the rows of the instance of a number
+abbrev pub PutsRowsAt : List Run → ℕ → List Row → List Row → Type 0
+PutsRowsAt whole number before now = (test : Row → Bool) →
+    list_any test now
+    ≡ (list_any test before || at_number whole (λ run. list_any test (map (λ row. row.now) run.rows)) number)
+
+-- the numbers are those of all instances
+abbrev pub AreAll : List Run → List ℕ → Type 0
+AreAll whole numbers = (test : Run → Bool) → list_any (at_number whole test) numbers ≡ list_any test whole
+
+-- a number is added where its instance has each of some keys
+abbrev pub AddsHeld : List (List ℕ) → List Run → ℕ → List ℕ → List ℕ → Type 0
+AddsHeld keys whole number before now = (test : ℕ → Bool) →
+    list_any test now ≡ (list_any test before || (at_number whole (holds_in keys) number && test number))
+
+abbrev pub IsGroup : List Run → Group → Class → Type 0
+IsGroup whole group class = (test : Run → Elem → Bool) → group_tells whole test group ≡ class_tells whole test class

@@ -1,7 +1,11 @@
-use Rattle.nc_filter.proofs.ClassLemmas.{class_added}
+use Rattle.std.proofs.Common.{◌∙◌}
+use Rattle.std.specs.List.{list_any}
+use Rattle.nc_filter.specs.inner.Runs.{class_says}
+use Rattle.nc_filter.proofs.ListLemmas.{popped}
 use Rattle.nc_filter.proofs.guards.classes.Goals as goal
 
-pub loop-elem-preserved : goal.loop-elem-preserved
-loop-elem-preserved c = λ schema.
-    class_added schema c.args.elems.now c.loop-elem.elem-index c.elem-item.result c.loop-elem.out c.in_ok-out.out c.in_ok-class.class
-    c.loop-elem-test.true c.elem-item.is c.in_ok-out.ensures (c.in_ok-class.ensures schema) (c.loop-elem.invariant schema)
+pub classes-preserved : goal.classes-preserved
+classes-preserved c = λ has test.
+    popped (class_says has test) (list_any (class_says has test) c.classes.out) (list_any (class_says has test) c.in_ok-out.out) c.classes.rest c.pop.new.self c.in-Some.class
+    c.in-Some.ensures (c.in_ok-out.ensures has test)
+    ∙ c.classes.invariant has test

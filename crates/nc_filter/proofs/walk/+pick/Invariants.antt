@@ -2,10 +2,10 @@ use Rattle.std.proofs.Common.{◌≡◌, ◌&&◌, ◌||◌, ◌*◌, ◌+◌, �
 use Rattle.std.specs.Prelude.{map}
 use Rattle.std.specs.List.{list_any}
 use Rattle.nc_names.specs.declared.path.Row.{Row}
-use Rattle.nc_filter.specs.inner.Picks.{Adds, opens, picked}
-use Rattle.nc_filter.specs.inner.Levels.{children}
-use Rattle.nc_filter.specs.inner.Runs.{class_says}
+use Rattle.nc_filter.specs.inner.Names.{AreNames}
+use Rattle.nc_filter.specs.inner.Picks.{picked}
 use Rattle.nc_filter.specs.inner.Tables.{IsIndex}
+use Rattle.nc_filter.proofs.GroupLemmas.{group_picks}
 use Rattle.nc_filter.proofs.walk.+pick.Given as goal
 
 abbrev pub decreases-pick_level : goal.decreases-pick_level
@@ -28,16 +28,15 @@ decreases-pick_open l = 8 * (2 ^ 64 - l.depth) + 1
 
 abbrev pub invariant-pick_level-nodes : goal.invariant-pick_level-nodes
 invariant-pick_level-nodes l =
-    (all : List Row) → IsIndex l.index.table all → (test : Row → Bool) →
-    (list_any test (map (λ row. row.now) l.out) || list_any (λ row. picked l.schema all l.depth (map (λ elem. elem.now) l.elems) row && test row) (map (λ row. row.now) l.rest))
-    ≡ (list_any test (map (λ row. row.now) l.fn.out) || list_any (λ row. picked l.schema all l.depth (map (λ elem. elem.now) l.elems) row && test row) (map (λ row. row.now) l.fn.rows))
+    (all : List Row) → IsIndex l.index.table all → AreNames l.level.items l.level.elems l.level.elems → (test : Row → Bool) →
+    (list_any test (map (λ row. row.now) l.out) || list_any (λ row. picked l.schema all l.depth (map (λ elem. elem.now) l.level.elems) row && test row) (map (λ row. row.now) l.rest))
+    ≡ (list_any test (map (λ row. row.now) l.fn.out) || list_any (λ row. picked l.schema all l.depth (map (λ elem. elem.now) l.level.elems) row && test row) (map (λ row. row.now) l.rows))
 
 abbrev pub decreases-pick_level-nodes : goal.decreases-pick_level-nodes
 decreases-pick_level-nodes l = length l.rest
 
-abbrev pub invariant-pick_guarded-loop-class : goal.invariant-pick_guarded-loop-class
-invariant-pick_guarded-loop-class l =
-    (all : List Row) → IsIndex l.index.table all →
-    Adds (map (λ row. row.now) l.fn.out) (map (λ row. row.now) l.out)
-    (λ row. list_any (λ class. class_says l.schema (children all (take l.depth row.path.steps)) (opens l.schema all l.depth row) class) (take l.class-index l.class-items))
-    (map (λ row. row.now) l.rows)
+abbrev pub invariant-pick_guarded-loop-group : goal.invariant-pick_guarded-loop-group
+invariant-pick_guarded-loop-group l =
+    (all : List Row) → IsIndex l.index.table all → (test : Row → Bool) →
+    list_any test (map (λ row. row.now) l.out)
+    ≡ (list_any test (map (λ row. row.now) l.fn.out) || list_any (group_picks l.schema all l.depth l.whole test) (take l.group-index l.group-items))

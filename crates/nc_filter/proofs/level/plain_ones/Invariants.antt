@@ -1,9 +1,0 @@
-use Rattle.std.proofs.Common.{◌≡◌, ◌++◌, drop}
-use Rattle.std.specs.Prelude.{map}
-use Rattle.std.specs.List.{filter}
-use Rattle.nc_filter.specs.inner.Picks.{is_plain_as}
-use Rattle.nc_filter.proofs.level.plain_ones.Given as goal
-
-abbrev pub invariant-loop-elem : goal.invariant-loop-elem
-invariant-loop-elem l =
-    map (λ elem. elem.now) l.out ++ filter (is_plain_as l.plain) (map (λ elem. elem.now) (drop l.elem-index l.elems)) ≡ filter (is_plain_as l.plain) (map (λ elem. elem.now) l.elems)

@@ -1,0 +1,14 @@
+-- Lists that are asked whether one of their elements passes a test, in any order and with repeats.
+use Rattle.std.specs.Prelude.{◌≡◌, ◌||◌, ◌-◌, Bool, List, Some, length, slice_get}
+use Rattle.std.specs.List.{list_any}
+
+-- two lists have the same elements
+abbrev pub IsSame : {X : Type 0} → List X → List X → Type 0
+IsSame {X} before now = (test : X → Bool) → list_any test now ≡ list_any test before
+
+-- a list has one element more
+abbrev pub AddsOne : {X : Type 0} → List X → List X → X → Type 0
+AddsOne {X} before now x = (test : X → Bool) → list_any test now ≡ (list_any test before || test x)
+
+abbrev pub IsLast : {X : Type 0} → List X → X → Type 0
+IsLast xs x = slice_get xs (length xs - 1) ≡ Some x

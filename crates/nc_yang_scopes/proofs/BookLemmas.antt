@@ -12,9 +12,9 @@ use Rattle.nc_names.specs.Same.{is_same_text}
 use Rattle.nc_names.specs.Signs.{colon}
 use Rattle.nc_yang_words.specs.declared.statement.Statement.{Statement}
 use Rattle.nc_yang_statements.specs.declared.keyword.Keyword.{Keyword}
-use Rattle.nc_yang_statements.specs.declared.keyword.Keyword.TheVariants.{Import}
+use Rattle.nc_yang_statements.specs.declared.keyword.Keyword.TheVariants.{Import, Revision}
 use Rattle.nc_yang_statements.specs.Statements.{below, name}
-use Rattle.nc_yang_scopes.specs.Scopes.{Located, child, found, found_in, has_colon, import_of, inside, is_defining, local_of, prefix_of, resolved, root, text_of, text_of_prefix, top}
+use Rattle.nc_yang_scopes.specs.Scopes.{Located, child, defines, found, found_in, has_colon, has_revision, import_of, inside, is_defining, local_of, prefix_of, resolved, root, text_of, text_of_prefix, top}
 use Rattle.nc_yang_scopes.specs.Names.{further_out, is_defined_out}
 use Rattle.nc_yang_scopes.specs.inner.Books.{Gives, SplitsReference, across, near}
 use Rattle.nc_yang_scopes.specs.inner.Frames.{Entry, IsBehind, IsWhole, blocks_in, first_in, is_import, is_known, is_one, located, opened, roots}
@@ -73,7 +73,7 @@ root_at from (s ∷ texts) (suc i) =
     ∙ (let e : from + 1 + i ≡ from + suc i = omega arith in ap (λ n. option_map (root_entry n) (slice_get texts i)) e)
 
 -- what is found is there
-given_some : (located : List Located) (at : Option ℕ) (wanted : Option Located) → Gives located at wanted → is_some at ≡ is_some wanted
+pub given_some : (located : List Located) (at : Option ℕ) (wanted : Option Located) → Gives located at wanted → is_some at ≡ is_some wanted
 given_some located None None e = refl
 given_some located None (Some l) e = absurd (cc)
 given_some located (Some n) None e = absurd (cc)
@@ -370,6 +370,17 @@ root_past texts text le = ap (option_map (root_located text)) (sym (slice_get_pa
 
 pub top_past : (texts : List Statement) (located : List Located) (keyword : Keyword) (word : List ℕ) (text : ℕ) → length texts ≤ text → Gives located None (found keyword word text (top texts text ∷ []))
 top_past texts located keyword word text le = ap (λ (o : Option Statement). option_map Some (found keyword word text (option_map_or below o [] ∷ []))) (sym (slice_get_past texts text le))
+
+-- a revision of a module
+pub revision_is : (texts : List Statement) (statements : List Located) (text : ℕ) (date : List ℕ) (at : Option ℕ) →
+    Gives statements at (found Revision date text (top texts text ∷ [])) → is_some at ≡ has_revision texts text date
+revision_is texts statements text date at gives =
+    given_some statements at (found Revision date text (top texts text ∷ [])) gives ∙ by (find (defines Revision date) (top texts text))
+  where
+    by : (o : Option Statement) →
+        is_some {T = Located} (option_map_or (λ s. Some (record { statement = s; place = record { text = text; blocks = top texts text ∷ [] } })) o None) ≡ is_some o
+    by None = refl
+    by (Some s) = refl
 
 -- a keyword that defines a name is no import
 pub plain_of : (keyword : Keyword) → IsTrue (is_defining keyword) → is_import keyword ≡ false

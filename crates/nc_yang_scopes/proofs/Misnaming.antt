@@ -32,7 +32,7 @@ same_shadowing l Grouping = refl
 same_shadowing l k = refl
 
 module _ (scoping : Scoping) (n : ℕ) (s : Statement) (l : Located) (number : HasNumber scoping n s) (here : slice_get scoping.located n ≡ Some l) where
-  statement_is : l.statement ≡ s
+  pub statement_is : l.statement ≡ s
   statement_is = let e : Some l.statement ≡ Some s = sym (ap (option_map (λ (k : Located). k.statement)) here) ∙ number in cc
 
   same_faults : misnamed_at scoping.texts (slice_get scoping.located n) s ≡ misnamed scoping.texts l
@@ -78,7 +78,7 @@ module _ (scoping : Scoping) (n : ℕ) (s : Statement) (l : Located) (number : H
           by (Some t) there e = get_within (below l.statement) place t there
 
   -- a child of it
-  child_is : (among : List Statement) → among ≡ below s → (place : ℕ) (t : Statement) → place < length among → t ≡ get_or among place t → child place l ≡ Some (record { statement = t; place = inside_of l })
+  pub child_is : (among : List Statement) → among ≡ below s → (place : ℕ) (t : Statement) → place < length among → t ≡ get_or among place t → child place l ≡ Some (record { statement = t; place = inside_of l })
   child_is among among_is place t less is =
       ap (λ z. option_map put (slice_get (below z) place)) statement_is ∙ ap (λ ts. option_map put (slice_get ts place)) (sym among_is)
       ∙ ap (option_map put) (slice_get-get_or among place t less ∙ ap Some (sym is))
@@ -113,7 +113,7 @@ module _ (scoping : Scoping) (n : ℕ) (s : Statement) (l : Located) (number : H
 
 -- the number of a child
 module _ (scoping : Scoping) (n : ℕ) (s : Statement) (number : HasNumber scoping n s) where
-  located_there : (l : Located) × (slice_get scoping.located n ≡ Some l)
+  pub located_there : (l : Located) × (slice_get scoping.located n ≡ Some l)
   located_there = by (slice_get scoping.located n) refl
     where
       by : (o : Option Located) → slice_get scoping.located n ≡ o → (l : Located) × (slice_get scoping.located n ≡ Some l)

@@ -1,12 +1,12 @@
 -- Modules, and what a name means at a place (RFC 7950 5.5, 6.2.1, 7.1.4, 7.1.5).
-use Rattle.std.specs.Prelude.{ℕ, ◌==◌, ◌&&◌, Bool, true, false, if◌then◌else◌, List, [], ◌∷◌, Option, Some, None, find, position, slice_get, option_and_then, option_map}
+use Rattle.std.specs.Prelude.{ℕ, ◌==◌, ◌&&◌, Bool, true, false, if◌then◌else◌, List, [], ◌∷◌, Option, Some, None, find, position, slice_get, is_some, option_and_then, option_map}
 use Rattle.std.specs.List.{list_any, before_first, after_first}
 use Rattle.std.specs.Option.{option_map_or}
 use Rattle.nc_names.specs.Same.{is_same_text}
 use Rattle.nc_names.specs.Signs.{colon}
 use Rattle.nc_yang_words.specs.declared.statement.Statement.{Statement}
 use Rattle.nc_yang_statements.specs.declared.keyword.Keyword.{Keyword}
-use Rattle.nc_yang_statements.specs.declared.keyword.Keyword.TheVariants.{Typedef, Grouping, Identity, Feature, Import, Prefix}
+use Rattle.nc_yang_statements.specs.declared.keyword.Keyword.TheVariants.{Typedef, Grouping, Identity, Feature, Import, Prefix, Revision}
 use Rattle.nc_yang_statements.specs.Keywords.{is_same_keyword}
 use Rattle.nc_yang_statements.specs.Statements.{below, kind, name, part}
 
@@ -68,6 +68,10 @@ has_prefix prefix s = option_map_or (λ p. is_same_text (name p) prefix) (part P
 -- the import of a prefix (RFC 7950 7.1.5)
 abbrev pub import_of : List ℕ → List Statement → Option Statement
 import_of prefix ss = find (λ t. is_same_keyword Import (kind t) && has_prefix prefix t) ss
+
+-- a text's module has a revision of that date (RFC 7950 7.1.9)
+abbrev pub has_revision : List Statement → ℕ → List ℕ → Bool
+has_revision texts number date = is_some (find (defines Revision date) (top texts number))
 
 -- the prefix is that of the text's own module (RFC 7950 7.1.4)
 abbrev pub is_own : List Statement → ℕ → List ℕ → Bool

@@ -44,6 +44,13 @@ impl<'a> Book<'a> {
         })
     }
 
+    /// How many statements there are.
+    pub(crate) fn len(&self) -> usize
+        ensures { result ≡ length (located self.now.numbering.frames) }
+    {
+        self.numbering.frames.len()
+    }
+
     /// The number of a text's statement `module`.
     pub(crate) fn root(&self, text: usize) -> Option<usize>
         requires { IsBook self.now }
@@ -101,6 +108,18 @@ impl<'a> Book<'a> {
         match self.numbering.frames.get(number) {
             Some(frame) => Some(frame.text),
             None => None,
+        }
+    }
+
+    /// Whether a text's module has a revision of a date.
+    pub(crate) fn has_revision(&self, text: usize, date: &'a str) -> bool
+        requires { IsBook self.now }
+        ensures { result ≡ scopes.has_revision self.now.texts.now text date.now }
+    {
+        if text < self.texts.len() {
+            self.names.revisions.get(text, date).is_some()
+        } else {
+            false
         }
     }
 

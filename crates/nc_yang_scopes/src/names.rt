@@ -113,6 +113,7 @@ pub(crate) struct Names<'a> {
     pub identities: Table<'a>,
     pub features: Table<'a>,
     pub imports: Table<'a>,
+    pub revisions: Table<'a>,
     pub modules: Table<'a>,
 }
 
@@ -131,6 +132,7 @@ impl<'a> Names<'a> {
             identities: table_of(alloc, Keyword::Identity, frames)?,
             features: table_of(alloc, Keyword::Feature, frames)?,
             imports: table_of(alloc, Keyword::Import, frames)?,
+            revisions: table_of(alloc, Keyword::Revision, frames)?,
             modules: modules(alloc, texts)?,
         })
     }

@@ -51,6 +51,13 @@ impl<'a> Scopes<'a> {
         self.book.texts.len()
     }
 
+    /// How many statements there are. Their numbers are those below it.
+    pub fn len(&self) -> usize
+        ensures { result ≡ length self.now.located }
+    {
+        self.book.len()
+    }
+
     /// Whether a definition of a name stands further out than in the block of the statement of a number.
     pub(crate) fn is_defined_out(&self, keyword: Keyword, number: usize, word: &'a str) -> bool
         requires { IsTrue (scopes.is_defining keyword) }
@@ -95,6 +102,13 @@ impl<'a> Scopes<'a> {
         ensures { result ≡ scopes.text_of self.now.texts name.now }
     {
         self.book.text_of(name)
+    }
+
+    /// Whether a text's module has a revision of a date (RFC 7950 7.1.9).
+    pub fn has_revision(&self, text: usize, date: &'a str) -> bool
+        ensures { result ≡ scopes.has_revision self.now.texts text date.now }
+    {
+        self.book.has_revision(text, date)
     }
 
     /// The text for which a prefix stands in a text (RFC 7950 7.1.4, 7.1.5).

@@ -3,7 +3,7 @@ use Rattle.std.specs.Prelude.{◌≡◌, ℕ, List}
 use Rattle.std.specs.List.{position_from}
 use Rattle.nc_names.specs.Same.{is_same_text}
 use Rattle.nc_yang_words.specs.declared.statement.Statement.{Statement}
-use Rattle.nc_yang_statements.specs.declared.keyword.Keyword.TheVariants.{Feature, Grouping, Identity, Import, Typedef}
+use Rattle.nc_yang_statements.specs.declared.keyword.Keyword.TheVariants.{Feature, Grouping, Identity, Import, Revision, Typedef}
 use Rattle.nc_yang_statements.specs.Statements.{name}
 use Rattle.nc_yang_scopes.specs.declared.names.Names.{Names}
 use Rattle.nc_yang_scopes.specs.declared.table.Table.{Table}
@@ -21,4 +21,5 @@ pub record AreNames (texts : List Statement) (entries : List Entry) (names : Nam
   pub identities : IsTable Identity entries names.identities
   pub features : IsTable Feature entries names.features
   pub imports : IsTable Import entries names.imports
+  pub revisions : IsTable Revision entries names.revisions
   pub modules : IsModules texts names.modules

@@ -1,0 +1,7 @@
+pub mod Lists
+pub mod Adding
+pub mod Marking
+pub mod Naming
+pub mod Linking
+pub mod Arranging
+pub mod Revising

@@ -1,0 +1,5 @@
+pub mod Loops
+pub mod Orders
+pub mod Laws
+pub mod Revisions
+pub mod inner

@@ -1,0 +1,4 @@
+mod Utf8
+mod Reading
+mod OneWay
+mod Ruling

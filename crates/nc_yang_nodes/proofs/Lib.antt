@@ -1,0 +1,9 @@
+pub mod ListLemmas
+pub mod FeatureLemmas
+pub mod Rooms
+pub mod Leading
+pub mod TableLemmas
+pub mod Walking
+pub mod Supporting
+pub mod Seeing
+pub mod Lawful

@@ -1,0 +1,77 @@
+-- The data nodes and choices of all modules, and the limits on them.
+use Rattle.std.specs.Prelude.{◌≡◌, ◌+◌, ◌<◌, ◌≤◌, ℕ, [], length, Some, slice_get}
+use Rattle.std.specs.List.{All}
+use Rattle.nc_yang_statements.specs.declared.fault.ModuleWhy.TheVariants.{TooMany as TooManyWhy}
+use Rattle.nc_yang_statements.specs.Statements.{line}
+use Rattle.nc_yang_scopes.specs.declared.naming.TextFault.{TextFault}
+use Rattle.nc_yang_scopes.specs.Scopes.{Located, Scoping, root}
+use Rattle.nc_yang_nodes.specs.declared.planned.Plan.{Plan}
+use Rattle.nc_yang_nodes.specs.declared.planned.PlanStop.{PlanStop}
+use Rattle.nc_yang_nodes.specs.declared.planned.PlanStop.TheVariants.{TooMany, Memory}
+use Rattle.nc_yang_nodes.specs.declared.role.Role.{Role}
+use Rattle.nc_yang_nodes.specs.Roles.{FeatureTest, children, role}
+use Rattle.nc_yang_nodes.specs.Expansion.{Gives, Meets, Moment, added, at_top}
+
+-- how many data nodes and choices there may be together
+abbrev pub most_nodes : ℕ
+most_nodes = 1000000
+
+-- how many data nodes may stand within one another
+abbrev pub most_levels : ℕ
+most_levels = 64
+
+-- nothing planned
+abbrev pub nothing : Plan
+nothing = record { nodes = []; choices = [] }
+
+-- what is planned keeps the limits
+pub record HasRoom (plan : Plan) : Type 0 where
+  pub few : length plan.nodes + length plan.choices ≤ most_nodes
+  pub shallow : All (λ n. n.level < most_levels) plan.nodes
+
+-- the first so many texts, one after another, give this
+pub data GivesTexts (scoping : Scoping) (on : FeatureTest) : ℕ → Plan → Type 0 where
+  no_text : GivesTexts scoping on 0 nothing
+  one_more : (count : ℕ) (before plan : Plan) (top : Located) → GivesTexts scoping on count before
+      → root scoping.texts count ≡ Some top → Gives scoping on (at_top count) before (children top) plan
+      → GivesTexts scoping on (count + 1) plan
+
+-- the data nodes and choices of a configuration that the texts define
+pub record IsPlan (scoping : Scoping) (on : FeatureTest) (plan : Plan) : Type 0 where
+  pub gives : GivesTexts scoping on (length scoping.texts) plan
+  pub room : HasRoom plan
+
+-- while the texts are expanded, that moment comes
+pub record MeetsInText (scoping : Scoping) (on : FeatureTest) (m : Moment) : Type 0 where
+  pub text : ℕ
+  pub before : Plan
+  pub top : Located
+  pub gives : GivesTexts scoping on text before
+  pub is_root : root scoping.texts text ≡ Some top
+  pub meets : Meets scoping on (at_top text) before (children top) m
+
+-- what is planned by then keeps the limits, and with what the statement gives it does not
+pub record IsPast (scoping : Scoping) (on : FeatureTest) (m : Moment) : Type 0 where
+  pub room : HasRoom m.before
+  pub number : ℕ
+  pub role_of : Role
+  pub located : slice_get scoping.located number ≡ Some m.statement
+  pub is : role scoping.texts on m.statement ≡ Some role_of
+  pub past : HasRoom (added number m.context role_of m.before) → ⊥
+
+-- at the statement, as it is written
+abbrev pub fault_at : Moment → TextFault
+fault_at m =
+    let s = m.statement in
+    record { text = s.place.text; fault = record { line = line s.statement; why = TooManyWhy } }
+
+-- that fault is at the first statement past a limit
+pub record IsFirstPast (scoping : Scoping) (on : FeatureTest) (fault : TextFault) : Type 0 where
+  pub moment : Moment
+  pub meets : MeetsInText scoping on moment
+  pub past : IsPast scoping on moment
+  pub at : fault ≡ fault_at moment
+
+abbrev pub IsStop : Scoping → FeatureTest → PlanStop → Type 0
+IsStop scoping on (TooMany fault) = IsFirstPast scoping on fault
+IsStop scoping on Memory = Unit {0}

@@ -1,0 +1,58 @@
+-- Which statements give data nodes, choices and cases, and which of them are there (RFC 7950 7.5 to 7.9, 7.13, 7.20.2,
+-- 7.21.1).
+use Rattle.std.specs.Prelude.{ℕ, Bool, false, ◌&&◌, ◌||◌, not, if◌then◌else◌, List, [], map, Option, Some, None}
+use Rattle.std.specs.List.{list_all}
+use Rattle.std.specs.Option.{option_map_or}
+use Rattle.nc_yang_words.specs.declared.statement.Statement.{Statement}
+use Rattle.nc_yang_statements.specs.declared.keyword.Keyword.{Keyword}
+use Rattle.nc_yang_statements.specs.declared.keyword.Keyword.TheVariants.{Container, Leaf, LeafList, List as ListWord, Choice as ChoiceWord, Case as CaseWord, Uses as UsesWord, Config, Feature, Grouping, IfFeature}
+use Rattle.nc_yang_statements.specs.Arguments.{is_false_text}
+use Rattle.nc_yang_statements.specs.Keywords.{is_same_keyword}
+use Rattle.nc_yang_statements.specs.Statements.{below, kind, name, part}
+use Rattle.nc_yang_scopes.specs.Scopes.{Located, inside, resolved}
+use Rattle.nc_yang_nodes.specs.declared.role.Role.{Role}
+use Rattle.nc_yang_nodes.specs.declared.role.Role.TheVariants.{Node, Choice, Case, Uses}
+
+-- what a statement of a keyword gives, if anything
+abbrev pub role_of : Keyword → Option Role
+role_of Container = Some Node
+role_of Leaf = Some Node
+role_of LeafList = Some Node
+role_of ListWord = Some Node
+role_of ChoiceWord = Some Choice
+role_of CaseWord = Some Case
+role_of UsesWord = Some Uses
+role_of keyword = None
+
+-- the statements that stand directly in one, each with its place
+abbrev pub children : Located → List Located
+children l = map (λ s. record { statement = s; place = inside l }) (below l.statement)
+
+-- whether a feature is on: by the text that defines it, and its name
+abbrev pub FeatureTest : Type 0
+FeatureTest = ℕ → List ℕ → Bool
+
+-- the feature that a statement names is on
+abbrev pub is_met : List Statement → FeatureTest → Located → Bool
+is_met texts on l =
+    option_map_or (λ f. on f.place.text (name f.statement)) (resolved texts Feature (name l.statement) l.place) false
+
+-- no `if-feature` in a statement names a feature that is off (RFC 7950 7.20.2)
+abbrev pub is_supported : List Statement → FeatureTest → Located → Bool
+is_supported texts on l =
+    list_all (λ t. not (is_same_keyword IfFeature (kind t.statement)) || is_met texts on t) (children l)
+
+-- `config false`: its nodes are state and no part of a configuration (RFC 7950 7.21.1)
+abbrev pub is_state : Statement → Bool
+is_state s = option_map_or (λ t. is_false_text (name t)) (part Config (below s)) false
+
+-- what a statement gives to a configuration, if anything
+abbrev pub role : List Statement → FeatureTest → Located → Option Role
+role texts on l =
+    if is_supported texts on l && not (is_state l.statement) then role_of (kind l.statement) else None
+
+-- the statements that are expanded where it stands: what stands in it, or for `uses` what stands in the grouping
+-- (RFC 7950 7.13)
+abbrev pub block : List Statement → Located → Role → List Located
+block texts l Uses = option_map_or children (resolved texts Grouping (name l.statement) l.place) []
+block texts l other = children l

@@ -1,0 +1,5 @@
+pub mod Walks
+pub mod Tables
+pub mod Rooms
+pub mod Narrowing
+pub mod Seen

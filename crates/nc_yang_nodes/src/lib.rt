@@ -1,0 +1,32 @@
+//! The data nodes and choices that YANG modules define, in document order, with groupings in place (RFC 7950
+//! 7.5 to 7.9, 7.13).
+//!
+//! It stands on the statements of nc_yang_words under the numbers of nc_yang_scopes, on nc_yang_statements,
+//! for cases on nc_schema, and for the order of groupings on nc_yang_order.
+//!
+//! `plan_of` promises exactly the defined list of data nodes and of choices, each with the statement that
+//! defines it, or a fault at the first statement past a limit; by the law `plan_has_no_fault` no modules have
+//! both. `features_on` promises which of the given features are on, and `case_of` the number of a choice's
+//! case. A walk has a stack of its own, and passes over what plans nothing. The crate `trials_modules` tests
+//! it.
+#![tactic(auto)]
+
+mod barren;
+mod cases;
+mod context;
+mod entries;
+mod features;
+mod laws;
+mod plan;
+mod planned;
+mod role;
+mod supported;
+mod table;
+mod walk;
+
+pub use cases::case_of;
+pub use features::Features;
+pub use laws::plan_has_no_fault;
+pub use plan::plan_of;
+pub use planned::{Plan, PlanStop, Planned, PlannedChoice};
+pub use supported::features_on;

@@ -1,0 +1,119 @@
+//! Data nodes and choices with the statements that define them.
+ghost use Rattle.std.specs.Prelude.{◌≡◌, ◌+◌, ◌<◌, ◌^◌, length, OnOk};
+ghost use Rattle.nc_yang_nodes.specs.Expansion.{added};
+ghost use Rattle.nc_yang_nodes.specs.inner.Rooms.{fits, has_place};
+
+use crate::context::Context;
+use crate::role::Role;
+use nc_names::{Many, Memory};
+use nc_schema::Case;
+use nc_yang_scopes::TextFault;
+
+/// A data node (RFC 7950 3).
+#[derive(Debug, Drop, PartialEq, Eq)]
+pub struct Planned {
+    /// The number of the statement that defines it, in the `Scopes` of the texts.
+    pub statement: usize,
+    /// The number of the text of its module. A node of a grouping belongs to the module that uses it
+    /// (RFC 7950 7.13).
+    pub module: usize,
+    /// The number of the data node in which it stands, or `None` at the top.
+    pub parent: Option<u32>,
+    /// How many data nodes it stands in.
+    pub level: u32,
+    /// The cases to which it belongs, the outermost first, up to its parent (RFC 7950 7.9).
+    pub cases: Many<Case>,
+}
+
+/// A choice (RFC 7950 7.9).
+#[derive(Debug, Drop, PartialEq, Eq)]
+pub struct PlannedChoice {
+    /// The number of the statement that defines it, in the `Scopes` of the texts.
+    pub statement: usize,
+    /// The number of the data node in which it stands, or `None` at the top.
+    pub parent: Option<u32>,
+    /// The cases of outer choices in which it stands, the outermost first, up to its parent.
+    pub within: Many<Case>,
+}
+
+/// The data nodes and the choices of modules, each in document order and under the number of its place.
+#[derive(Debug, Drop, PartialEq, Eq)]
+pub struct Plan {
+    /// The data nodes.
+    pub nodes: Many<Planned>,
+    /// The choices.
+    pub choices: Many<PlannedChoice>,
+}
+
+// How many data nodes and choices there may be together.
+const MOST_NODES: usize = 1_000_000;
+// How many data nodes may stand within one another.
+const MOST_LEVELS: u32 = 64;
+
+impl Plan {
+    // Whether there may be one data node or choice more.
+    fn has_place(&self) -> bool
+        requires { length self.now.nodes + length self.now.choices < 2 ^ 64 }
+        ensures { result ≡ has_place self.now }
+    {
+        self.nodes.len() + self.choices.len() < MOST_NODES
+    }
+
+    /// Whether what a statement gives by itself keeps the limits.
+    pub(crate) fn fits(&self, context: &Context, role: Role) -> bool
+        requires { length self.now.nodes + length self.now.choices < 2 ^ 64 }
+        ensures { result ≡ fits self.now context.now role }
+    {
+        match role {
+            Role::Node => self.has_place() && context.level < MOST_LEVELS,
+            Role::Choice => self.has_place(),
+            Role::Case | Role::Uses => true,
+        }
+    }
+
+    /// Adds what the statement of a number gives by itself.
+    pub(crate) fn add(
+        &mut self,
+        statement: usize,
+        context: &Context,
+        role: Role,
+    ) -> Result<(), Memory>
+        ensures { OnOk result (self.new ≡ added statement context.now role self.old) }
+    {
+        match role {
+            Role::Node => self.nodes.push(Planned {
+                statement,
+                module: context.module,
+                parent: context.parent,
+                level: context.level,
+                cases: context.within()?,
+            }),
+            Role::Choice => self.choices.push(PlannedChoice {
+                statement,
+                parent: context.parent,
+                within: context.within()?,
+            }),
+            Role::Case | Role::Uses => Ok(()),
+        }
+    }
+}
+
+/// Why there is no plan.
+#[derive(Clone, Copy, Debug, PartialEq, Eq)]
+pub enum PlanStop {
+    /// The first statement, as it is written, that gives one past a limit.
+    TooMany(TextFault),
+    /// Want of memory.
+    Memory,
+}
+
+impl From<Memory> for PlanStop {
+    ghost use Rattle.std.specs.Prelude.{◌≡◌};
+    ghost use Rattle.nc_yang_nodes.specs.declared.planned.PlanStop.TheVariants.{Memory as NoMemory};
+
+    ghost from_gives = { λ _ stop. stop ≡ NoMemory };
+
+    fn from(_: Memory) -> PlanStop {
+        PlanStop::Memory
+    }
+}

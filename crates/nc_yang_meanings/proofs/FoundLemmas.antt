@@ -1,0 +1,105 @@
+-- What is found of one statement, from what the calls answer.
+use Rattle.std.proofs.Common.{◌≡◌, ◌<◌, ◌+◌, ℕ, zero, suc, List, [], ◌∷◌, ◌++◌, length, take, get_or, refl, sym, ap, ◌∙◌, subst, append_assoc, arith}
+use Rattle.std.specs.Prelude.{Bool, Option, Some, None, Result, Ok, Err, IfOk, option_map, slice_get}
+use Rattle.std.proofs.lemmas.List.{append-nil}
+use Rattle.std.proofs.lemmas.Option.{slice_get-get_or}
+use Rattle.nc_names.specs.declared.memory.Memory.{Memory}
+use Rattle.nc_schema.specs.declared.value_type.ValueType.{ValueType}
+use Rattle.nc_yang_words.specs.declared.statement.Statement.{Statement}
+use Rattle.nc_yang_statements.specs.declared.built_in.BuiltIn.{BuiltIn}
+use Rattle.nc_yang_statements.specs.declared.built_in.BuiltIn.TheVariants.{IdentityRef, LeafRef, Union}
+use Rattle.nc_yang_statements.specs.declared.fault.Fault.{Fault}
+use Rattle.nc_yang_statements.specs.Rules.{first}
+use Rattle.nc_yang_statements.specs.Statements.{below}
+use Rattle.nc_yang_order.specs.Orders.{EachAfter}
+use Rattle.nc_yang_order.proofs.Lists.{take_next}
+use Rattle.nc_yang_scopes.specs.Scopes.{Located, Scoping}
+use Rattle.nc_yang_scopes.specs.inner.Naming.{HasNumber}
+use Rattle.nc_yang_types.specs.Entries.{own, own_faults}
+use Rattle.nc_yang_types.specs.Stops.{OnBroken}
+use Rattle.nc_yang_types.specs.declared.stop.TypeStop.{TypeStop}
+use Rattle.nc_yang_types.specs.declared.stop.TypeStop.TheVariants.{Broken as BrokenType}
+use Rattle.nc_yang_meanings.specs.Features.{stands}
+use Rattle.nc_yang_meanings.specs.Meanings.{meant}
+use Rattle.nc_yang_meanings.specs.Numbers.{OnNumber}
+use Rattle.nc_yang_meanings.specs.Places.{built_in}
+use Rattle.nc_yang_meanings.specs.inner.Footings.{AreFootings, IsFooting}
+use Rattle.nc_yang_meanings.specs.inner.Planning.{ArePlan, AreSoFar, HasBase, IsFound, IsOverBase, IsReady, StandsInText, Steps, footing_at, meant_with}
+use Rattle.nc_yang_meanings.specs.declared.footing.Footing.{Footing}
+use Rattle.nc_yang_meanings.specs.declared.footing.Footing.TheVariants.{OnNothing, OnType}
+use Rattle.nc_yang_meanings.specs.declared.found.Found.{Found}
+use Rattle.nc_yang_meanings.specs.declared.found.Found.TheVariants.{New, Same}
+use Rattle.nc_yang_meanings.specs.declared.planned.Finding.TheVariants.{Broken, Nothing}
+use Rattle.nc_yang_meanings.specs.declared.planned.Meanings.{Meanings}
+use Rattle.nc_yang_meanings.specs.declared.planned.Planned.{Planned}
+use Rattle.nc_yang_meanings.proofs.MeaningLemmas.{itself_broken, itself_nothing, itself_plan, on_nothing, over_number}
+use Rattle.nc_yang_meanings.proofs.PartLemmas.{statement_is}
+use Rattle.nc_yang_meanings.proofs.TableLemmas.{base_known, footing_is, ready_within, step_more}
+
+meant_is : (on : ℕ → List ℕ → Bool) (one : BuiltIn) (l : Located) → meant on one l ≡ meant_with (own (stands on l.place.text) one (below l.statement)) one l
+meant_is on Union l = refl
+meant_is on IdentityRef l = refl
+meant_is on LeafRef l = refl
+meant_is on one l = refl
+
+module _ (scoping : Scoping) (n : ℕ) (s : Statement) (number : HasNumber scoping n s) where
+  pub plan_is : (text : ℕ) → StandsInText scoping n text → (on : ℕ → List ℕ → Bool) (one : BuiltIn) (entry : Option ValueType) (it : Option Planned) → own (stands on text) one (below s) ≡ entry →
+      OnNumber scoping n (λ l. ArePlan scoping.located it (meant_with entry one l)) → OnNumber scoping n (λ l. ArePlan scoping.located it (meant on one l))
+  plan_is text in_text on one entry it is plan = λ l here.
+      let same = statement_is scoping n s l number here in
+      let text_is : l.place.text ≡ text = (let e : Some l.place.text ≡ Some text = sym (ap (option_map (λ (k : Located). k.place.text)) here) ∙ in_text in cc) in
+      let entry_is : entry ≡ own (stands on l.place.text) one (below l.statement) = sym (ap (λ t. own (stands on t) one (below l.statement)) text_is ∙ ap (λ z. own (stands on text) one (below z)) same ∙ is) in
+      subst (ArePlan scoping.located it) (ap (λ e. meant_with e one l) entry_is ∙ sym (meant_is on one l)) (plan l here)
+
+  module _ (on : ℕ → List ℕ → Bool) (l : Located) (here : slice_get scoping.located n ≡ Some l) (one : BuiltIn) (built : built_in l ≡ Some one) (plans : List Planned) where
+    pub found_plan : (field : Option Planned) (planned : Planned) → field ≡ Some planned → own_faults one s ≡ [] → ArePlan scoping.located field (meant on one l) → IsFound on scoping plans l (New planned)
+    found_plan field planned field_is kept ok =
+        itself_plan on scoping l one built plans planned (subst (λ z. own_faults one z ≡ []) (sym (statement_is scoping n s l number here)) kept) (subst (λ z. ArePlan scoping.located z (meant on one l)) field_is ok)
+
+    pub found_nothing : (field : Option Planned) → field ≡ None → own_faults one s ≡ [] → ArePlan scoping.located field (meant on one l) → IsFound on scoping plans l (Same Nothing)
+    found_nothing field field_is kept ok =
+        itself_nothing on scoping l one built plans (subst (λ z. own_faults one z ≡ []) (sym (statement_is scoping n s l number here)) kept) (subst (λ z. ArePlan scoping.located z (meant on one l)) field_is ok)
+
+    pub found_broken : (field : TypeStop) (fault : Fault) → field ≡ BrokenType fault → OnBroken field (λ f. first (own_faults one s) ≡ Some f) → IsFound on scoping plans l (Same (Broken fault))
+    found_broken field fault field_is is =
+        itself_broken on scoping l one built plans fault
+        (subst (λ z. first (own_faults one z) ≡ Some fault) (sym (statement_is scoping n s l number here)) (subst (λ z. OnBroken z (λ f. first (own_faults one s) ≡ Some f)) field_is is))
+
+  -- of a type over another
+  pub look_type : (on : ℕ → List ℕ → Bool) (meanings : Meanings) (base : ℕ) (footing : Footing) → footing ≡ OnType base → (ss : List Statement) → ss ≡ below s → (r : Result Found Memory) → IfOk r (IsOverBase meanings base ss) →
+      IfOk r (λ it. OnNumber scoping n (λ l. IsFooting scoping l footing → HasBase on scoping meanings footing → IsFound on scoping meanings.plans l it))
+  look_type on meanings base footing is ss ss_is (Err e) h = tt
+  look_type on meanings base footing is ss ss_is (Ok it) h = λ l here foot has.
+      let f = subst (IsFooting scoping l) is foot in
+      let same = statement_is scoping n s l number here in
+      over_number on scoping l f.1.0 f.1.2 meanings base it
+      (subst (λ z. IsOverBase meanings base z it) (ss_is ∙ ap below (sym same)) h)
+      (subst (HasBase on scoping meanings) is has f.1.0 f.1.1)
+
+pub look_nothing : (on : ℕ → List ℕ → Bool) (scoping : Scoping) (meanings : Meanings) (n : ℕ) (footing : Footing) → footing ≡ OnNothing →
+    OnNumber scoping n (λ l. IsFooting scoping l footing → HasBase on scoping meanings footing → IsFound on scoping meanings.plans l (Same Nothing))
+look_nothing on scoping meanings n footing is = λ l here foot has. let f = subst (IsFooting scoping l) is foot in on_nothing on scoping meanings.plans l f.0 f.1
+
+-- the element of a place, with those before it
+pub each_at : {A : Type 0} (P : List A → A → Type 0) (before xs : List A) (i : ℕ) (x : A) → EachAfter P before xs → slice_get xs i ≡ Some x → P (before ++ take i xs) x
+each_at P before [] i x h e = absurd (cc)
+each_at P before (y ∷ xs) zero x h e = let same : y ≡ x = cc in subst (λ z. P z x) (sym (append-nil before)) (subst (P before) same h.0)
+each_at P before (y ∷ xs) (suc i) x h e = subst (λ z. P z x) (append_assoc before (y ∷ []) (take i xs)) (each_at P (before ++ y ∷ []) xs i x h.1 e)
+
+module _ (footings : List Footing) (order : List ℕ) (ready : EachAfter (IsReady footings) [] order) (i number : ℕ) (less : i < length order) (is : number ≡ get_or order i 0) where
+  at_place : slice_get order i ≡ Some number
+  at_place = slice_get-get_or order i 0 less ∙ ap Some (sym is)
+
+  ready_here : IsReady footings (take i order) number
+  ready_here = each_at (IsReady footings) [] order i number ready at_place
+
+  pub step_within : (scoping : Scoping) (meanings : Meanings) (on : ℕ → List ℕ → Bool) → AreFootings scoping (length scoping.located) footings → AreSoFar on scoping (take i order) meanings → number < length meanings.findings
+  step_within scoping meanings on are so_far = let w = ready_within footings (take i order) number ready_here in omega (arith, are.counted, so_far.counted)
+
+  pub step_on : (scoping : Scoping) (old new : Meanings) (on : ℕ → List ℕ → Bool) (footing : Footing) → AreFootings scoping (length scoping.located) footings → AreSoFar on scoping (take i order) old → footing ≡ footing_at footings number →
+      Steps on scoping footing number old new → AreSoFar on scoping (take (i + 1) order) new
+  step_on scoping old new on footing are so_far footing_at_is steps =
+      subst (λ z. AreSoFar on scoping z new) (sym (take_next order i number at_place))
+      (step_more on scoping (take i order) number old so_far (step_within scoping old on are so_far) steps.found new steps.is
+      (λ l here. steps.judged l here (subst (IsFooting scoping l) (sym footing_at_is) (footing_is scoping footings are number l here))
+      (subst (HasBase on scoping old) (sym footing_at_is) (base_known on scoping footings (take i order) number old so_far ready_here))))

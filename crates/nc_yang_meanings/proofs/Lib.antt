@@ -1,0 +1,9 @@
+pub mod ReachLemmas
+pub mod PartLemmas
+pub mod FootingLemmas
+pub mod DependentLemmas
+pub mod MeaningLemmas
+pub mod TableLemmas
+pub mod CheckLemmas
+pub mod FoundLemmas
+pub mod DefaultLemmas

@@ -1,0 +1,10 @@
+pub mod Features
+pub mod Places
+pub mod Meanings
+pub mod Faults
+pub mod Numbers
+pub mod Plans
+pub mod Defaults
+pub mod Stops
+pub mod Laws
+pub mod inner

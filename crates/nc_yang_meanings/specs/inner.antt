@@ -1,0 +1,5 @@
+pub mod Reaching
+pub mod Footings
+pub mod Planning
+pub mod Judging
+pub mod Known

@@ -1,0 +1,134 @@
+-- Plans of types by themselves and over others.
+use Rattle.std.specs.Prelude.{◌≡◌, ℕ, Bool, true, List, [], ◌∷◌, ◌++◌, length, Option, Some, None, option_map}
+use Rattle.std.specs.Prelude.{replicate, unwrap_or, slice_get, slice_set, IsSomeAnd, Contains, ◌⊎◌}
+use Rattle.nc_schema.specs.declared.value_type.ValueType.{ValueType}
+use Rattle.nc_schema.specs.declared.value_type.ValueType.TheVariants.{Union as UnionType, Identity as IdentityType}
+use Rattle.nc_schema.specs.declared.value_type.ValueType.TheVariants.{Leafref as LeafrefType}
+use Rattle.nc_yang_words.specs.declared.statement.Statement.{Statement}
+use Rattle.nc_yang_statements.specs.declared.built_in.BuiltIn.{BuiltIn}
+use Rattle.nc_yang_statements.specs.declared.built_in.BuiltIn.TheVariants.{IdentityRef, LeafRef, Union}
+use Rattle.nc_yang_statements.specs.declared.keyword.Keyword.TheVariants.{Base, Path, TypeName}
+use Rattle.nc_yang_statements.specs.Rules.{first}
+use Rattle.nc_yang_statements.specs.Statements.{below}
+use Rattle.nc_yang_scopes.specs.Scopes.{Located, Scoping}
+use Rattle.nc_yang_types.specs.Entries.{narrowed, narrowed_faults, required}
+use Rattle.nc_yang_meanings.specs.declared.footing.Footing.{Footing}
+use Rattle.nc_yang_meanings.specs.declared.footing.Footing.TheVariants.{OnBuiltIn, OnNothing, OnType}
+use Rattle.nc_yang_meanings.specs.declared.found.Found.{Found}
+use Rattle.nc_yang_meanings.specs.declared.found.Found.TheVariants.{New, Same}
+use Rattle.nc_yang_meanings.specs.declared.planned.Finding.TheVariants.{Broken, Nothing, Plan}
+use Rattle.nc_yang_meanings.specs.declared.planned.Meanings.{Meanings}
+use Rattle.nc_yang_meanings.specs.declared.planned.Planned.{Planned}
+use Rattle.nc_yang_meanings.specs.declared.planned.Planned.TheVariants.{Bases, Finished, Leafref, Members}
+use Rattle.nc_yang_meanings.specs.inner.Footings.{AreDependents, AreStarts, IsFooting}
+use Rattle.nc_yang_meanings.specs.inner.Reaching.{IsReached}
+use Rattle.nc_yang_meanings.specs.declared.reach.Reach.{Reach}
+use Rattle.nc_yang_meanings.specs.Meanings.{DerivedFrom, Entry, Meaning, Means, OneOf, Refers}
+use Rattle.nc_yang_meanings.specs.Numbers.{OnNumber}
+use Rattle.nc_yang_meanings.specs.Places.{part_of, parts_of}
+use Rattle.nc_yang_meanings.specs.Plans.{IsFinding, IsPlan}
+
+-- the statement of a number stands in that text
+abbrev pub StandsInText : Scoping → ℕ → ℕ → Type 0
+StandsInText scoping number text = option_map (λ l. l.place.text) (slice_get scoping.located number) ≡ Some text
+
+-- what a built-in type means whose entry by its own parts is given
+abbrev pub meant_with : Option ValueType → BuiltIn → Located → Option Meaning
+meant_with entry Union l = Some (OneOf (parts_of TypeName l))
+meant_with entry IdentityRef l = Some (DerivedFrom (parts_of Base l))
+meant_with entry LeafRef l = option_map (λ path. Refers path (required true (below l.statement))) (part_of Path l)
+meant_with entry one l = option_map Entry entry
+
+abbrev pub ArePlan : List Located → Option Planned → Option Meaning → Type 0
+ArePlan located None None = Unit {0}
+ArePlan located (Some planned) (Some m) = IsPlan located planned m
+ArePlan located planned m = ⊥
+
+-- its kind, by which it is known which parts may stand in a type over it
+abbrev pub shape_of : Planned → ValueType
+shape_of (Finished entry) = entry
+shape_of (Members numbers) = UnionType []
+shape_of (Bases numbers) = IdentityType []
+shape_of (Leafref path need) = LeafrefType 0 None need
+
+-- the plan of a type over it, with these parts
+abbrev pub planned_over : Planned → List Statement → Option Planned
+planned_over (Finished entry) ss = option_map Finished (narrowed entry ss)
+planned_over (Members numbers) ss = Some (Members numbers)
+planned_over (Bases numbers) ss = Some (Bases numbers)
+planned_over (Leafref path need) ss = Some (Leafref path (required need ss))
+
+-- what was found of a statement, whose plan may be new
+abbrev pub IsFound : (on : ℕ → List ℕ → Bool) → Scoping → List Planned → Located → Found → Type 0
+IsFound on scoping plans l (Same finding) = IsFinding on scoping plans l finding
+IsFound on scoping plans l (New planned) = (m : Meaning) × IsPlan scoping.located planned m × Means on scoping.texts l m
+
+-- what was found of the type on which one rests
+abbrev pub HasBase : (on : ℕ → List ℕ → Bool) → Scoping → Meanings → Footing → Type 0
+HasBase on scoping meanings (OnType base) =
+    OnNumber scoping base (λ l. IsSomeAnd (slice_get meanings.findings base) (IsFinding on scoping meanings.plans l))
+HasBase on scoping meanings footing = Unit {0}
+
+-- the plan that was found of a statement
+abbrev pub FindsPlan : Meanings → ℕ → ℕ → Planned → Type 0
+FindsPlan meanings number place planned =
+    (slice_get meanings.findings number ≡ Some (Plan place)) × (slice_get meanings.plans place ≡ Some planned)
+
+abbrev pub LacksPlan : Meanings → ℕ → Type 0
+LacksPlan meanings number = (place : ℕ) (planned : Planned) → FindsPlan meanings number place planned → ⊥
+
+-- what is found of a type with these parts over one of a plan
+abbrev pub IsOver : ℕ → Planned → List Statement → Found → Type 0
+IsOver place planned ss (New other) = (planned_over planned ss ≡ Some other) × (narrowed_faults (shape_of planned) ss ≡ [])
+IsOver place planned ss (Same Nothing) = ⊥
+IsOver place planned ss (Same (Broken fault)) = first (narrowed_faults (shape_of planned) ss) ≡ Some fault
+IsOver place planned ss (Same (Plan number)) =
+    (number ≡ place) × (planned_over planned ss ≡ Some planned) × (narrowed_faults (shape_of planned) ss ≡ [])
+
+-- over that of a number
+abbrev pub IsOverBase : Meanings → ℕ → List Statement → Found → Type 0
+IsOverBase meanings base ss found =
+    ((place : ℕ) × (planned : Planned) × FindsPlan meanings base place planned × IsOver place planned ss found)
+    ⊎ (LacksPlan meanings base × (found ≡ Same Nothing))
+
+-- with what was found of a number
+abbrev pub with_found : Meanings → ℕ → Found → Meanings
+with_found meanings number (Same finding) = record { findings = slice_set meanings.findings number finding; plans = meanings.plans }
+with_found meanings number (New planned) =
+    record { findings = slice_set meanings.findings number (Plan (length meanings.plans)); plans = meanings.plans ++ planned ∷ [] }
+
+-- nothing was looked at
+abbrev pub blank : ℕ → Meanings
+blank count = record { findings = replicate count Nothing; plans = [] }
+
+abbrev pub footing_at : List Footing → ℕ → Footing
+footing_at footings number = unwrap_or (slice_get footings number) OnNothing
+
+-- a type rests on a built-in type, or on one before
+abbrev pub IsReady : List Footing → List ℕ → ℕ → Type 0
+IsReady footings before number =
+    ((one : BuiltIn) × (slice_get footings number ≡ Some (OnBuiltIn one)))
+    ⊎ ((base : ℕ) × (slice_get footings number ≡ Some (OnType base)) × Contains before base)
+
+-- the types that lead to a built-in type, each after the one on which it rests
+pub record IsOrdered (footings : List Footing) (reach : Reach) : Type 0 where
+  pub graph : List (List ℕ)
+  pub starts : List ℕ
+  pub dependents : AreDependents footings (length footings) graph
+  pub are_starts : AreStarts footings (length footings) starts
+  pub reached : IsReached graph starts reach
+
+-- a number was looked at
+pub record Steps (on : ℕ → List ℕ → Bool) (scoping : Scoping) (footing : Footing) (number : ℕ) (old new : Meanings) : Type 0 where
+  pub found : Found
+  pub is : new ≡ with_found old number found
+  pub judged : (l : Located) → slice_get scoping.located number ≡ Some l → IsFooting scoping l footing → HasBase on scoping old footing →
+      IsFound on scoping old.plans l found
+
+-- the first numbers of an order were looked at, and no other
+pub record AreSoFar (on : ℕ → List ℕ → Bool) (scoping : Scoping) (before : List ℕ) (meanings : Meanings) : Type 0 where
+  pub counted : length meanings.findings ≡ length scoping.located
+  pub found : (number : ℕ) (l : Located) → Contains before number → slice_get scoping.located number ≡ Some l →
+      IsSomeAnd (slice_get meanings.findings number) (IsFinding on scoping meanings.plans l)
+  pub others : (number : ℕ) (l : Located) → (Contains before number → ⊥) → slice_get scoping.located number ≡ Some l →
+      slice_get meanings.findings number ≡ Some Nothing

@@ -1,0 +1,90 @@
+//! Plans of types over built-in types.
+ghost use Rattle.std.specs.Prelude.{◌≡◌, [], None, IfOk, IfErr, OnOk};
+ghost use Rattle.nc_yang_statements.specs.declared.built_in.BuiltIn.TheVariants.{LeafRef};
+ghost use Rattle.nc_yang_statements.specs.Rules as rules;
+ghost use Rattle.nc_yang_statements.specs.Statements as statements;
+ghost use Rattle.nc_yang_types.specs.Entries as entries;
+ghost use Rattle.nc_yang_types.specs.Stops.{OnBroken};
+ghost use Rattle.nc_yang_scopes.specs.inner.Naming.{HasNumber};
+ghost use Rattle.nc_yang_meanings.specs.Meanings as meanings;
+ghost use Rattle.nc_yang_meanings.specs.Numbers.{OnNumber};
+ghost use Rattle.nc_yang_meanings.specs.inner.Planning.{ArePlan, StandsInText, meant_with};
+
+use crate::features::{Features, InText};
+use crate::part::{part_of, parts_of};
+use crate::planned::Planned;
+use nc_names::Memory;
+use nc_schema::ValueType;
+use nc_yang_scopes::Scopes;
+use nc_yang_statements::{BuiltIn, Keyword};
+use nc_yang_types::{TypeStop, own, required};
+use nc_yang_words::Statement;
+use std::alloc::Global;
+
+// The plan of a leafref.
+fn leafref(scopes: &Scopes, number: usize, statement: &Statement) -> Option<Planned>
+    requires { HasNumber scopes.now number statement.now }
+    ensures { OnNumber scopes.now number (λ l.
+        ArePlan scopes.now.located result (meant_with None LeafRef l)) }
+{
+    match part_of(scopes, number, Keyword::Path) {
+        Some(path) => Some(Planned::Leafref {
+            path,
+            required: required(true, statement.below.as_slice()),
+        }),
+        None => None,
+    }
+}
+
+// The plan of a type whose entry by its own parts is given.
+fn plan_of(
+    alloc: Global,
+    scopes: &Scopes,
+    number: usize,
+    one: BuiltIn,
+    statement: &Statement,
+    entry: Option<ValueType>,
+) -> Result<Option<Planned>, Memory>
+    requires { HasNumber scopes.now number statement.now }
+    ensures { IfOk result (λ it. OnNumber scopes.now number (λ l.
+        ArePlan scopes.now.located it (meant_with entry one l))) }
+{
+    match one {
+        BuiltIn::Union => {
+            let members = parts_of(alloc, scopes, number, Keyword::TypeName)?;
+            Ok(Some(Planned::Members(members)))
+        }
+        BuiltIn::IdentityRef => {
+            let bases = parts_of(alloc, scopes, number, Keyword::Base)?;
+            Ok(Some(Planned::Bases(bases)))
+        }
+        BuiltIn::LeafRef => Ok(leafref(scopes, number, statement)),
+        _ => match entry {
+            Some(entry) => Ok(Some(Planned::Finished(entry))),
+            None => Ok(None),
+        },
+    }
+}
+
+/// The plan of the `type` statement of a number over a built-in type.
+pub(crate) fn by_itself<F: Features>(
+    alloc: Global,
+    scopes: &Scopes,
+    features: &F,
+    number: usize,
+    text: usize,
+    one: BuiltIn,
+    statement: &Statement,
+) -> Result<Option<Planned>, TypeStop>
+    requires statement { HasNumber scopes.now number statement.now }
+    requires text { StandsInText scopes.now number text }
+    ensures ok { IfOk result (λ it. OnNumber scopes.now number (λ l.
+        ArePlan scopes.now.located it (meanings.meant (F.on features.now) one l))) }
+    ensures kept { OnOk result (entries.own_faults one statement.now ≡ []) }
+    ensures fault { IfErr result (λ stop. OnBroken stop (λ fault.
+        rules.first (entries.own_faults one statement.now) ≡ Some fault)) }
+{
+    let conditions = InText { features, text };
+    let entry = own(alloc, &conditions, one, statement)?;
+    Ok(plan_of(alloc, scopes, number, one, statement, entry)?)
+}

@@ -1,0 +1,83 @@
+//! Plans of types over others.
+ghost use Rattle.std.specs.Prelude.{◌≡◌, [], Some, IfOk, IfErr, OnOk, unwrap_or};
+ghost use Rattle.nc_yang_statements.specs.Rules as rules;
+ghost use Rattle.nc_yang_types.specs.Entries as entries;
+ghost use Rattle.nc_yang_types.specs.Stops.{OnBroken};
+ghost use Rattle.nc_yang_meanings.specs.declared.planned.Planned.TheVariants.{Finished};
+ghost use Rattle.nc_yang_meanings.specs.inner.Planning.{planned_over, shape_of};
+
+use crate::planned::Planned;
+use nc_names::Many;
+use nc_schema::ValueType;
+use nc_yang_types::{TypeStop, narrowed, required};
+use nc_yang_words::Statement;
+use std::alloc::Global;
+
+// The parts may stand in a type over one of that kind.
+fn takes_parts(alloc: Global, shape: ValueType, below: &[Statement]) -> Result<(), TypeStop>
+    ensures kept { OnOk result (entries.narrowed_faults shape below.now ≡ []) }
+    ensures fault { IfErr result (λ stop. OnBroken stop (λ fault.
+        rules.first (entries.narrowed_faults shape below.now) ≡ Some fault)) }
+{
+    narrowed(alloc, &shape, below)?;
+    Ok(())
+}
+
+// The plan over a finished entry.
+fn over_finished(
+    alloc: Global,
+    entry: &ValueType,
+    below: &[Statement],
+) -> Result<Option<Planned>, TypeStop>
+    ensures ok { IfOk result (λ it. planned_over (Finished entry.now) below.now
+        ≡ Some (unwrap_or it (Finished entry.now))) }
+    ensures kept { OnOk result (entries.narrowed_faults entry.now below.now ≡ []) }
+    ensures fault { IfErr result (λ stop. OnBroken stop (λ fault.
+        rules.first (entries.narrowed_faults entry.now below.now) ≡ Some fault)) }
+{
+    match narrowed(alloc, entry, below)? {
+        Some(entry) => Ok(Some(Planned::Finished(entry))),
+        None => Ok(None),
+    }
+}
+
+/// The plan of a type with these parts over one of that plan; `None` where it is the same.
+pub(crate) fn over(
+    alloc: Global,
+    planned: &Planned,
+    below: &[Statement],
+) -> Result<Option<Planned>, TypeStop>
+    ensures ok { IfOk result (λ it. planned_over planned.now below.now ≡ Some (unwrap_or it planned.now)) }
+    ensures kept { OnOk result (entries.narrowed_faults (shape_of planned.now) below.now ≡ []) }
+    ensures fault { IfErr result (λ stop. OnBroken stop (λ fault.
+        rules.first (entries.narrowed_faults (shape_of planned.now) below.now) ≡ Some fault)) }
+{
+    match planned {
+        Planned::Finished(entry) => over_finished(alloc, entry, below),
+        Planned::Members(_) => {
+            let members = Many::new(alloc);
+            takes_parts(alloc, ValueType::Union { members }, below)?;
+            Ok(None)
+        }
+        Planned::Bases(_) => {
+            let among = Many::new(alloc);
+            takes_parts(alloc, ValueType::Identity { among }, below)?;
+            Ok(None)
+        }
+        Planned::Leafref {
+            path,
+            required: need,
+        } => {
+            let shape = ValueType::Leafref {
+                target: 0,
+                above: None,
+                required: *need,
+            };
+            takes_parts(alloc, shape, below)?;
+            Ok(Some(Planned::Leafref {
+                path: *path,
+                required: required(*need, below),
+            }))
+        }
+    }
+}

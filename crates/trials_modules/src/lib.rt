@@ -2,10 +2,16 @@
 #![tactic(auto)]
 
 #[cfg(test)]
+mod loops_tests;
+#[cfg(test)]
+mod nodes_tests;
+#[cfg(test)]
 mod order_tests;
 #[cfg(test)]
 mod scopes_tests;
 #[cfg(test)]
 mod statements_tests;
+#[cfg(test)]
+mod texts_tests;
 #[cfg(test)]
 mod types_tests;

@@ -3,6 +3,9 @@ ghost use Rattle.std.specs.Prelude.{not};
 ghost use Rattle.nc_yang_statements.specs.Statements as statements;
 ghost use Rattle.nc_yang_statements.specs.declared.keyword.Keyword.TheVariants.{IfFeature as IfFeatureWord};
 
+mod defaults_tests;
+mod meanings_tests;
+
 use nc_names::Text;
 use nc_schema::{Between, ValueType};
 use nc_yang_statements::{Keyword, built_in_of, has, name};

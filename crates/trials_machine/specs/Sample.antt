@@ -1,0 +1,65 @@
+-- The schema of the tests: a leaf, a leaf-list of at most two entries, and a list with a key and a leaf.
+use Rattle.std.specs.Prelude.{codes, ℕ, pos, ◌^◌, ◌-◌, List, [], ◌∷◌, Option, Some, None, false}
+use Rattle.nc_names.specs.declared.name.Module.{Module}
+use Rattle.nc_schema.specs.declared.node.Deny.TheVariants.{Nothing as NotDenied}
+use Rattle.nc_schema.specs.declared.node.Kind.{Kind}
+use Rattle.nc_schema.specs.declared.node.Kind.TheVariants.{Leaf, LeafList, List as ListKind}
+use Rattle.nc_schema.specs.declared.node.Node.{Node}
+use Rattle.nc_schema.specs.declared.value_type.ValueType.{ValueType}
+use Rattle.nc_schema.specs.declared.value_type.ValueType.TheVariants.{Chars}
+use Rattle.nc_schema.specs.Tables.{Tables}
+
+abbrev pub node : List ℕ → Option ℕ → Kind → List ℕ → Option ℕ → Node
+node name parent kind keys most = record {
+  name = record { space = codes "urn:ex"; name = name };
+  «module» = 0;
+  parent = parent;
+  kind = kind;
+  kind_of_value = 0;
+  keys = keys;
+  uniques = [];
+  mandatory = false;
+  defaults = [];
+  least = 0;
+  most = most;
+  by_user = false;
+  cases = [];
+  deny = NotDenied;
+}
+
+unfoldable pub host : Node
+host = node (codes "host") None Leaf [] None
+
+unfoldable pub tag : Node
+tag = node (codes "tag") None LeafList [] (Some 2)
+
+unfoldable pub port : Node
+port = node (codes "port") None ListKind (3 ∷ []) None
+
+unfoldable pub name : Node
+name = node (codes "name") (Some 2) Leaf [] None
+
+unfoldable pub speed : Node
+speed = node (codes "speed") (Some 2) Leaf [] None
+
+abbrev pub chars : ValueType
+chars = Chars (record { least = pos 0; most = pos (2 ^ 64 - 1) } ∷ []) false
+
+abbrev pub ex : Module
+ex = record { name = codes "ex"; space = codes "urn:ex"; revision = []; features = [] }
+
+-- a schema of nothing
+abbrev pub empty : Tables
+empty = record { nodes = []; choices = []; types = []; modules = [] }
+
+-- without a data node
+abbrev pub begun : Tables
+begun = record empty { types = chars ∷ []; modules = ex ∷ [] }
+
+-- with the nodes at the top
+abbrev pub topped : Tables
+topped = record begun { nodes = host ∷ tag ∷ port ∷ [] }
+
+-- leaf host; leaf-list tag { max-elements 2 }; list port { key name; leaf name; leaf speed }, all of them strings
+unfoldable pub sample : Tables
+sample = record begun { nodes = host ∷ tag ∷ port ∷ name ∷ speed ∷ [] }

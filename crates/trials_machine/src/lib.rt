@@ -1,0 +1,7 @@
+//! Tests of the machine, and the schema that they are made with. A benchmark alone stands on this crate.
+#![tactic(auto)]
+
+pub mod laws;
+#[cfg(test)]
+mod machines;
+pub mod sample;

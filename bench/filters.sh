@@ -1,9 +1,9 @@
 #!/usr/bin/env bash
 # Times `nc_filter::select` over a list of 10,000 entries: a filter of 1,000 entries by their keys, and filters of 4 MB
-# that are made to be slow.
+# that are made to be slow; and over 100 entries with 90 of 100 tags each, with an element for each of many triples of tags.
 set -euo pipefail
 exec "$(dirname "$0")/program" filters 'nc_names nc_message nc_message_read nc_schema nc_tree nc_filter' <<'RT'
-//! Times filters over a list of 10,000 entries, each with a key and a leaf.
+//! Times filters over a list of 10,000 entries, each with a key and a leaf, and over one of 100 entries with many tags.
 #![tactic(auto)]
 
 use nc_filter::select;
@@ -65,6 +65,7 @@ fn schema(alloc: Global) -> Result<Schema, Memory> {
     put(&mut schema, node(alloc, "user", Some(0), Kind::List)?)?;
     put(&mut schema, node(alloc, "name", Some(1), Kind::Leaf)?)?;
     put(&mut schema, node(alloc, "type", Some(1), Kind::Leaf)?)?;
+    put(&mut schema, node(alloc, "tag", Some(1), Kind::LeafList)?)?;
     Ok(schema)
 }
 
@@ -102,11 +103,37 @@ fn push_entry(alloc: Global, rows: &mut Many<Row>, name: &str) -> Result<(), Mem
     })
 }
 
-fn config(alloc: Global, schema: &Schema, count: u64) -> Result<Config, Memory> {
+fn has_tag(user: u64, tag: u64) -> bool {
+    let one = user.saturating_mul(31).saturating_add(tag.saturating_mul(17));
+    let other = user.saturating_add(tag).saturating_add(7);
+    one.saturating_mul(other) % 10 != 0
+}
+
+fn push_tags(alloc: Global, rows: &mut Many<Row>, name: &str, user: u64) -> Result<(), Memory> {
+    for tag in 0..100 {
+        if has_tag(user, tag) {
+            let value = format!(in alloc; "t{}", tag.saturating_add(100))?;
+            let mut path = steps(alloc, name, None)?;
+            let mut keys = Many::new(alloc);
+            keys.push(text(alloc, value.as_str())?)?;
+            path.steps.push(Step { node: 4, keys })?;
+            rows.push(Row {
+                path,
+                value: Some(text(alloc, value.as_str())?),
+            })?;
+        }
+    }
+    Ok(())
+}
+
+fn config(alloc: Global, schema: &Schema, count: u64, tags: bool) -> Result<Config, Memory> {
     let mut rows = Many::new(alloc);
     for number in 0..count {
         let name = format!(in alloc; "u{}", number.saturating_add(100_000))?;
         push_entry(alloc, &mut rows, name.as_str())?;
+        if tags {
+            push_tags(alloc, &mut rows, name.as_str(), number)?;
+        }
     }
     let mut config = Config::empty(alloc);
     let top = Path {
@@ -132,6 +159,40 @@ fn filter(alloc: Global, element: &str, count: u64) -> Result<String, Memory> {
     Ok(out)
 }
 
+fn push_triple(
+    alloc: Global,
+    out: &mut String,
+    triple: (u64, u64, u64),
+    more: &str,
+) -> Result<(), Memory> {
+    out.push_str("<user>")?;
+    for tag in [triple.0, triple.1, triple.2] {
+        let part = format!(in alloc; "<tag>t{}</tag>", tag.saturating_add(100))?;
+        out.push_str(part.as_str())?;
+    }
+    out.push_str(more)?;
+    out.push_str("</user>")?;
+    Ok(())
+}
+
+/// A filter of an element for each of so many triples of tags, and with something more in each.
+fn triples(alloc: Global, more: &str, count: u64) -> Result<String, Memory> {
+    let mut out = format!(in alloc; "<filter xmlns=\"urn:ex\"><users>")?;
+    let mut left = count;
+    for third in 2..100 {
+        for second in 1..third {
+            for first in 0..second {
+                if left > 0 {
+                    push_triple(alloc, &mut out, (first, second, third), more)?;
+                    left = left.saturating_sub(1);
+                }
+            }
+        }
+    }
+    out.push_str("</users></filter>")?;
+    Ok(out)
+}
+
 fn timed(
     alloc: Global,
     rt: &HostRuntime,
@@ -143,7 +204,19 @@ fn timed(
     let Ok(filter) = filter(alloc, element, count) else {
         return println!(rt; "out of memory");
     };
-    let Ok(tree) = read_message(alloc, filter.as_str().as_bytes()) else {
+    timed_filter(alloc, rt, schema, config, filter.as_str(), element, count)
+}
+
+fn timed_filter(
+    alloc: Global,
+    rt: &HostRuntime,
+    schema: &Schema,
+    config: &Config,
+    filter: &str,
+    element: &str,
+    count: u64,
+) -> io::Result<()> {
+    let Ok(tree) = read_message(alloc, filter.as_bytes()) else {
         return println!(rt; "not read");
     };
     let start = Instant::now(rt)?;
@@ -178,16 +251,28 @@ const ELEMENTS: [(&str, u64); 14] = [
     ("<user><name>u#</name><type>admin</type><a/></user><user><a/></user>", 40_000),
 ];
 
+const TRIPLES: [(&str, u64); 3] = [("", 10_000), ("", 60_000), ("<type/>", 60_000)];
+
 fn main(rt: HostRuntime) -> io::Result<()> {
     let alloc = rt.alloc();
     let Ok(schema) = schema(alloc) else {
         return println!(rt; "out of memory");
     };
-    let Ok(config) = config(alloc, &schema, 10_000) else {
+    let Ok(list) = config(alloc, &schema, 10_000, false) else {
         return println!(rt; "out of memory");
     };
     for (element, count) in ELEMENTS {
-        timed(alloc, &rt, &schema, &config, element, count)?;
+        timed(alloc, &rt, &schema, &list, element, count)?;
+    }
+    let Ok(tagged) = config(alloc, &schema, 100, true) else {
+        return println!(rt; "out of memory");
+    };
+    for (more, count) in TRIPLES {
+        let Ok(filter) = triples(alloc, more, count) else {
+            return println!(rt; "out of memory");
+        };
+        let element = format!(in alloc; "triple of tags{}", more)?;
+        timed_filter(alloc, &rt, &schema, &tagged, filter.as_str(), element.as_str(), count)?;
     }
     Ok(())
 }

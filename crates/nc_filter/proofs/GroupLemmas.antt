@@ -18,6 +18,7 @@ use Rattle.nc_filter.specs.inner.Lists.{AddsOne}
 use Rattle.nc_filter.specs.inner.Picks.{Adds, opens, within}
 use Rattle.nc_filter.specs.inner.Runs.{AddsGroup, AddsHeld, AreAll, AreClasses, AreGroups, AreHeld, AreHeldOf, AreKnown, AreRowsAt, AreRuns, IsGroup, IsTable, PutsRowsAt, Slots, at_number, class_says, elem_says, group_tells, has_key, holds_in, in_slot}
 use Rattle.nc_filter.specs.inner.Tables.{has_text}
+use Rattle.nc_filter.specs.inner.Wholes.{picks_in}
 use Rattle.nc_filter.proofs.ClassLemmas.{map_join}
 use Rattle.nc_filter.proofs.KeyLemmas.{holds_keys}
 use Rattle.nc_filter.proofs.PickLemmas.{within_is}
@@ -158,20 +159,8 @@ rows_more whole numbers i number d before now within is puts so_far test =
 
 -- ---- what groups pick
 module _ (tables : Tables) (all : List Row) (depth : ℕ) (whole : List Run) where
-  -- what a group picks in its instances, by a test of rows
-  abbrev pub group_picks : (Row → Bool) → Group → Bool
-  group_picks test group = list_any
-      (at_number whole (λ run. list_any (λ row. list_any (opens tables all depth row) (map (λ elem. elem.now) group.elems) && test row) (map (λ row. row.now) run.rows))) group.numbers
-
-  pub group_step : (out mid now found : List Row) (groups : List Group) (i : ℕ) (group : Group) → i < length groups → group ≡ get_or groups i group → AreRowsAt whole group.numbers found →
-      Adds mid now (λ row. list_any (opens tables all depth row) (map (λ elem. elem.now) group.elems)) found →
-      ((test : Row → Bool) → list_any test mid ≡ (list_any test out || list_any (group_picks test) (take i groups))) →
-      (test : Row → Bool) → list_any test now ≡ (list_any test out || list_any (group_picks test) (take (i + 1) groups))
-  group_step out mid now found groups i group within is rows adds so_far test =
-      adds test
-      ∙ (λ k. so_far test k || rows (λ row. list_any (opens tables all depth row) (map (λ elem. elem.now) group.elems) && test row) k)
-      ∙ or_assoc (list_any test out) (list_any (group_picks test) (take i groups)) (group_picks test group)
-      ∙ ap (λ b. list_any test out || b) (ap (λ (one : Group). list_any (group_picks test) (take i groups) || group_picks test one) is ∙ sym (list_any_more (group_picks test) groups i group within))
+  abbrev group_picks : (Row → Bool) → Group → Bool
+  group_picks test group = picks_in tables all depth whole test group
 
   -- what an element says of a row where its content matches hold
   abbrev there : (List ℕ → Bool) → (Row → Bool) → Row → Elem → Bool

@@ -8,6 +8,7 @@ pub mod PickLemmas
 pub mod KeyLemmas
 pub mod ListLemmas
 pub mod WalkLemmas
+pub mod WholeLemmas
 pub mod TableLemmas
 pub mod ClassLemmas
 pub mod GroupLemmas

@@ -203,7 +203,7 @@ module _ (tables : Tables) (all : List Row) (depth : ℕ) where
       by None = sym (any_nothing elems)
       by (Some node) = any_flat_map (λ elem. is_named tables node elem && says tables all depth row elem) level_of elems
 
-  opens_all : (row : Row) (elems : List Elem) →
+  pub opens_all : (row : Row) (elems : List Elem) →
       list_any (opens tables all depth row) elems ≡ (list_any (λ elem. is_of_matches (level_of elem)) elems || picked tables all depth (flat_map level_of elems) row)
   opens_all row elems =
       any_or (λ elem. is_of_matches (level_of elem)) (λ elem. picked tables all depth (level_of elem) row) elems

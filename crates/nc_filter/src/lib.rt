@@ -23,5 +23,6 @@ mod table;
 mod text;
 mod texts;
 mod walk;
+mod wholes;
 
 pub use selection::select;

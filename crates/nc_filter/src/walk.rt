@@ -1,21 +1,24 @@
 //! The filter from the top down: which of some rows the elements of a level select (RFC 6241 6.2).
-ghost use Rattle.std.specs.Prelude.{◌≡◌, ◌+◌, ◌<◌, ◌≤◌, ◌^◌, ◌&&◌, ◌||◌, List, IfOk, OnSome, length, map, take};
+ghost use Rattle.std.specs.Prelude.{◌≡◌, ◌+◌, ◌<◌, ◌≤◌, ◌^◌, ◌&&◌, ◌||◌, ℕ, Bool, List, IfOk, OnSome};
+ghost use Rattle.std.specs.Prelude.{length, map, take};
 ghost use Rattle.std.specs.List.{list_any};
 ghost use Rattle.nc_names.specs.declared.path.Row.{Row};
-ghost use Rattle.nc_model.specs.Filter as meant;
+ghost use Rattle.nc_schema.specs.Tables.{Tables};
 ghost use Rattle.nc_filter.specs.inner.Names as names;
 ghost use Rattle.nc_filter.specs.inner.Picks as picks;
 ghost use Rattle.nc_filter.specs.inner.Tables.{IsIndex};
+ghost use Rattle.nc_filter.specs.inner.Wholes as wholes;
 
-use crate::groups::{groups, rows_at};
+use crate::groups::{Group, groups, rows_at};
 use crate::guards::classes;
 use crate::index::Index;
 use crate::level::{containments, has_level_of_matches, has_match, has_selection, levels_of};
 use crate::names::Level;
 use crate::rows::{by_node, count_node, extended, first_node, listed, with_node};
-use crate::runs::cut;
+use crate::runs::{Run, cut};
 use crate::table::Table;
 use crate::texts::matched;
+use crate::wholes::whole_numbers;
 use nc_message::Elem;
 use nc_names::{Many, Memory, Row, tail};
 use nc_schema::Schema;
@@ -193,12 +196,52 @@ fn pick_guarded<'a>(
     let table = Table::new(alloc, schema, index, whole)?;
     let classes = classes(alloc, elems)?;
     let groups = groups(alloc, &table, whole, classes)?;
-    let mut out = out;
-    for group in groups.as_slice() {
-        let held = rows_at(alloc, whole, group.numbers.as_slice())?;
-        let inner = group.elems.as_slice();
-        let here = held.as_slice();
-        out = pick_open(alloc, schema, index, depth, inner, here, out)?;
+    let some = groups.as_slice();
+    let mut out = with_wholes(alloc, whole, some, out)?;
+    for group in some {
+        out = pick_group(alloc, schema, index, depth, whole, group, out)?;
     }
     Ok(out)
+}
+
+// Adds the rows of the instances that some groups select whole, each once.
+fn with_wholes<'a>(
+    alloc: Global,
+    whole: &[Run<'a>],
+    groups: &[Group<'a>],
+    out: Many<&'a Row>,
+) -> Result<Many<&'a Row>, Memory>
+    ensures { IfOk result (λ it. (tables : Tables) (all : List Row) (depth : ℕ) (test : Row → Bool) →
+        list_any test (map (λ row. row.now) it) ≡ (list_any test (map (λ row. row.now) out.entry)
+        || list_any (wholes.picks_wholly_in tables all depth whole.now test) groups.now)) }
+{
+    let numbers = whole_numbers(alloc, groups)?;
+    let rows = rows_at(alloc, whole, numbers.as_slice())?;
+    let found = extended(out, rows.as_slice())?;
+    Ok(found)
+}
+
+// Adds what a group of elements picks in its instances, unless it selects them whole.
+#[cycle(pick)]
+fn pick_group<'a>(
+    alloc: Global,
+    schema: &Schema,
+    index: &Index<'a>,
+    depth: usize,
+    whole: &[Run<'a>],
+    group: &Group<'a>,
+    out: Many<&'a Row>,
+) -> Result<Many<&'a Row>, Memory>
+    ensures { IfOk result (λ it. (all : List Row) → IsIndex index.now.table all → (test : Row → Bool) →
+        list_any test (map (λ row. row.now) it) ≡ (list_any test (map (λ row. row.now) out.entry)
+        || wholes.picks_parts_in schema.now all depth whole.now test group.now)) }
+{
+    let elems = group.elems.as_slice();
+    if has_level_of_matches(elems) {
+        return Ok(out);
+    }
+    let held = rows_at(alloc, whole, group.numbers.as_slice())?;
+    let here = held.as_slice();
+    let found = pick_open(alloc, schema, index, depth, elems, here, out)?;
+    Ok(found)
 }

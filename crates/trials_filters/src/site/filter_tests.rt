@@ -25,6 +25,9 @@ const ALL: &str = "barney barney/3=barney barney/4=admin barney/5=Barney barney/
 const ROUTES: &str = "a a/3=a a/16:x a/16:x/17=x a/16:x/18=1 a/16:y a/16:y/17=y a/16:y/18=2 \
     b b/3=b b/16:x b/16:x/17=x b/16:x/18=2";
 
+const TAGS: &str = "a a/3=a a/9:p=p a/9:q=q a/9:r=r b b/3=b b/9:p=p b/9:q=q b/9:s=s \
+    c c/3=c c/9:q=q c/9:r=r c/9:s=s";
+
 /// Whether a filter of these elements keeps these rows of those.
 fn keeps(
     rt: &impl Abort,
@@ -330,5 +333,35 @@ fn lists_in_lists(rt: HostRuntime) {
     ];
     for (elements, wanted) in cases {
         assert!(rt; keeps(&rt, alloc, &schema, elements, ROUTES, wanted));
+    }
+}
+
+#[test]
+fn sets_of_entries_that_overlap(rt: HostRuntime) {
+    let alloc = rt.alloc();
+    let schema = schema(&rt, alloc);
+    let cases = [
+        (
+            "<top><users><user><tag>p</tag></user><user><tag>q</tag><tag>r</tag></user></users></top>",
+            TAGS,
+        ),
+        (
+            "<top><users><user><tag>p</tag><tag>q</tag></user>\
+             <user><tag>p</tag><tag>r</tag></user></users></top>",
+            "a a/3=a a/9:p=p a/9:q=q a/9:r=r b b/3=b b/9:p=p b/9:q=q b/9:s=s",
+        ),
+        (
+            "<top><users><user><tag>p</tag><tag>r</tag></user>\
+             <user><tag>s</tag><name/></user></users></top>",
+            "a a/3=a a/9:p=p a/9:q=q a/9:r=r b b/3=b b/9:s=s c c/3=c c/9:s=s",
+        ),
+        (
+            "<top><users><user><tag>p</tag><tag>s</tag><tag>q</tag></user>\
+             <user><tag>r</tag><tag>s</tag><none/></user></users></top>",
+            "b b/3=b b/9:p=p b/9:q=q b/9:s=s c c/3=c c/9:r=r c/9:s=s",
+        ),
+    ];
+    for (elements, wanted) in cases {
+        assert!(rt; keeps(&rt, alloc, &schema, elements, TAGS, wanted));
     }
 }

@@ -5,7 +5,7 @@ use Rattle.nc_names.specs.declared.path.Row.{Row}
 use Rattle.nc_filter.specs.inner.Names.{AreNames}
 use Rattle.nc_filter.specs.inner.Picks.{picked}
 use Rattle.nc_filter.specs.inner.Tables.{IsIndex}
-use Rattle.nc_filter.proofs.GroupLemmas.{group_picks}
+use Rattle.nc_filter.specs.inner.Wholes.{picks_parts_in, picks_wholly_in}
 use Rattle.nc_filter.proofs.walk.+pick.Given as goal
 
 abbrev pub decreases-pick_level : goal.decreases-pick_level
@@ -18,10 +18,13 @@ abbrev pub decreases-pick_some : goal.decreases-pick_some
 decreases-pick_some l = 8 * (2 ^ 64 - l.depth) - 1
 
 abbrev pub decreases-pick_within : goal.decreases-pick_within
-decreases-pick_within l = 8 * (2 ^ 64 - l.depth) + 3
+decreases-pick_within l = 8 * (2 ^ 64 - l.depth) + 4
 
 abbrev pub decreases-pick_guarded : goal.decreases-pick_guarded
-decreases-pick_guarded l = 8 * (2 ^ 64 - l.depth) + 2
+decreases-pick_guarded l = 8 * (2 ^ 64 - l.depth) + 3
+
+abbrev pub decreases-pick_group : goal.decreases-pick_group
+decreases-pick_group l = 8 * (2 ^ 64 - l.depth) + 2
 
 abbrev pub decreases-pick_open : goal.decreases-pick_open
 decreases-pick_open l = 8 * (2 ^ 64 - l.depth) + 1
@@ -39,4 +42,5 @@ abbrev pub invariant-pick_guarded-loop-group : goal.invariant-pick_guarded-loop-
 invariant-pick_guarded-loop-group l =
     (all : List Row) → IsIndex l.index.table all → (test : Row → Bool) →
     list_any test (map (λ row. row.now) l.out)
-    ≡ (list_any test (map (λ row. row.now) l.fn.out) || list_any (group_picks l.schema all l.depth l.whole test) (take l.group-index l.group-items))
+    ≡ ((list_any test (map (λ row. row.now) l.fn.out) || list_any (picks_wholly_in l.schema all l.depth l.whole test) l.some)
+    || list_any (picks_parts_in l.schema all l.depth l.whole test) (take l.group-index l.some))

@@ -1,14 +1,20 @@
 //! The values in use in a place and all below it.
-ghost use Rattle.std.specs.Prelude.{◌≡◌, List, map, IfOk};
+ghost use Rattle.std.specs.Prelude.{◌≡◌, ◌++◌, ◌∷◌, ◌+◌, ◌<◌, ◌≤◌, ◌^◌, List, length, map, IfOk, OnOk};
 ghost use Rattle.nc_names.specs.declared.path.Row.{Row};
 ghost use Rattle.nc_schema.specs.InUse as uses;
+ghost use Rattle.nc_schema.specs.Places as places;
 ghost use Rattle.nc_defaults.specs.Within.{IsWithin, place_here};
-ghost use Rattle.nc_defaults.specs.inner.Below.{values_at};
+ghost use Rattle.nc_defaults.specs.inner.Below.{texts, values_among, values_at};
+ghost use Rattle.nc_defaults.specs.inner.Walks.{places_under, places_with};
 
-use crate::spots::{Spot, is_same_number, node_there, places_from};
+use crate::here::place_of;
+use crate::parts::{count_parts, next_of, run_end};
+use crate::spots::{
+    Spot, copied_step, has_places, is_plain, is_same_number, node_there, steps_below,
+};
 use crate::values::values_in_use;
-use nc_names::{Many, Memory, Text};
-use nc_schema::Schema;
+use nc_names::{Many, Memory, Step, Text};
+use nc_schema::{Node, Schema};
 use nc_tree::Config;
 use std::alloc::Global;
 
@@ -49,7 +55,135 @@ fn values_at<'a>(
     Ok(Many::new(alloc))
 }
 
-/// The values in use of a leaf or leaf-list in a place and all below it (RFC 7950 7.6.1, 7.7.2).
+/// Adds the values in use in an instance of a data node, whose number is `number - 1`, and in all places below it.
+#[cycle(values)]
+fn add_values<'a>(
+    out: &mut Many<&'a Text>,
+    schema: &'a Schema,
+    config: &'a Config,
+    spot: &Spot,
+    leaf: u32,
+    number: u32,
+) -> Result<(), Memory>
+    requires within { IsWithin config.now spot.now.here }
+    requires known { number ≤ length schema.now.nodes }
+    ensures { OnOk result (texts out.new ≡ texts out.old ++ values_among schema.now leaf
+        (place_here config.now spot.now.steps spot.now.here
+        ∷ places_under schema.now (place_here config.now spot.now.steps spot.now.here) number)) }
+{
+    let alloc = out.alloc();
+    out.append(values_at(alloc, schema, config, spot, leaf)?)?;
+    add_below(out, schema, config, spot, leaf, number)?;
+    Ok(())
+}
+
+/// Adds those in the places below one, of the data nodes from a number on.
+#[cycle(values)]
+fn add_below<'a>(
+    out: &mut Many<&'a Text>,
+    schema: &'a Schema,
+    config: &'a Config,
+    spot: &Spot,
+    leaf: u32,
+    number: u32,
+) -> Result<(), Memory>
+    requires within { IsWithin config.now spot.now.here }
+    requires known { number ≤ length schema.now.nodes }
+    ensures { OnOk result (texts out.new ≡ texts out.old ++ values_among schema.now leaf
+        (places_under schema.now (place_here config.now spot.now.steps spot.now.here) number)) }
+{
+    for at in number..schema.nodes() {
+        add_child(out, schema, config, spot, leaf, at)?;
+    }
+    Ok(())
+}
+
+/// Adds those in the places of a data node, where it stands in the place, and below them.
+#[cycle(values)]
+fn add_child<'a>(
+    out: &mut Many<&'a Text>,
+    schema: &'a Schema,
+    config: &'a Config,
+    spot: &Spot,
+    leaf: u32,
+    number: u32,
+) -> Result<(), Memory>
+    requires within { IsWithin config.now spot.now.here }
+    requires known { number < length schema.now.nodes }
+    requires few { number + 1 < 2 ^ 32 }
+    ensures { OnOk result (texts out.new ++ values_among schema.now leaf
+        (places_under schema.now (place_here config.now spot.now.steps spot.now.here) (number + 1))
+        ≡ texts out.old ++ values_among schema.now leaf
+        (places_under schema.now (place_here config.now spot.now.steps spot.now.here) number)) }
+{
+    let Some(node) = schema.node(number) else {
+        return Ok(());
+    };
+    if !is_same_number(node.parent, node_there(spot.steps.as_slice())) {
+        return Ok(());
+    }
+    add_parts(out, schema, config, spot, leaf, (number, node))?;
+    Ok(())
+}
+
+/// Adds those in the instances of a data node that are places, and below them.
+#[cycle(values)]
+fn add_parts<'a>(
+    out: &mut Many<&'a Text>,
+    schema: &'a Schema,
+    config: &'a Config,
+    spot: &Spot,
+    leaf: u32,
+    child: (u32, &Node),
+) -> Result<(), Memory>
+    requires within { IsWithin config.now spot.now.here }
+    requires known { child.0 < length schema.now.nodes }
+    requires few { child.0 + 1 < 2 ^ 32 }
+    ensures { OnOk result (texts out.new ≡ texts out.old ++ values_among schema.now leaf
+        (places_with schema.now (place_here config.now spot.now.steps spot.now.here) child.entry.0 child.entry.1.now
+        (places.place_parts (place_here config.now spot.now.steps spot.now.here) child.entry.0 child.entry.1.now.kind))) }
+{
+    let alloc = out.alloc();
+    let (number, node) = child;
+    if !has_places(node.kind) {
+        return Ok(());
+    }
+    let steps = spot.steps.as_slice();
+    let here = spot.here;
+    if is_plain(node.kind) && count_parts(config, steps.len(), here.from, here.to, number) == 0 {
+        let step = Step {
+            node: number,
+            keys: Many::new(alloc),
+        };
+        let below = place_of(schema, config, steps, here, node, (here.from, here.from));
+        let spot = Spot {
+            steps: steps_below(steps, alloc, step)?,
+            here: below,
+        };
+        add_values(out, schema, config, &spot, leaf, number + 1)?;
+        return Ok(());
+    }
+    let depth = steps.len();
+    let mut at = here.from;
+    'part: while at < here.to {
+        let end = run_end(config, depth, at, here.to);
+        if let Some(step) = next_of(config, depth, at) {
+            if step.node == number {
+                let below = place_of(schema, config, steps, here, node, (at, end));
+                let spot = Spot {
+                    steps: steps_below(steps, alloc, copied_step(step)?)?,
+                    here: below,
+                };
+                add_values(out, schema, config, &spot, leaf, number + 1)?;
+            }
+        }
+        at = end;
+    }
+    Ok(())
+}
+
+/// The values in use of a leaf or leaf-list in a place and all below it (RFC 7950 7.6.1, 7.7.2). It goes from one place
+/// to the next and keeps the steps to the one in which it is.
 pub fn values_below<'a>(
     alloc: Global,
     schema: &'a Schema,
@@ -61,10 +195,7 @@ pub fn values_below<'a>(
     ensures { IfOk result (λ it. map (λ text. text.now) it
         ≡ uses.values_below schema.now (place_here config.now spot.now.steps spot.now.here) number) }
 {
-    let spots = places_from(alloc, schema, config, spot.steps.as_slice(), spot.here)?;
     let mut out = Many::new(alloc);
-    for below in spots.as_slice() {
-        out.append(values_at(alloc, schema, config, below, number)?)?;
-    }
+    add_values(&mut out, schema, config, spot, number, 0)?;
     Ok(out)
 }

@@ -17,7 +17,9 @@ mod values;
 pub use below::values_below;
 pub use cases::{all_chosen, is_chosen, is_made};
 pub use here::{Here, place_below, place_of, top};
-pub use parts::{count_parts, next_of, row_of, run_end};
-pub use spots::{Spot, has_places, is_same_number, node_there, places_from, steps_below};
+pub use parts::{count_parts, count_up_to, next_of, row_of, run_end};
+pub use spots::{
+    Spot, copied_step, has_places, is_same_number, node_there, places_from, steps_below,
+};
 pub use value::in_use;
 pub use values::values_in_use;

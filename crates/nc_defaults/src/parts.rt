@@ -87,6 +87,37 @@ pub fn count_parts(config: &Config, depth: usize, from: u64, to: u64, number: u3
     count
 }
 
+/// How many instances of a data node there are in a place, counted until there are enough: it looks no further then.
+pub fn count_up_to(
+    config: &Config,
+    depth: usize,
+    from: u64,
+    to: u64,
+    number: u32,
+    enough: u64,
+) -> u64
+    requires order { from ≤ to }
+    requires end { to ≤ length config.now }
+    ensures at_most { result
+        ≤ length (filter (places.is_of number) (places.parts depth (rows_between config.now from to))) }
+    ensures all { result < enough → result
+        ≡ length (filter (places.is_of number) (places.parts depth (rows_between config.now from to))) }
+{
+    let mut count = 0;
+    let mut at = from;
+    'part: while at < to {
+        if enough <= count {
+            return count;
+        }
+        let end = run_end(config, depth, at, to);
+        if is_of(number, next_of(config, depth, at)) {
+            count += 1;
+        }
+        at = end;
+    }
+    count
+}
+
 /// Where the rows of the instance of a data node begin and end to which a step leads.
 pub fn find_part(
     config: &Config,

@@ -45,16 +45,30 @@ pub fn is_same_number(number: Option<u32>, other: Option<u32>) -> bool
     }
 }
 
+/// An equal step, with room for its own keys alone: one of each place is kept.
+pub fn copied_step(step: &Step) -> Result<Step, Memory>
+    ensures { IfOk result (λ it. it ≡ step.now) }
+{
+    let mut keys = Vec::with_capacity(step.keys.alloc(), step.keys.len())?;
+    for key in step.keys.as_slice() {
+        keys.push(key.copy()?)?;
+    }
+    Ok(Step {
+        node: step.node,
+        keys: Many::from_vec(keys),
+    })
+}
+
 /// The steps with one more.
 pub fn steps_below(steps: &[Step], alloc: Global, step: Step) -> Result<Many<Step>, Memory>
     ensures { IfOk result (λ it. it ≡ steps.now ++ step ∷ []) }
 {
-    let mut below = Many::new(alloc);
+    let mut below = Vec::with_capacity(alloc, steps.len() + 1)?;
     for above in steps {
-        below.push(above.copy()?)?;
+        below.push(copied_step(above)?)?;
     }
     below.push(step)?;
-    Ok(below)
+    Ok(Many::from_vec(below))
 }
 
 /// Whether data nodes stand in instances of a kind of data node (RFC 7950 7.5, 7.8).
@@ -67,7 +81,8 @@ pub fn has_places(kind: Kind) -> bool
     }
 }
 
-fn is_plain(kind: Kind) -> bool
+/// Whether a kind of data node is a container without presence (RFC 7950 7.5.1).
+pub(crate) fn is_plain(kind: Kind) -> bool
     ensures { result ≡ kinds.is_plain_container kind }
 {
     match kind {
@@ -194,7 +209,7 @@ fn add_parts(
             if step.node == number {
                 let below = place_of(schema, config, steps, here, node, (at, end));
                 let spot = Spot {
-                    steps: steps_below(steps, alloc, step.copy()?)?,
+                    steps: steps_below(steps, alloc, copied_step(step)?)?,
                     here: below,
                 };
                 add_place(out, schema, config, spot, number + 1)?;

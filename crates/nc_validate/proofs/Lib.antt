@@ -2,3 +2,4 @@ pub mod FirstLemmas
 pub mod ChildrenLemmas
 pub mod TuplesLemmas
 pub mod UniqueLemmas
+pub mod CountLemmas

@@ -5,8 +5,8 @@ ghost use Rattle.nc_schema.specs.Places as places;
 ghost use Rattle.nc_defaults.specs.Within.{AreWithin, IsWithin, place_here, places_in};
 ghost use Rattle.nc_validate.specs.inner.Parts.{part_from};
 
-use nc_defaults::{Here, Spot, next_of, place_of, run_end, steps_below};
-use nc_names::{Copies, Many, Memory, Step};
+use nc_defaults::{Here, Spot, copied_step, next_of, place_of, run_end, steps_below};
+use nc_names::{Many, Memory, Step};
 use nc_schema::{Node, Schema};
 use nc_tree::Config;
 use std::alloc::Global;
@@ -40,7 +40,7 @@ fn with_part(
     }
     let below = place_of(schema, config, steps, here, node, rows);
     out.push(Spot {
-        steps: steps_below(steps, alloc, step.copy()?)?,
+        steps: steps_below(steps, alloc, copied_step(step)?)?,
         here: below,
     })?;
     Ok(out)

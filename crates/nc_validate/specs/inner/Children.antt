@@ -1,5 +1,5 @@
 -- The violations of a place, one data node and one choice after another.
-use Rattle.std.specs.Prelude.{◌==◌, ◌&&◌, ◌++◌, ◌∷◌, ℕ, Bool, false, not, if◌then◌else◌, ltb, length, drop}
+use Rattle.std.specs.Prelude.{◌==◌, ◌&&◌, ◌++◌, ◌∷◌, ◌<◌, ◌≤◌, ℕ, Bool, false, not, if◌then◌else◌, ltb, length, drop, IfSome}
 use Rattle.std.specs.Prelude.{List, [], Option, Some, None, slice_get}
 use Rattle.std.specs.List.{enumerate_from, filter, flat_map}
 use Rattle.std.specs.Option.{option_map_or}
@@ -55,6 +55,12 @@ count_fault node count required =
     else (if has_entries node.kind && ltb count node.least && required then Some TooFew
     else (if has_entries node.kind && option_map_or (λ most. ltb most count) node.most false then Some TooMany
     else None))
+
+-- so many instances among so many rows that one more breaks nothing, and mends nothing
+pub record IsEnough (node : Node) (rows enough : ℕ) : Type 0 where
+  pub some : 1 ≤ enough
+  pub least : node.least ≤ enough
+  pub most : IfSome node.most (λ most. most < rows → most < enough)
 
 -- those of the number of instances of a data node
 abbrev pub count_violations : Tables → Place → ℕ → Node → List Violation

@@ -80,7 +80,7 @@ add_parts-part-preserved-in_ok-add_place-2 t c =
     let result = c.place_of-below-then-step-number.result in
     let below : Place = place_here config c.in_ok-steps_below-2.field-0 result in
     let longer : c.in_ok-steps_below-2.field-0 ≡ args.steps.now ++ step ∷ [] =
-    c.in_ok-steps_below-2.ensures ∙ ap (λ (s : Step). args.steps.now ++ s ∷ []) c.in_ok-copy.ensures in
+    c.in_ok-steps_below-2.ensures ∙ ap (λ (s : Step). args.steps.now ++ s ∷ []) c.in_ok-copied_step.ensures in
     let is : below ≡ place_of tables place node part =
     ap (λ (steps : List Step). place_here config steps result) longer
     ∙ c.place_of-below-then-step-number.ensures.place (Some step)

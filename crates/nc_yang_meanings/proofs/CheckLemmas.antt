@@ -20,7 +20,7 @@ use Rattle.nc_yang_meanings.specs.declared.planned.Finding.{Finding}
 use Rattle.nc_yang_meanings.specs.declared.planned.Finding.TheVariants.{Broken, Nothing, Plan}
 use Rattle.nc_yang_meanings.specs.declared.planned.Meanings.{Meanings}
 use Rattle.nc_yang_meanings.proofs.MeaningLemmas.{means_keeps}
-use Rattle.nc_yang_meanings.proofs.PartLemmas.{statement_is}
+use Rattle.nc_yang_scopes.proofs.PartLemmas.{statement_is}
 
 module _ (scoping : Scoping) (meanings : Meanings) (n : ℕ) (s : Statement) (number : HasNumber scoping n s) (on : ℕ → List ℕ → Bool) (are : AreMeanings on scoping meanings) (l : Located) (here : slice_get scoping.located n ≡ Some l) where
   breaks_here : (fault : Fault) → Some fault ≡ fault_in (slice_get meanings.findings n) → Breaks on scoping.texts l fault

@@ -19,7 +19,7 @@ use Rattle.nc_yang_meanings.specs.inner.Known.{AreKnown, KnowsBase}
 use Rattle.nc_yang_meanings.specs.inner.Planning.{IsOrdered, IsReady, footing_at}
 use Rattle.nc_yang_meanings.specs.declared.footing.Footing.{Footing}
 use Rattle.nc_yang_meanings.specs.declared.footing.Footing.TheVariants.{OnBuiltIn, OnNothing, OnType}
-use Rattle.nc_yang_meanings.specs.declared.reach.Reach.{Reach}
+use Rattle.nc_yang_order.specs.declared.reach.Reach.{Reach}
 use Rattle.nc_yang_meanings.proofs.MeaningLemmas.{built_or_base}
 use Rattle.nc_yang_meanings.proofs.FoundLemmas.{each_at}
 use Rattle.nc_yang_meanings.proofs.TableLemmas.{footing_is, means_reached, ready_within}

@@ -15,7 +15,7 @@ use Rattle.nc_yang_meanings.specs.inner.Footings.{AreFootings, IsFooting}
 use Rattle.nc_yang_meanings.specs.Numbers.{IsNumber, OnNumber}
 use Rattle.nc_yang_meanings.specs.declared.footing.Footing.{Footing}
 use Rattle.nc_yang_meanings.specs.declared.footing.Footing.TheVariants.{OnType}
-use Rattle.nc_yang_meanings.proofs.PartLemmas.{statement_is}
+use Rattle.nc_yang_scopes.proofs.PartLemmas.{statement_is}
 
 module _ (scoping : Scoping) (n : ℕ) (s : Statement) (number : HasNumber scoping n s) (is_type : is_same_keyword TypeName (kind s) ≡ true) (no_built_in : built_in_of (name s) ≡ None) where
   over : (l : Located) → slice_get scoping.located n ≡ Some l → (built_in l ≡ None) × (base_of scoping.texts l ≡ of_typedef TypeName scoping.texts l)

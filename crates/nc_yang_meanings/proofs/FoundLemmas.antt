@@ -33,7 +33,7 @@ use Rattle.nc_yang_meanings.specs.declared.planned.Finding.TheVariants.{Broken, 
 use Rattle.nc_yang_meanings.specs.declared.planned.Meanings.{Meanings}
 use Rattle.nc_yang_meanings.specs.declared.planned.Planned.{Planned}
 use Rattle.nc_yang_meanings.proofs.MeaningLemmas.{itself_broken, itself_nothing, itself_plan, on_nothing, over_number}
-use Rattle.nc_yang_meanings.proofs.PartLemmas.{statement_is}
+use Rattle.nc_yang_scopes.proofs.PartLemmas.{statement_is}
 use Rattle.nc_yang_meanings.proofs.TableLemmas.{base_known, footing_is, ready_within, step_more}
 
 meant_is : (on : ℕ → List ℕ → Bool) (one : BuiltIn) (l : Located) → meant on one l ≡ meant_with (own (stands on l.place.text) one (below l.statement)) one l

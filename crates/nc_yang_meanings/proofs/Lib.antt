@@ -1,5 +1,3 @@
-pub mod ReachLemmas
-pub mod PartLemmas
 pub mod FootingLemmas
 pub mod DependentLemmas
 pub mod MeaningLemmas

@@ -17,8 +17,8 @@ use Rattle.nc_yang_meanings.specs.Places.{base_of, built_in}
 use Rattle.nc_yang_meanings.specs.Plans.{AreMeanings, IsFinding}
 use Rattle.nc_yang_meanings.specs.inner.Footings.{AreDependents, AreFootings, AreStarts, IsFooting}
 use Rattle.nc_yang_meanings.specs.inner.Planning.{AreSoFar, HasBase, IsFound, IsOrdered, IsReady, blank, footing_at, with_found}
-use Rattle.nc_yang_meanings.specs.inner.Reaching.{IsLed, IsReached}
-use Rattle.nc_yang_meanings.specs.declared.reach.Reach.{Reach}
+use Rattle.nc_yang_order.specs.Reaching.{IsLed, IsReached}
+use Rattle.nc_yang_order.specs.declared.reach.Reach.{Reach}
 use Rattle.nc_yang_meanings.specs.declared.footing.Footing.{Footing}
 use Rattle.nc_yang_meanings.specs.declared.footing.Footing.TheVariants.{OnBuiltIn, OnNothing, OnType}
 use Rattle.nc_yang_meanings.specs.declared.found.Found.{Found}

@@ -2,6 +2,7 @@ pub mod Features
 pub mod Places
 pub mod Meanings
 pub mod Faults
+pub mod Wholes
 pub mod Numbers
 pub mod Plans
 pub mod Defaults

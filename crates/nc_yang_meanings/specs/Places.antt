@@ -1,25 +1,14 @@
--- The statements of one keyword directly in another, and the `type` statement on which another rests (RFC 7950 7.3, 7.4).
-use Rattle.std.specs.Prelude.{List, map, filter, Option, None, option_map, option_and_then, if◌then◌else◌, is_some}
+-- The `type` statement on which another rests (RFC 7950 7.3, 7.4).
+use Rattle.std.specs.Prelude.{List, Option, None, option_and_then, if◌then◌else◌, is_some}
 use Rattle.nc_yang_words.specs.declared.statement.Statement.{Statement}
 use Rattle.nc_yang_statements.specs.declared.built_in.BuiltIn.{BuiltIn}
 use Rattle.nc_yang_statements.specs.declared.keyword.Keyword.{Keyword}
 use Rattle.nc_yang_statements.specs.declared.keyword.Keyword.TheVariants.{TypeName, Typedef}
 use Rattle.nc_yang_statements.specs.BuiltIns.{built_in_of}
 use Rattle.nc_yang_statements.specs.Keywords.{is_same_keyword}
-use Rattle.nc_yang_statements.specs.Statements.{below, kind, name, part}
-use Rattle.nc_yang_scopes.specs.Scopes.{Located, inside, resolved}
-
--- a statement that stands directly in another
-abbrev pub in_it : Located → Statement → Located
-in_it l s = record { statement = s; place = inside l }
-
--- those of a keyword, in their order
-abbrev pub parts_of : Keyword → Located → List Located
-parts_of keyword l = map (in_it l) (filter (λ s. is_same_keyword keyword (kind s)) (below l.statement))
-
--- the first of them
-abbrev pub part_of : Keyword → Located → Option Located
-part_of keyword l = option_map (in_it l) (part keyword (below l.statement))
+use Rattle.nc_yang_statements.specs.Statements.{kind, name}
+use Rattle.nc_yang_scopes.specs.Scopes.{Located, resolved}
+pub use Rattle.nc_yang_scopes.specs.Parts.{in_it, part_of, parts_of}
 
 -- the built-in type that a `type` statement names (RFC 7950 4.2.4)
 abbrev pub built_in : Located → Option BuiltIn

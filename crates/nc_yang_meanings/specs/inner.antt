@@ -1,4 +1,3 @@
-pub mod Reaching
 pub mod Footings
 pub mod Planning
 pub mod Judging

@@ -11,11 +11,10 @@ ghost use Rattle.nc_yang_meanings.specs.Numbers.{OnNumber};
 ghost use Rattle.nc_yang_meanings.specs.inner.Planning.{ArePlan, StandsInText, meant_with};
 
 use crate::features::{Features, InText};
-use crate::part::{part_of, parts_of};
 use crate::planned::Planned;
 use nc_names::Memory;
 use nc_schema::ValueType;
-use nc_yang_scopes::Scopes;
+use nc_yang_scopes::{Scopes, part_of, parts_of};
 use nc_yang_statements::{BuiltIn, Keyword};
 use nc_yang_types::{TypeStop, own, required};
 use nc_yang_words::Statement;

@@ -12,10 +12,9 @@ ghost use Rattle.nc_yang_meanings.specs.inner.Planning.{IsReady};
 ghost use Rattle.nc_yang_scopes.specs.Scopes.{Located};
 
 use crate::footing::{Footing, footings, of_typedef};
-use crate::part::part_of;
 use crate::table::{footing_of, ordered};
 use nc_names::{Many, Memory};
-use nc_yang_scopes::Scopes;
+use nc_yang_scopes::{Scopes, part_of};
 use nc_yang_statements::Keyword;
 use std::alloc::Global;
 

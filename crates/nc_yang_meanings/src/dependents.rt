@@ -3,8 +3,8 @@ ghost use Rattle.std.specs.Prelude.{◌≡◌, length, IfOk};
 ghost use Rattle.nc_yang_meanings.specs.inner.Footings.{AreDependents, AreStarts, dependent, started};
 
 use crate::footing::Footing;
-use crate::graph::{no_edges, with_edge};
 use nc_names::{Many, Memory};
+use nc_yang_order::{no_edges, with_edge};
 use std::alloc::Global;
 
 // With an edge to the type of a number from the one on which it rests.

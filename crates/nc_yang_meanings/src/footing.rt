@@ -4,9 +4,8 @@ ghost use Rattle.nc_yang_meanings.specs.inner.Footings.{AreFootings, IsFooting};
 ghost use Rattle.nc_yang_meanings.specs.Numbers.{IsNumber, OnNumber};
 ghost use Rattle.nc_yang_meanings.specs.Places as places;
 
-use crate::part::part_of;
 use nc_names::{Many, Memory};
-use nc_yang_scopes::Scopes;
+use nc_yang_scopes::{Scopes, part_of};
 use nc_yang_statements::{BuiltIn, Keyword, built_in_of, is_same_keyword, kind, name};
 use std::alloc::Global;
 

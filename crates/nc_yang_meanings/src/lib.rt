@@ -9,8 +9,8 @@
 //! nothing to another share its plan.
 //!
 //! `meanings_of` promises what every type means where none breaks a rule, and else a rule that is broken.
-//! `defaults_of` and `leaf_default` promise the nearest default along the typedefs. No call recurses along a
-//! chain of typedefs, and each type is looked at once. The crate `trials_modules` tests it.
+//! `defaults_of` and `leaf_default` promise the nearest default along the typedefs. No call recurses
+//! along a chain of typedefs, and each type is looked at once. The crate `trials_modules` tests it.
 #![tactic(auto)]
 
 mod all;
@@ -21,12 +21,9 @@ mod dependents;
 mod features;
 mod footing;
 mod found;
-mod graph;
 mod laws;
 mod over;
-mod part;
 mod planned;
-mod reach;
 mod table;
 
 pub use all::meanings_of;

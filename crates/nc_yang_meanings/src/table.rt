@@ -10,8 +10,8 @@ use crate::features::Features;
 use crate::footing::{Footing, footings};
 use crate::found::{Found, look};
 use crate::planned::{Finding, Meanings};
-use crate::reach::Reach;
 use nc_names::{Many, Memory};
+use nc_yang_order::Reach;
 use nc_yang_scopes::Scopes;
 use std::alloc::Global;
 

@@ -7,3 +7,5 @@ pub mod Walking
 pub mod Supporting
 pub mod Seeing
 pub mod Lawful
+pub mod Sound
+pub mod Followed

@@ -86,6 +86,17 @@ pub(crate) fn is_supported<'a>(
     true
 }
 
+/// Whether no `if-feature` in the statement of a number names a feature that is off (RFC 7950 7.20.2).
+pub fn is_supported_at<'a>(scopes: &Scopes<'a>, features: &Features<'a>, number: usize) -> bool
+    ensures { (l : Located) → slice_get scopes.now.located number ≡ Some l
+        → result ≡ roles.is_supported scopes.now.texts (is_on features.now) l }
+{
+    match scopes.statement(number) {
+        Some(statement) => is_supported(scopes, features, number, statement),
+        None => false,
+    }
+}
+
 // Whether a statement says that its nodes are state.
 #[tactic(auto, unfolding(nc_yang_statements::specs::Arguments::is_false_text))]
 fn is_state(statement: &Statement) -> bool

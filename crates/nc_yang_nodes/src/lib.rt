@@ -6,9 +6,10 @@
 //!
 //! `plan_of` promises exactly the defined list of data nodes and of choices, each with the statement that
 //! defines it, or a fault at the first statement past a limit; by the law `plan_has_no_fault` no modules have
-//! both. `features_on` promises which of the given features are on, and `case_of` the number of a choice's
-//! case. A walk has a stack of its own, and passes over what plans nothing. The crate `trials_modules` tests
-//! it.
+//! both, and by `plan_is_sound` each data node comes after the one in which it stands. `features_on` promises
+//! which of the given features are on, `is_supported_at` whether a statement is there under them, and `case_of` the
+//! number of a choice's case. A walk has a stack of its own, and passes over what plans nothing. The crate
+//! `trials_modules` tests it.
 #![tactic(auto)]
 
 mod barren;
@@ -25,8 +26,9 @@ mod table;
 mod walk;
 
 pub use cases::case_of;
+pub use entries::is_supported_at;
 pub use features::Features;
-pub use laws::plan_has_no_fault;
+pub use laws::{plan_has_no_fault, plan_is_sound};
 pub use plan::plan_of;
 pub use planned::{Plan, PlanStop, Planned, PlannedChoice};
 pub use supported::features_on;

@@ -1,3 +1,4 @@
 pub mod Orders
+pub mod Reaching
 pub mod Laws
 pub mod inner

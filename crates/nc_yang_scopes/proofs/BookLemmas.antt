@@ -14,10 +14,11 @@ use Rattle.nc_yang_words.specs.declared.statement.Statement.{Statement}
 use Rattle.nc_yang_statements.specs.declared.keyword.Keyword.{Keyword}
 use Rattle.nc_yang_statements.specs.declared.keyword.Keyword.TheVariants.{Import, Revision}
 use Rattle.nc_yang_statements.specs.Statements.{below, name}
-use Rattle.nc_yang_scopes.specs.Scopes.{Located, child, defines, found, found_in, has_colon, has_revision, import_of, inside, is_defining, local_of, prefix_of, resolved, root, text_of, text_of_prefix, top}
+use Rattle.nc_yang_scopes.specs.Scopes.{SplitsReference, Located, child, defines, found, found_in, has_colon, has_revision, import_of, inside, is_defining, local_of, prefix_of, resolved, root, text_of, text_of_prefix, top}
 use Rattle.nc_yang_scopes.specs.Names.{further_out, is_defined_out}
-use Rattle.nc_yang_scopes.specs.inner.Books.{Gives, SplitsReference, across, near}
-use Rattle.nc_yang_scopes.specs.inner.Frames.{Entry, IsBehind, IsWhole, blocks_in, first_in, is_import, is_known, is_one, located, opened, roots}
+use Rattle.nc_yang_scopes.specs.inner.Books.{Gives, across, near}
+use Rattle.nc_yang_scopes.specs.Numbers.{Entry, blocks_in, located, opened, roots}
+use Rattle.nc_yang_scopes.specs.inner.Frames.{IsBehind, IsWhole, first_in, is_import, is_known, is_one}
 use Rattle.nc_yang_scopes.proofs.Lists.{get_left, get_within, past_end}
 use Rattle.nc_yang_scopes.proofs.Numbered.{length_roots}
 use Rattle.nc_yang_scopes.proofs.Places.{all_entries, child_at, length_located, located_at, located_none}

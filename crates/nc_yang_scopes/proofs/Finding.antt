@@ -11,7 +11,8 @@ use Rattle.nc_names.specs.Same.{is_same_text}
 use Rattle.nc_yang_statements.specs.Keywords.{is_same_keyword}
 use Rattle.nc_yang_statements.specs.Statements.{below, kind, name}
 use Rattle.nc_yang_scopes.specs.Scopes.{Located, defines, found, has_prefix, inside}
-use Rattle.nc_yang_scopes.specs.inner.Frames.{Entry, IsWhole, blocks_in, children, is_import, is_known, is_one, located, opened, roots}
+use Rattle.nc_yang_scopes.specs.Numbers.{Entry, blocks_in, children, located, opened, roots}
+use Rattle.nc_yang_scopes.specs.inner.Frames.{IsWhole, is_import, is_known, is_one}
 use Rattle.nc_yang_scopes.proofs.Lists.{found_at, found_none, past_end}
 use Rattle.nc_yang_scopes.proofs.Places.{all_entries, located_at}
 

@@ -1,5 +1,6 @@
 pub mod Lists
 pub mod Numbered
+pub mod Scopings
 pub mod Places
 pub mod Finding
 pub mod TableLemmas
@@ -7,3 +8,4 @@ pub mod NameLemmas
 pub mod BookLemmas
 pub mod Misnaming
 pub mod Sharing
+pub mod PartLemmas

@@ -8,9 +8,10 @@ use Rattle.nc_yang_words.specs.declared.statement.Statement.{Statement}
 use Rattle.nc_yang_statements.specs.declared.keyword.Keyword.{Keyword}
 use Rattle.nc_yang_statements.specs.Statements.{name}
 use Rattle.nc_yang_scopes.specs.declared.table.Table.{Table}
-use Rattle.nc_yang_scopes.specs.inner.Frames.{Entry, IsTable, is_known}
+use Rattle.nc_yang_scopes.specs.Numbers.{Entry}
+use Rattle.nc_yang_scopes.specs.inner.Frames.{IsTable, is_known}
 use Rattle.nc_yang_scopes.specs.inner.Names.{IsModules}
-use Rattle.nc_yang_scopes.specs.inner.Tables.{KeepsOneMore, either, number_at}
+use Rattle.nc_yang_scopes.specs.Tables.{KeepsOneMore, either, number_at}
 use Rattle.nc_yang_scopes.proofs.Lists.{past_end, position_next}
 
 pub modules_more : (texts : List Statement) (text : ℕ) (s : Statement) (word : List ℕ) (old new : Table) → text < length texts → s ≡ get_or texts text s → word ≡ name s →

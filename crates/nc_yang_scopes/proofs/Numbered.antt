@@ -5,7 +5,8 @@ use Rattle.std.proofs.lemmas.Bool.{cases_lt}
 use Rattle.std.proofs.lemmas.List.{take-append-le, length-take-le}
 use Rattle.nc_yang_words.specs.declared.statement.Statement.{Statement}
 use Rattle.nc_yang_statements.specs.Statements.{below}
-use Rattle.nc_yang_scopes.specs.inner.Frames.{Entry, roots, children, opened, first_in, AreBehind, IsBehind, IsPart}
+use Rattle.nc_yang_scopes.specs.Numbers.{Entry, roots, children, opened}
+use Rattle.nc_yang_scopes.specs.inner.Frames.{first_in, AreBehind, IsBehind, IsPart}
 use Rattle.nc_yang_scopes.proofs.Lists.{get_left, get_right, get_within, past_end, take_next}
 
 opened_push : (number : ℕ) (entries : List Entry) (entry : Entry) (at : ℕ) → number + length entries ≡ at →

@@ -7,7 +7,8 @@ use Rattle.std.proofs.lemmas.List.Sums.{fold-append, fold_push}
 use Rattle.std.proofs.lemmas.Option.{slice_get_past}
 use Rattle.nc_yang_words.specs.declared.statement.Statement.{Statement}
 use Rattle.nc_yang_scopes.specs.Scopes.{Located, inside}
-use Rattle.nc_yang_scopes.specs.inner.Frames.{Entry, AreBehind, IsBehind, IsWhole, blocks_in, children, first_in, located, located_after, opened, roots}
+use Rattle.nc_yang_scopes.specs.Numbers.{Entry, blocks_in, children, located, located_after, opened, roots}
+use Rattle.nc_yang_scopes.specs.inner.Frames.{AreBehind, IsBehind, IsWhole, first_in}
 use Rattle.nc_yang_scopes.proofs.Lists.{get_left, get_right, get_within, past_end, take_next}
 use Rattle.nc_yang_scopes.proofs.Numbered.{length_roots}
 

@@ -12,7 +12,7 @@ use Rattle.std.proofs.lemmas.Map.Text.{is_eq-slice_cmp}
 use Rattle.nc_names.proofs.SameLemmas.{first_true, second_true}
 use Rattle.nc_names.specs.Same.{is_same_text}
 use Rattle.nc_yang_scopes.specs.declared.table.Table.{Table}
-use Rattle.nc_yang_scopes.specs.inner.Tables.{KeepsOneMore, either, is_key, number_at, order}
+use Rattle.nc_yang_scopes.specs.Tables.{KeepsOneMore, either, is_key, number_at, order}
 
 is_eq_then : (a b : Ordering) → is_eq (ordering_then a b) ≡ (is_eq a && is_eq b)
 is_eq_then Less b = refl

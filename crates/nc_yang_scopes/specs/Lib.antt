@@ -1,5 +1,10 @@
 pub mod Scopes
+pub mod Parts
 pub mod Spaces
 pub mod Modules
 pub mod Names
+pub mod Tables
+pub mod Prefixes
+pub mod Numbers
+pub mod Laws
 pub mod inner

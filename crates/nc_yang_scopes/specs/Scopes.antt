@@ -1,5 +1,6 @@
 -- Modules, and what a name means at a place (RFC 7950 5.5, 6.2.1, 7.1.4, 7.1.5).
-use Rattle.std.specs.Prelude.{ℕ, ◌==◌, ◌&&◌, Bool, true, false, if◌then◌else◌, List, [], ◌∷◌, Option, Some, None, find, position, slice_get, is_some, option_and_then, option_map}
+use Rattle.std.specs.Prelude.{◌≡◌, ℕ, ◌==◌, ◌&&◌, Bool, true, false, if◌then◌else◌, List, [], ◌∷◌, Option, Some, None, find, position, slice_get, is_some, option_and_then, option_map, MatchOption}
+use Rattle.std.proofs.Common.{Bor}
 use Rattle.std.specs.List.{list_any, before_first, after_first}
 use Rattle.std.specs.Option.{option_map_or}
 use Rattle.nc_names.specs.Same.{is_same_text}
@@ -93,6 +94,12 @@ prefix_of reference = before_first (λ c. c == colon) reference
 -- the name in a reference
 abbrev pub local_of : List ℕ → List ℕ
 local_of reference = if has_colon reference then after_first (λ c. c == colon) reference else reference
+
+-- the prefix and the name of a reference, or that it has no prefix
+abbrev pub SplitsReference : List ℕ → Option (Bor (List ℕ) × Bor (List ℕ)) → Type 0
+SplitsReference reference found =
+    MatchOption found (has_colon reference ≡ false)
+    (λ x. (has_colon reference ≡ true) × (x.0.now ≡ prefix_of reference) × (x.1.now ≡ local_of reference))
 
 -- in another module only what stands at its top is seen
 abbrev pub found_in : List Statement → Keyword → List ℕ → Place → (text : ℕ) → Option Located

@@ -1,4 +1,3 @@
-pub mod Tables
 pub mod Frames
 pub mod Numberings
 pub mod Names

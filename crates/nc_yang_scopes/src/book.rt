@@ -4,8 +4,9 @@ ghost use Rattle.std.specs.Option.{option_copied, option_map_or};
 ghost use Rattle.nc_yang_statements.specs.Statements as statements;
 ghost use Rattle.nc_yang_scopes.specs.Scopes as scopes;
 ghost use Rattle.nc_yang_scopes.specs.Names.{is_defined_out};
-ghost use Rattle.nc_yang_scopes.specs.inner.Books.{Gives, IsBook, IsBookOf, SplitsReference, across, near};
-ghost use Rattle.nc_yang_scopes.specs.inner.Frames.{IsTable, located};
+ghost use Rattle.nc_yang_scopes.specs.inner.Books.{Gives, IsBook, IsBookOf, across, near};
+ghost use Rattle.nc_yang_scopes.specs.Numbers.{located};
+ghost use Rattle.nc_yang_scopes.specs.inner.Frames.{IsTable};
 
 use crate::names::{Names, has_prefix};
 use crate::numbering::Numbering;
@@ -23,9 +24,9 @@ pub(crate) struct Book<'a> {
     pub names: Names<'a>,
 }
 
-/// The prefix of a reference, and the name after it.
-pub(crate) fn split(reference: &str) -> Option<(&str, &str)>
-    ensures { SplitsReference reference.now result }
+/// The prefix of a reference, and the name after it, or `None` where it has no prefix (RFC 7950 6.4.1).
+pub fn split_reference(reference: &str) -> Option<(&str, &str)>
+    ensures { scopes.SplitsReference reference.now result }
 {
     reference.split_once(':')
 }
@@ -281,7 +282,7 @@ impl<'a> Book<'a> {
             (option_and_then (λ l. scopes.resolved self.now.texts.now keyword reference.now l.place)
             (slice_get (located self.now.numbering.frames) number)) }
     {
-        match split(reference) {
+        match split_reference(reference) {
             None => self.nearest(keyword, number, reference),
             Some((prefix, word)) => self.prefixed(keyword, number, prefix, word),
         }

@@ -1,6 +1,7 @@
 //! The statements of texts under numbers.
 ghost use Rattle.std.specs.Prelude.{◌≡◌, [], ◌∷◌, ◌++◌, ◌<◌, length, slice_get, option_map, IfOk, OnOk, OnSome};
-ghost use Rattle.nc_yang_scopes.specs.inner.Frames.{children, entry_of, roots};
+ghost use Rattle.nc_yang_scopes.specs.Numbers.{children, roots};
+ghost use Rattle.nc_yang_scopes.specs.inner.Frames.{entry_of};
 
 use nc_names::{Many, Memory};
 use nc_yang_words::Statement;
@@ -23,7 +24,8 @@ pub(crate) struct Frames<'a> {
 
 impl<'a> Model for Frames<'a> {
     ghost use Rattle.std.specs.Prelude.{List, map};
-    ghost use Rattle.nc_yang_scopes.specs.inner.Frames.{Entry, entry_of};
+    ghost use Rattle.nc_yang_scopes.specs.Numbers.{Entry};
+    ghost use Rattle.nc_yang_scopes.specs.inner.Frames.{entry_of};
     ghost use Rattle.std.specs.Coded.{codes};
     ghost use Rattle.nc_yang_words.specs.contracts.statement.Statement as statements;
 

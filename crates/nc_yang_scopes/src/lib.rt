@@ -6,21 +6,28 @@
 //!
 //! `Scopes::resolve` promises the definition to which a reference leads at a statement, `Scopes::text_of_prefix` the
 //! text for which a prefix stands. `first_misnamed` and `first_renamed` promise a fault exactly where a rule on names
-//! is broken, and then one of those; `first_twin` the first of two modules that share a name or a namespace. The
-//! crate `trials_modules` tests it.
+//! is broken, and then one of those; `first_twin` the first of two modules that share a name or a namespace.
+//! `part_of` and `parts_of` promise the statements of one keyword in another, and a `Table` has numbers by a block and a
+//! word. The crate `trials_modules` tests it.
 #![tactic(auto)]
 
 mod book;
 mod frames;
+mod laws;
 mod modules;
 mod names;
 mod naming;
 mod numbering;
+mod part;
 mod scopes;
 mod space;
 mod table;
 
+pub use book::split_reference;
+pub use laws::one_scoping;
 pub use modules::{Title, first_twin};
 pub use naming::{TextFault, first_misnamed};
+pub use part::{part_of, parts_of};
 pub use scopes::Scopes;
 pub use space::{Space, first_renamed};
+pub use table::Table;

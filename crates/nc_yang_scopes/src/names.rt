@@ -6,7 +6,7 @@ ghost use Rattle.nc_names.specs.Same.{is_same_text};
 ghost use Rattle.nc_yang_scopes.specs.Scopes as scopes;
 ghost use Rattle.nc_yang_scopes.specs.inner.Frames as entries;
 ghost use Rattle.nc_yang_scopes.specs.inner.Names.{AreNames, IsModules};
-ghost use Rattle.nc_yang_scopes.specs.inner.Tables.{either, is_key, number_at};
+ghost use Rattle.nc_yang_scopes.specs.Tables.{either, is_key, number_at};
 
 use crate::frames::{Frame, Frames};
 use crate::table::Table;

@@ -8,7 +8,7 @@ ghost use Rattle.nc_yang_scopes.specs.Scopes as definitions;
 ghost use Rattle.nc_yang_scopes.specs.Names.{BreaksNames, KeepsNames};
 ghost use Rattle.nc_yang_scopes.specs.inner.Naming as naming;
 
-use crate::book::split;
+use crate::book::split_reference;
 use crate::scopes::Scopes;
 use nc_yang_statements::{Fault, Keyword, ModuleWhy, built_in_of, is_closed, kind, name};
 use nc_yang_words::Statement;
@@ -80,7 +80,7 @@ fn is_foreign<'a>(scopes: &Scopes<'a>, number: usize, statement: &'a Statement) 
     ensures { result
         ≡ naming.foreign_at scopes.now.texts (slice_get scopes.now.located number) statement.now }
 {
-    match split(statement.keyword.as_str()) {
+    match split_reference(statement.keyword.as_str()) {
         Some((prefix, _)) => is_unknown(scopes, number, prefix),
         None => false,
     }

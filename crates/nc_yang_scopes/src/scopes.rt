@@ -3,6 +3,7 @@ ghost use Rattle.std.specs.Prelude.{◌≡◌, ◌<◌, false, IfSome, IsTrue, I
 ghost use Rattle.std.specs.Option.{option_copied, option_map_or};
 ghost use Rattle.nc_yang_scopes.specs.Scopes as scopes;
 ghost use Rattle.nc_yang_scopes.specs.Names.{is_defined_out};
+ghost use Rattle.nc_yang_scopes.specs.Numbers.{IsScoping};
 
 use crate::book::Book;
 use nc_names::Memory;
@@ -21,7 +22,7 @@ pub struct Scopes<'a> {
 impl<'a> Model for Scopes<'a> {
     ghost use Rattle.nc_yang_scopes.specs.Scopes.{Scoping};
     ghost use Rattle.nc_yang_scopes.specs.inner.Books.{IsBook};
-    ghost use Rattle.nc_yang_scopes.specs.inner.Frames.{located};
+    ghost use Rattle.nc_yang_scopes.specs.Numbers.{located};
     ghost use Rattle.std.specs.Coded.{codes};
     ghost use Rattle.nc_yang_words.specs.contracts.statement.Statement as statements;
 
@@ -37,7 +38,8 @@ impl<'a> Model for Scopes<'a> {
 impl<'a> Scopes<'a> {
     /// The statements of texts, of which each is a module. Time and memory grow with the number of statements.
     pub fn of(alloc: Global, texts: &'a [Statement]) -> Result<Scopes<'a>, Memory>
-        ensures { IfOk result (λ it. it.texts ≡ texts.now) }
+        ensures texts { IfOk result (λ it. it.texts ≡ texts.now) }
+        ensures numbers { IfOk result IsScoping }
     {
         Ok(Scopes {
             book: Book::of(alloc, texts)?,

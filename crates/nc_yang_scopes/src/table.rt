@@ -1,6 +1,6 @@
 //! Numbers that are found by a block and a word.
 ghost use Rattle.std.specs.Prelude.{◌≡◌, ℕ, List, None, IfOk};
-ghost use Rattle.nc_yang_scopes.specs.inner.Tables.{KeepsOneMore, number_at};
+ghost use Rattle.nc_yang_scopes.specs.Tables.{KeepsOneMore, number_at};
 
 use nc_names::Memory;
 use std::alloc::Global;
@@ -8,13 +8,13 @@ use std::collections::BTreeMap;
 
 /// The number of each pair of a block and a word; of several the first that came.
 #[derive(Drop)]
-pub(crate) struct Table<'a> {
+pub struct Table<'a> {
     pub(crate) numbers: BTreeMap<(usize, &'a str), usize>,
 }
 
 impl<'a> Table<'a> {
     /// No numbers. It takes no memory.
-    pub(crate) fn new(alloc: Global) -> Table<'a>
+    pub fn new(alloc: Global) -> Table<'a>
         ensures { (block : ℕ) (word : List ℕ) → number_at result block word ≡ None }
     {
         Table {
@@ -23,12 +23,7 @@ impl<'a> Table<'a> {
     }
 
     /// With a number more, unless there is one for that word in that block.
-    pub(crate) fn with(
-        self,
-        block: usize,
-        word: &'a str,
-        number: usize,
-    ) -> Result<Table<'a>, Memory>
+    pub fn with(self, block: usize, word: &'a str, number: usize) -> Result<Table<'a>, Memory>
         ensures { IfOk result (KeepsOneMore self.entry block word.now number) }
     {
         let mut table = self;
@@ -41,7 +36,7 @@ impl<'a> Table<'a> {
     }
 
     /// The number of a word in a block.
-    pub(crate) fn get(&self, block: usize, word: &'a str) -> Option<usize>
+    pub fn get(&self, block: usize, word: &'a str) -> Option<usize>
         ensures { result ≡ number_at self.now block word.now }
     {
         self.numbers.get(&(block, word)).copied()

@@ -1,4 +1,4 @@
 mod Utf8
 mod Reading
-mod OneWay
+pub mod OneWay
 mod Ruling

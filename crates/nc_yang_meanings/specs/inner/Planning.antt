@@ -21,8 +21,8 @@ use Rattle.nc_yang_meanings.specs.declared.planned.Meanings.{Meanings}
 use Rattle.nc_yang_meanings.specs.declared.planned.Planned.{Planned}
 use Rattle.nc_yang_meanings.specs.declared.planned.Planned.TheVariants.{Bases, Finished, Leafref, Members}
 use Rattle.nc_yang_meanings.specs.inner.Footings.{AreDependents, AreStarts, IsFooting}
-use Rattle.nc_yang_meanings.specs.inner.Reaching.{IsReached}
-use Rattle.nc_yang_meanings.specs.declared.reach.Reach.{Reach}
+use Rattle.nc_yang_order.specs.Reaching.{IsReached}
+use Rattle.nc_yang_order.specs.declared.reach.Reach.{Reach}
 use Rattle.nc_yang_meanings.specs.Meanings.{DerivedFrom, Entry, Meaning, Means, OneOf, Refers}
 use Rattle.nc_yang_meanings.specs.Numbers.{OnNumber}
 use Rattle.nc_yang_meanings.specs.Places.{part_of, parts_of}

@@ -1,8 +1,7 @@
 -- Texts with their statements under numbers.
-use Rattle.std.specs.Prelude.{◌≡◌, ℕ, false, true, List, Option, Some, MatchOption, slice_get, option_map, option_and_then}
-use Rattle.std.proofs.Common.{Bor}
+use Rattle.std.specs.Prelude.{◌≡◌, ℕ, List, Option, Some, slice_get, option_map, option_and_then}
 use Rattle.nc_yang_words.specs.declared.statement.Statement.{Statement}
-use Rattle.nc_yang_scopes.specs.Scopes.{Located, found, found_in, has_colon, local_of, prefix_of, text_of_prefix}
+use Rattle.nc_yang_scopes.specs.Scopes.{Located, found, found_in, text_of_prefix}
 use Rattle.nc_yang_statements.specs.declared.keyword.Keyword.{Keyword}
 use Rattle.nc_yang_scopes.specs.declared.book.Book.{Book}
 use Rattle.nc_yang_scopes.specs.inner.Frames.{IsWhole}
@@ -28,9 +27,3 @@ near located keyword word number =
 abbrev pub across : List Statement → List Located → Keyword → List ℕ → List ℕ → ℕ → Option Located
 across texts located keyword prefix word number =
     option_and_then (λ l. option_and_then (found_in texts keyword word l.place) (text_of_prefix texts l.place.text prefix)) (slice_get located number)
-
--- the prefix and the name of a reference, or that it has no prefix
-abbrev pub SplitsReference : List ℕ → Option (Bor (List ℕ) × Bor (List ℕ)) → Type 0
-SplitsReference reference found =
-    MatchOption found (has_colon reference ≡ false)
-    (λ x. (has_colon reference ≡ true) × (x.0.now ≡ prefix_of reference) × (x.1.now ≡ local_of reference))

@@ -1,41 +1,20 @@
--- Statements under numbers: those of the texts, then those that stand directly in the first one, in the second, and so
--- on.
-use Rattle.std.specs.Prelude.{◌≡◌, ℕ, ◌+◌, ◌<◌, ◌≤◌, ◌==◌, ◌&&◌, Bool, true, false, if◌then◌else◌, List, [], ◌∷◌, ◌++◌, length, take, map, fold, Option, Some, None, slice_get, option_map, IfSome}
+-- Statements under numbers, as they are found, and tables of them by their words.
+use Rattle.std.specs.Prelude.{◌≡◌, ℕ, ◌+◌, ◌<◌, ◌≤◌, ◌==◌, ◌&&◌, Bool, true, false, if◌then◌else◌, List, ◌++◌, length, take, Option, Some, None, slice_get, option_map, IfSome}
 use Rattle.std.specs.List.{position_from}
-use Rattle.std.specs.Option.{option_map_or}
 use Rattle.nc_names.specs.Same.{is_same_text}
 use Rattle.nc_yang_words.specs.declared.statement.Statement.{Statement}
 use Rattle.nc_yang_statements.specs.declared.keyword.Keyword.{Keyword}
 use Rattle.nc_yang_statements.specs.declared.keyword.Keyword.TheVariants.{Import}
 use Rattle.nc_yang_statements.specs.Keywords.{is_same_keyword}
-use Rattle.nc_yang_statements.specs.Statements.{below, kind, name}
-use Rattle.nc_yang_scopes.specs.Scopes.{Located, has_prefix, inside}
+use Rattle.nc_yang_statements.specs.Statements.{kind, name}
+use Rattle.nc_yang_scopes.specs.Numbers.{Entry, opened, roots}
+use Rattle.nc_yang_scopes.specs.Scopes.{has_prefix}
 use Rattle.nc_yang_scopes.specs.declared.frames.Frame.{Frame}
 use Rattle.nc_yang_scopes.specs.declared.table.Table.{Table}
-use Rattle.nc_yang_scopes.specs.inner.Tables.{number_at}
-
--- a statement, the number of its text, and that of the statement in which it stands
-pub record Entry : Type 0 where
-  pub statement : Statement
-  pub text : ℕ
-  pub outer : Option ℕ
+use Rattle.nc_yang_scopes.specs.Tables.{number_at}
 
 abbrev pub entry_of : Frame → Entry
 entry_of frame = record { statement = frame.statement.now; text = frame.text; outer = frame.outer }
-
--- the statements of the texts, of which the first has this number
-abbrev pub roots : ℕ → List Statement → List Entry
-roots number [] = []
-roots number (s ∷ ss) = record { statement = s; text = number; outer = None } ∷ roots (number + 1) ss
-
--- what stands directly in the statement of a number
-abbrev pub children : ℕ → Entry → List Entry
-children number entry = map (λ s. record { statement = s; text = entry.text; outer = Some number }) (below entry.statement)
-
--- what stands directly in these statements, of which the first has this number
-abbrev pub opened : ℕ → List Entry → List Entry
-opened number [] = []
-opened number (entry ∷ entries) = children number entry ++ opened (number + 1) entries
 
 -- the number of the first statement in the one of a number
 abbrev pub first_in : List Statement → List Entry → ℕ → ℕ
@@ -61,20 +40,6 @@ pub record IsPart (texts : List Statement) (entries : List Entry) (firsts : List
 -- all statements of the texts
 abbrev pub IsWhole : List Statement → List Entry → List ℕ → Type 0
 IsWhole texts entries firsts = IsPart texts entries firsts (length entries)
-
--- the blocks round a statement that stands in the one of a number
-abbrev pub blocks_in : List Located → Option ℕ → List (List Statement)
-blocks_in before None = []
-blocks_in before (Some number) = option_map_or (λ l. (inside l).blocks) (slice_get before number) []
-
--- where a statement stands, by those of lower numbers
-abbrev pub located_after : List Located → Entry → List Located
-located_after before entry =
-    before ++ record { statement = entry.statement; place = record { text = entry.text; blocks = blocks_in before entry.outer } } ∷ []
-
--- where each statement stands
-abbrev pub located : List Entry → List Located
-located entries = fold located_after [] entries
 
 -- an import
 abbrev pub is_import : Keyword → Bool

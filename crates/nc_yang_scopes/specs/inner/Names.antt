@@ -7,8 +7,9 @@ use Rattle.nc_yang_statements.specs.declared.keyword.Keyword.TheVariants.{Featur
 use Rattle.nc_yang_statements.specs.Statements.{name}
 use Rattle.nc_yang_scopes.specs.declared.names.Names.{Names}
 use Rattle.nc_yang_scopes.specs.declared.table.Table.{Table}
-use Rattle.nc_yang_scopes.specs.inner.Frames.{Entry, IsTable}
-use Rattle.nc_yang_scopes.specs.inner.Tables.{number_at}
+use Rattle.nc_yang_scopes.specs.Numbers.{Entry}
+use Rattle.nc_yang_scopes.specs.inner.Frames.{IsTable}
+use Rattle.nc_yang_scopes.specs.Tables.{number_at}
 
 -- the table has the first text of each module's name
 abbrev pub IsModules : List Statement → Table → Type 0

@@ -1,7 +1,7 @@
 -- One more statement is opened.
 use Rattle.std.specs.Prelude.{◌≡◌, ℕ, [], ◌∷◌, ◌++◌, length}
 use Rattle.nc_yang_scopes.specs.declared.numbering.Numbering.{Numbering}
-use Rattle.nc_yang_scopes.specs.inner.Frames.{Entry, children}
+use Rattle.nc_yang_scopes.specs.Numbers.{Entry, children}
 
 -- what stands directly in the next statement has numbers too
 abbrev pub Opens : Numbering → ℕ → Entry → Numbering → Type 0

@@ -2,7 +2,7 @@ use Rattle.std.proofs.Common.{◌≡◌, ℕ, List, take, drop}
 use Rattle.std.specs.Prelude.{is_some, []}
 use Rattle.std.specs.List.{list_any}
 use Rattle.nc_yang_scopes.specs.Modules.{has_title, seconds}
-use Rattle.nc_yang_scopes.specs.inner.Tables.{number_at}
+use Rattle.nc_yang_scopes.specs.Tables.{number_at}
 use Rattle.nc_yang_scopes.proofs.modules.second.Given as goal
 
 abbrev pub invariant-loop-text : goal.invariant-loop-text

@@ -3,7 +3,7 @@ use Rattle.std.specs.Prelude.{is_some, []}
 use Rattle.std.specs.List.{list_any}
 use Rattle.nc_yang_statements.specs.Statements.{kind, below}
 use Rattle.nc_yang_scopes.specs.Spaces.{has_name, taken}
-use Rattle.nc_yang_scopes.specs.inner.Tables.{number_at}
+use Rattle.nc_yang_scopes.specs.Tables.{number_at}
 use Rattle.nc_yang_scopes.proofs.space.taken.Given as goal
 
 abbrev pub invariant-loop-place : goal.invariant-loop-place

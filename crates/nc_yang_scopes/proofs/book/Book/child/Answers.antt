@@ -1,5 +1,5 @@
 use Rattle.std.proofs.Common.{◌∙◌, slice_get, ap, sym}
-use Rattle.nc_yang_scopes.specs.inner.Frames.{located}
+use Rattle.nc_yang_scopes.specs.Numbers.{located}
 use Rattle.nc_yang_scopes.proofs.BookLemmas.{child_is, child_within, no_first}
 use Rattle.nc_yang_scopes.proofs.book.Book.child.Goals as goal
 

@@ -1,7 +1,7 @@
 use Rattle.std.proofs.Common.{◌∙◌, refl}
 use Rattle.std.specs.Prelude.{None}
 use Rattle.nc_yang_statements.specs.declared.keyword.Keyword.TheVariants.{Revision}
-use Rattle.nc_yang_scopes.specs.inner.Frames.{located}
+use Rattle.nc_yang_scopes.specs.Numbers.{located}
 use Rattle.nc_yang_scopes.proofs.BookLemmas.{revision_is, top_is, top_past}
 use Rattle.nc_yang_scopes.proofs.book.Book.has_revision.Goals as goal
 

@@ -1,6 +1,6 @@
 use Rattle.std.proofs.Common.{◌≡◌}
 use Rattle.nc_yang_scopes.specs.inner.Books.{near}
-use Rattle.nc_yang_scopes.specs.inner.Frames.{located}
+use Rattle.nc_yang_scopes.specs.Numbers.{located}
 use Rattle.nc_yang_scopes.proofs.book.Book.nearest.Given as goal
 
 abbrev pub invariant-loop-block : goal.invariant-loop-block

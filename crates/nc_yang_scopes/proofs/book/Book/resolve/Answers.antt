@@ -1,4 +1,4 @@
-use Rattle.nc_yang_scopes.specs.inner.Frames.{located}
+use Rattle.nc_yang_scopes.specs.Numbers.{located}
 use Rattle.nc_yang_scopes.proofs.BookLemmas.{resolved_across, resolved_plain}
 use Rattle.nc_yang_scopes.proofs.book.Book.resolve.Goals as goal
 

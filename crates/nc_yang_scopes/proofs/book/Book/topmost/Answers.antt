@@ -1,5 +1,5 @@
 use Rattle.std.proofs.Common.{◌∙◌}
-use Rattle.nc_yang_scopes.specs.inner.Frames.{located}
+use Rattle.nc_yang_scopes.specs.Numbers.{located}
 use Rattle.nc_yang_scopes.proofs.BookLemmas.{plain_of, top_is, top_past}
 use Rattle.nc_yang_scopes.proofs.book.Book.topmost.Goals as goal
 

@@ -1,5 +1,5 @@
 use Rattle.std.proofs.Common.{◌≡◌, ◌++◌, drop}
-use Rattle.nc_yang_scopes.specs.inner.Frames.{roots}
+use Rattle.nc_yang_scopes.specs.Numbers.{roots}
 use Rattle.nc_yang_scopes.proofs.frames.Frames.roots.Given as goal
 
 abbrev pub invariant-loop-text : goal.invariant-loop-text

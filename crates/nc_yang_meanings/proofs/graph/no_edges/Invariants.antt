@@ -1,6 +1,0 @@
-use Rattle.std.proofs.Common.{◌≡◌, []}
-use Rattle.std.specs.Prelude.{replicate}
-use Rattle.nc_yang_meanings.proofs.graph.no_edges.Given as goal
-
-abbrev pub invariant-loop-number : goal.invariant-loop-number
-invariant-loop-number l = l.graph ≡ replicate l.number []

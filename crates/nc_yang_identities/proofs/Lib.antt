@@ -1,0 +1,5 @@
+pub mod NumberLemmas
+pub mod PlaceLemmas
+pub mod EdgeLemmas
+pub mod DerivedLemmas
+pub mod PickLemmas

@@ -1,0 +1,4 @@
+pub mod Identities
+pub mod Picks
+pub mod Values
+pub mod inner

@@ -1,0 +1,14 @@
+mod WordLemmas
+mod LeafLemmas
+mod SeenLemmas
+mod PlaceLemmas
+mod DraftLemmas
+mod TextLemmas
+mod DefaultLemmas
+mod NodeLemmas
+mod Kept
+mod KeptKeys
+mod KeptUniques
+mod KeptNames
+mod KeptCases
+pub mod Lawful

@@ -1,0 +1,10 @@
+pub mod Modules
+pub mod Drafts
+pub mod Leafs
+pub mod Lists
+pub mod Places
+pub mod Defaults
+pub mod Data
+pub mod Faults
+pub mod Laws
+pub mod inner

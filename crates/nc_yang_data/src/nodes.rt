@@ -1,0 +1,51 @@
+//! The leafs that the statements of data nodes name, and the rules on them, by numbers.
+ghost use Rattle.std.specs.Prelude.{◌≡◌, Some, None, List, map, MatchResult};
+ghost use Rattle.nc_yang_statements.specs.Rules as rules;
+ghost use Rattle.nc_yang_statements.specs.declared.fault.Fault.{Fault};
+ghost use Rattle.nc_yang_data.specs.Faults.{OnFault};
+ghost use Rattle.nc_yang_data.specs.inner.Stops.{OnBroken};
+ghost use Rattle.nc_yang_data.specs.Places as places;
+
+use crate::place::{Leafs, node_leafs};
+use crate::stop::{DataFault, DataStop};
+use nc_names::Many;
+use nc_schema::Schema;
+use nc_yang_scopes::{Scopes, TextFault};
+use std::alloc::Global;
+
+// A fault in a text.
+#[tactic(auto, using(crate::proofs::PlaceLemmas::first_in_text))]
+fn in_text(text: usize, stop: DataStop) -> DataFault
+    ensures { (faults : List Fault) → OnBroken (λ fault. Some fault ≡ rules.first faults) stop →
+        OnFault (λ found. Some found ≡ rules.first (map (places.in_text text) faults)) result }
+{
+    match stop {
+        DataStop::Broken(fault) => DataFault::Broken(TextFault { text, fault }),
+        DataStop::Memory => DataFault::Memory,
+    }
+}
+
+/// The leafs of the data node of a number by the statement of a number, or the first rule that it breaks.
+pub(crate) fn leafs_at<'a>(
+    alloc: Global,
+    scopes: &Scopes<'a>,
+    schema: &Schema,
+    number: u32,
+    at: usize,
+) -> Result<Leafs, DataFault>
+    ensures { MatchResult result
+        (λ it. (it ≡ places.leafs_at scopes.now schema.now number at)
+        × (rules.first (places.faults_at scopes.now schema.now number at) ≡ None))
+        (OnFault (λ found. Some found ≡ rules.first (places.faults_at scopes.now schema.now number at))) }
+{
+    let (Some(text), Some(statement)) = (scopes.text(at), scopes.statement(at)) else {
+        return Ok(Leafs {
+            keys: Many::new(alloc),
+            uniques: Many::new(alloc),
+        });
+    };
+    match node_leafs(alloc, scopes, schema, text, number, statement) {
+        Ok(leafs) => Ok(leafs),
+        Err(stop) => Err(in_text(text, stop)),
+    }
+}

@@ -1,0 +1,132 @@
+-- What the entries are of, when all are made.
+use Rattle.std.proofs.Common.{inl, inr, ◌≡◌, ◌≢◌, ◌<◌, ◌≤◌, ◌+◌, ◌==◌, ℕ, zero, suc, Bool, true, false, not, cond, List, [], ◌∷◌, ◌++◌, length, map, refl, sym, ap, ◌∙◌, subst, arith}
+use Rattle.std.specs.Prelude.{Option, Some, None, slice_get, option_and_then, Contains, IsTrue, IsFalse}
+use Rattle.std.specs.List.{list_all}
+use Rattle.std.proofs.lemmas.Bool.{cases_eq}
+use Rattle.std.proofs.lemmas.Option.{slice_get_within, slice_get-get_or}
+use Rattle.nc_names.specs.declared.name.QName.{QName}
+use Rattle.nc_schema.specs.declared.value_type.ValueType.{ValueType}
+use Rattle.nc_schema.specs.declared.value_type.ValueType.TheVariants.{Union as UnionType, Identity as IdentityType}
+use Rattle.nc_schema.specs.declared.value_type.ValueType.TheVariants.{Leafref as LeafrefType}
+use Rattle.nc_yang_order.proofs.Lists.{contains_at, contains_none, get_none}
+use Rattle.nc_yang_scopes.proofs.Lists.{get_left}
+use Rattle.nc_yang_scopes.specs.Scopes.{Located, Scoping}
+use Rattle.nc_yang_meanings.specs.declared.planned.Meanings.{Meanings}
+use Rattle.nc_yang_meanings.specs.declared.planned.Planned.{Planned}
+use Rattle.nc_yang_meanings.specs.declared.planned.Planned.TheVariants.{Bases, Finished, Leafref, Members}
+use Rattle.nc_yang_meanings.specs.Meanings.{DerivedFrom, Entry, Meaning, Means, OneOf, Refers}
+use Rattle.nc_yang_meanings.specs.Plans.{AreMeanings, HasPlan, IsPlan}
+use Rattle.nc_yang_meanings.specs.Wholes.{MeansWhole, members_of, whole}
+use Rattle.nc_yang_meanings.proofs.MeaningLemmas.{means_one}
+use Rattle.nc_yang_leafs.specs.declared.table.Slot.{Slot}
+use Rattle.nc_yang_leafs.specs.declared.table.Table.{Table}
+use Rattle.nc_yang_leafs.specs.Bases.{leads}
+use Rattle.nc_yang_leafs.specs.Typings.{HasTypes, IsEntry, none, numbers_of, one_more}
+use Rattle.nc_yang_leafs.specs.inner.Marks.{AreMarks, is_marked, is_plain, is_unmarked_at, plan_at}
+use Rattle.nc_yang_leafs.specs.inner.Tables.{Fits, IsReady, IsRight, IsSettled, Work, number_at, number_in, number_of, slot_at}
+use Rattle.nc_yang_leafs.proofs.StepLemmas.{has_plan_at}
+
+module _ (means : Located → Meaning → Type 0) (is : Meaning → ValueType → Type 0) where
+  -- types that are added change none that were there
+  pub types_kept : (types more : List ValueType) (ls : List Located) (numbers : List ℕ) → HasTypes means is types ls numbers → HasTypes means is (types ++ more) ls numbers
+  types_kept types more _ _ none = none
+  types_kept types more _ _ (one_more l ls number numbers m entry a at b members rest) =
+      one_more l ls number numbers m entry a (get_left types more number (slice_get_within types number entry at) ∙ at) b
+      (types_kept types more (members_of m) (numbers_of m entry) members) (types_kept types more ls numbers rest)
+
+  -- a number is of what one means
+  pub record IsOne (types : List ValueType) (l : Located) (number : ℕ) : Type 0 where
+    pub m : Meaning
+    pub entry : ValueType
+    pub means_it : means l m
+    pub at : slice_get types number ≡ Some entry
+    pub is_it : is m entry
+    pub members : HasTypes means is types (members_of m) (numbers_of m entry)
+
+  pub one_and : (types : List ValueType) (l : Located) (ls : List Located) (number : ℕ) (numbers : List ℕ) → IsOne types l number → HasTypes means is types ls numbers → HasTypes means is types (l ∷ ls) (number ∷ numbers)
+  one_and types l ls number numbers one rest = one_more l ls number numbers one.m one.entry one.means_it one.at one.is_it one.members rest
+
+module _ (derived : List Located → List QName → Type 0) (on : ℕ → List ℕ → Bool) (w : Work) (are : AreMeanings on w.scoping w.meanings) (table : Table) (settled : IsSettled derived w table) where
+  abbrev pub One : Located → ℕ → Type 0
+  One l number = IsOne (Means on w.scoping.texts) (IsEntry derived (leads w.scoping w.given w.node)) table.types l number
+
+  abbrev pub Typed : List Located → List ℕ → Type 0
+  Typed ls numbers = HasTypes (Means on w.scoping.texts) (IsEntry derived (leads w.scoping w.given w.node)) table.types ls numbers
+
+  abbrev pub Closes : Located → Type 0
+  Closes l = (m plan number : ℕ) → slice_get w.scoping.located m ≡ Some l → plan_at w.meanings.findings m ≡ Some plan → number_of w.marks table.known w.node plan ≡ Some number → One l number
+
+  all_close : (numbers : List ℕ) (ls : List Located) (types : List ℕ) → map (slice_get w.scoping.located) numbers ≡ map Some ls → map (number_at w table.known) numbers ≡ map Some types →
+      ((l : Located) → Contains ls l → Closes l) → Typed ls types
+  all_close [] [] [] a b close = none
+  all_close [] [] (t ∷ types) a b close = absurd (cc)
+  all_close [] (l ∷ ls) types a b close = absurd (cc)
+  all_close (n ∷ numbers) [] types a b close = absurd (cc)
+  all_close (n ∷ numbers) (l ∷ ls) [] a b close = absurd (cc)
+  all_close (n ∷ numbers) (l ∷ ls) (t ∷ types) a b close =
+      one_and (Means on w.scoping.texts) (IsEntry derived (leads w.scoping w.given w.node)) table.types l ls t types (by (plan_at w.meanings.findings n) refl (cc))
+      (all_close numbers ls types (cc) (cc) (λ other c. close other (later other c)))
+    where
+      here : slice_get w.scoping.located n ≡ Some l
+      here = cc
+
+      later : (other : Located) → Contains ls other → Contains (l ∷ ls) other
+      later other c = contains_at (l ∷ ls) (suc c.0) other (slice_get-get_or ls c.0 other c.1 ∙ ap Some c.2)
+
+      by : (o : Option ℕ) → plan_at w.meanings.findings n ≡ o → option_and_then (number_of w.marks table.known w.node) o ≡ Some t → One l t
+      by None e f = absurd (cc)
+      by (Some plan) e f = close l (contains_at (l ∷ ls) 0 l refl) n plan t here e f
+
+  close_one : (l : Located) (m : Meaning) → Means on w.scoping.texts l m → ((member : Located) → Contains (members_of m) member → Closes member) → Closes l
+  close_one l m means members number plan given here at known =
+      by h.plan m (subst (IsPlan w.scoping.located h.plan) (means_one on w.scoping.texts l h.meaning m h.means means) h.is) means members
+      (settled.right.fits plan given entry.0 h.plan known entry.1 h.there)
+    where
+      h : HasPlan on w.scoping w.meanings.plans l plan
+      h = has_plan_at on w.scoping w.meanings are number l plan here at
+
+      entry : (e : ValueType) × (slice_get table.types given ≡ Some e)
+      entry = find (slice_get table.types given) refl
+        where
+          find : (o : Option ValueType) → slice_get table.types given ≡ o → (e : ValueType) × (slice_get table.types given ≡ Some e)
+          find (Some e) f = (e, f)
+          find None f = absurd (
+              let less = slice_get_within table.plans given plan (settled.right.numbered plan given known) in
+              let past = get_none table.types given f in
+              let made = settled.made in omega (arith, less, past, made))
+
+      by : (planned : Planned) (m : Meaning) → IsPlan w.scoping.located planned m → Means on w.scoping.texts l m → ((member : Located) → Contains (members_of m) member → Closes member) →
+          Fits derived w table.known planned entry.0 → One l given
+      by (Finished one) (Entry t) is means members fits = record { m = Entry t; entry = entry.0; means_it = means; at = entry.1; is_it = sym is ∙ sym fits; members = none }
+      by (Members numbers) (OneOf ls) is means members fits = record {
+        m = OneOf ls;
+        entry = UnionType fits.0;
+        means_it = means;
+        at = entry.1 ∙ ap Some fits.1;
+        is_it = tt;
+        members = all_close numbers ls fits.0 is fits.2 members;
+      }
+      by (Bases bases) (DerivedFrom ls) is means members fits = record { m = DerivedFrom ls; entry = IdentityType fits.0; means_it = means; at = entry.1 ∙ ap Some fits.1; is_it = fits.2 ls is; members = none }
+      by (Leafref path need) (Refers l other) is means members fits = record {
+        m = Refers l other;
+        entry = LeafrefType fits.end.target fits.end.above need;
+        means_it = means;
+        at = entry.1 ∙ ap Some fits.is;
+        is_it = (fits.leads l is.0, is.1);
+        members = none;
+      }
+      by (Finished one) (OneOf ls) is means members fits = absurd is
+      by (Finished one) (DerivedFrom ls) is means members fits = absurd is
+      by (Finished one) (Refers l other) is means members fits = absurd is
+      by (Members numbers) (Entry t) is means members fits = absurd is
+      by (Members numbers) (DerivedFrom ls) is means members fits = absurd is
+      by (Members numbers) (Refers l other) is means members fits = absurd is
+      by (Bases bases) (Entry t) is means members fits = absurd is
+      by (Bases bases) (OneOf ls) is means members fits = absurd is
+      by (Bases bases) (Refers l other) is means members fits = absurd is
+      by (Leafref path need) (Entry t) is means members fits = absurd is
+      by (Leafref path need) (OneOf ls) is means members fits = absurd is
+      by (Leafref path need) (DerivedFrom ls) is means members fits = absurd is
+
+  pub closes : (l : Located) → MeansWhole on w.scoping.texts l → Closes l
+  closes _ (whole l m means rest) = close_one l m means (λ member c. closes member (rest member c))

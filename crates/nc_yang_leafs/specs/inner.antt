@@ -1,0 +1,5 @@
+pub mod Marks
+pub mod Tables
+pub mod Sites
+pub mod Nodes
+pub mod Assembly

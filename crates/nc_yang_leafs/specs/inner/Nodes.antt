@@ -1,0 +1,71 @@
+-- The type of one data node, and of several.
+use Rattle.std.specs.Prelude.{◌≡◌, ℕ, Bool, List, [], ◌∷◌, length, replicate, Some, None, IsTrue, slice_get}
+use Rattle.nc_names.specs.declared.name.QName.{QName}
+use Rattle.nc_schema.specs.declared.node.Kind.{Kind}
+use Rattle.nc_schema.specs.declared.node.Node.{Node}
+use Rattle.nc_schema.specs.declared.value_type.ValueType.{ValueType}
+use Rattle.nc_schema.specs.Kinds.{has_value}
+use Rattle.nc_yang_scopes.specs.declared.naming.TextFault.{TextFault}
+use Rattle.nc_yang_scopes.specs.Scopes.{Located, Scoping}
+use Rattle.nc_yang_nodes.specs.declared.planned.Plan.{Plan}
+use Rattle.nc_yang_meanings.specs.declared.planned.Meanings.{Meanings}
+use Rattle.nc_yang_meanings.specs.Meanings.{Means}
+use Rattle.nc_yang_meanings.specs.Plans.{AreMeanings}
+use Rattle.nc_yang_meanings.specs.Wholes.{MeansWhole}
+use Rattle.nc_yang_leafs.specs.declared.table.Table.{Table}
+use Rattle.nc_yang_leafs.specs.declared.site.Site.{Site}
+use Rattle.nc_yang_leafs.specs.Bases.{AllMeanWhole, Basis, leads, type_of}
+use Rattle.nc_yang_leafs.specs.Typings.{HasItsType, HasTypes, IsEntry}
+use Rattle.nc_yang_leafs.specs.inner.Marks.{AreMarks}
+use Rattle.nc_yang_leafs.specs.inner.Sites.{work}
+use Rattle.nc_yang_leafs.specs.inner.Tables.{AddsTypes, IsReady, IsSettled, LosesPath, Work}
+
+abbrev pub basis_of : (on : ℕ → List ℕ → Bool) → Site → Plan → Basis
+basis_of on site plan = record { on = on; scoping = site.scopes.now; plan = plan; given = site.schema.now }
+
+-- the type of a `type` statement got a number, and entries
+pub record GivesNumber (derived : List Located → List QName → Type 0) (on : ℕ → List ℕ → Bool) (w : Work) (top : Located) (old new : Table) (number : ℕ) : Type 0 where
+  pub adds : AddsTypes old new
+  pub settled : IsSettled derived w new
+  pub means : MeansWhole on w.scoping.texts top →
+      HasTypes (Means on w.scoping.texts) (IsEntry derived (leads w.scoping w.given w.node)) new.types (top ∷ []) (number ∷ [])
+
+-- a data node may be given a type
+pub record MayGive (derived : List Located → List QName → Type 0) (b : Basis) (w : Work) (kind : Kind) (table : Table) : Type 0 where
+  pub are : AreMeanings b.on w.scoping w.meanings
+  pub ready : IsReady derived w table
+  pub whole : IsTrue (has_value kind) → (l : Located) × (type_of b.scoping b.plan w.node ≡ Some l) × MeansWhole b.on b.scoping.texts l
+
+-- it was given one
+pub record Gives (derived : List Located → List QName → Type 0) (b : Basis) (w : Work) (kind : Kind) (old new : Table) (kind_of_value : ℕ) : Type 0 where
+  pub adds : AddsTypes old new
+  pub settled : IsSettled derived w new
+  pub has : HasItsType derived b new.types w.node kind kind_of_value
+
+-- the path of a leafref in its type leads nowhere
+pub record BreaksAt (b : Basis) (w : Work) (kind : Kind) (fault : TextFault) : Type 0 where
+  pub valued : IsTrue (has_value kind)
+  pub of_type : Located
+  pub is : type_of b.scoping b.plan w.node ≡ Some of_type
+  pub loses : LosesPath b.on w of_type fault
+
+-- no plan has a number
+abbrev pub blank : ℕ → Table
+blank count = record { known = replicate count None; plans = []; types = [] }
+
+-- the first so many data nodes have those types
+pub record HaveKinds (derived : List Located → List QName → Type 0) (b : Basis) (types : List ValueType) (count : ℕ) (kinds : List ℕ) : Type 0 where
+  pub counted : length kinds ≡ count
+  pub each : (number kind : ℕ) (node : Node) → slice_get kinds number ≡ Some kind → slice_get b.given.nodes number ≡ Some node →
+      HasItsType derived b types number node.kind kind
+
+-- what is known of the schema and of what its types mean
+pub record IsKnown (b : Basis) (meanings : Meanings) (marks : List Bool) : Type 0 where
+  pub are : AreMeanings b.on b.scoping meanings
+  pub marked : AreMarks meanings marks
+  pub whole : AllMeanWhole b
+
+-- as far as one has come
+pub record AreGiven (derived : List Located → List QName → Type 0) (b : Basis) (site : Site) (table : Table) (kinds : List ℕ) (count : ℕ) : Type 0 where
+  pub ready : IsReady derived (work site count) table
+  pub have : HaveKinds derived b table.types count kinds

@@ -1,0 +1,24 @@
+//! The identities that are derived from others.
+
+use nc_names::{Many, Memory, QName};
+use std::alloc::Global;
+
+/// Knows which identities are derived from those that `base` statements name (RFC 7950 9.10.2).
+pub trait Derives {
+    ghost use Rattle.std.specs.Prelude.{ℕ, List, IfOk};
+    ghost use Rattle.nc_names.specs.declared.name.QName.{QName};
+    ghost use Rattle.nc_yang_scopes.specs.Scopes.{Located};
+    ghost use Rattle.nc_yang_scopes.specs.Numbers.{AreNumbers};
+
+    /// The statements, by their numbers.
+    ghost located: { Self → List Located };
+
+    /// Those are the names of the identities that are derived from each which these `base` statements name.
+    ghost derived: { Self → List Located → List QName → Type 0 };
+
+    /// The names of the identities that are derived from each which the `base` statements of these numbers
+    /// name.
+    fn names(&self, alloc: Global, bases: &[usize]) -> Result<Many<QName>, Memory>
+        ensures { IfOk result (λ it. (ls : List Located) → AreNumbers (located self.now) bases.now ls
+            → derived self.now ls it) };
+}

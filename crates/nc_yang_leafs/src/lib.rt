@@ -1,0 +1,26 @@
+//! The types of the leafs and leaf-lists that YANG modules define (RFC 7950 7.6.3, 7.7.3, 9).
+//!
+//! It stands on the data nodes of nc_yang_nodes, on what their `type` statements mean by nc_yang_meanings, and on
+//! nc_paths for the paths of leafrefs. A type is known by the number of its plan.
+//!
+//! `typed` gives a schema its table of types and each leaf and leaf-list the number of its own, or a leafref whose
+//! path leads to no leaf or leaf-list. Types without a leafref in them are shared by all that use them; one with a
+//! leafref is made for each data node, since its path starts there. Each entry of the table is made once, and no
+//! call recurses along the members of unions.
+#![tactic(auto)]
+
+mod copies;
+mod derives;
+mod entry;
+mod fill;
+mod kinds;
+mod marks;
+mod node;
+mod site;
+mod stop;
+mod table;
+mod typing;
+
+pub use derives::Derives;
+pub use stop::LeafFault;
+pub use typing::typed;

@@ -1,0 +1,129 @@
+//! A schema with the types of its leafs and leaf-lists.
+ghost use Rattle.std.specs.Prelude.{◌≡◌, ◌++◌, ℕ, Bool, List, [], length, IfOk, IfErr, OnOk, MatchResult};
+ghost use Rattle.nc_yang_meanings.specs.Plans.{AreMeanings};
+ghost use Rattle.nc_yang_nodes.specs.FeaturesOn.{is_on};
+ghost use Rattle.nc_yang_leafs.specs.Bases as bases;
+ghost use Rattle.nc_yang_leafs.specs.Conditions.{holds};
+ghost use Rattle.nc_yang_leafs.specs.Faults.{BreaksLeafref, OnBroken};
+ghost use Rattle.nc_yang_leafs.specs.Typings.{IsTyped};
+ghost use Rattle.nc_yang_leafs.specs.inner.Assembly as assembly;
+ghost use Rattle.nc_yang_leafs.specs.inner.Nodes.{HaveKinds};
+
+use crate::copies::with_kind;
+use crate::derives::Derives;
+use crate::kinds::{Found, all_types};
+use crate::marks::marks_of;
+use crate::site::Site;
+use crate::stop::LeafFault;
+use nc_names::{Bound, Many, Memory};
+use nc_schema::{Schema, ValueType};
+use nc_yang_meanings::Meanings;
+use nc_yang_nodes::{Features, Plan};
+use nc_yang_scopes::Scopes;
+use std::alloc::Global;
+
+// With types.
+fn with_types(schema: Schema, types: Many<ValueType>) -> Result<Schema, Memory>
+    ensures { IfOk result (λ it. it ≡ record schema { types = schema.types ++ types }) }
+{
+    let mut schema = schema;
+    for one in types.into_vec() {
+        if schema.types().len() >= u32::MAX as usize {
+            return Err(Memory);
+        }
+        schema.add_type(one)?;
+    }
+    Ok(schema)
+}
+
+// With the number of a type for a data node.
+fn set_kind(alloc: Global, schema: &mut Schema, number: u32, kind: u32) -> Result<(), Memory>
+    ensures { OnOk result (schema.new ≡ assembly.with_kind schema.old number kind) }
+{
+    if number >= schema.nodes() {
+        return Err(Memory);
+    }
+    let Some(node) = schema.node(number) else {
+        return Err(Memory);
+    };
+    let node = with_kind(alloc, node, kind)?;
+    schema.set_node(number, node);
+    Ok(())
+}
+
+// With the numbers of the types of the data nodes.
+fn with_kinds(alloc: Global, schema: Schema, kinds: &[u32]) -> Result<Schema, Memory>
+    ensures { IfOk result (assembly.HasKinds schema kinds.now) }
+{
+    let mut schema = schema;
+    for (number, kind) in kinds.iter().enumerate() {
+        let Ok(place) = u32::try_from(number) else {
+            return Err(Memory);
+        };
+        set_kind(alloc, &mut schema, place, *kind)?;
+    }
+    Ok(schema)
+}
+
+// A table of types, and for each data node the number of its type.
+fn types_of<D: Derives>(
+    alloc: Global,
+    scopes: &Scopes,
+    plan: &Plan,
+    meanings: &Meanings,
+    prefixes: &[Many<Bound>],
+    identities: &D,
+    schema: &Schema,
+) -> Result<Found, LeafFault>
+    requires prefixes { bases.ArePrefixes scopes.now.texts prefixes.now }
+    requires located { D.located identities.now ≡ scopes.now.located }
+    ensures ok { IfOk result (λ it. (on : ℕ → List ℕ → Bool) → AreMeanings on scopes.now meanings.now
+        → bases.AllMeanWhole (assembly.basis_on on scopes.now plan.now schema.now)
+        → HaveKinds (D.derived identities.now) (assembly.basis_on on scopes.now plan.now schema.now) it.types
+        (length schema.now.nodes) it.kinds) }
+    ensures fault { IfErr result (λ stop. OnBroken stop (λ fault. (on : ℕ → List ℕ → Bool)
+        → AreMeanings on scopes.now meanings.now
+        → bases.AllMeanWhole (assembly.basis_on on scopes.now plan.now schema.now)
+        → BreaksLeafref (assembly.basis_on on scopes.now plan.now schema.now) fault)) }
+{
+    let marks = marks_of(alloc, meanings)?;
+    let site = Site {
+        scopes,
+        meanings,
+        marks: marks.as_slice(),
+        prefixes,
+        schema,
+    };
+    all_types(alloc, &site, identities, plan)
+}
+
+/// The schema that modules define with the types of its leafs and leaf-lists (RFC 7950 7.6.3, 7.7.3): the data nodes
+/// are those of the plan, by their numbers, and have no types yet. Types without a leafref in them have one entry for
+/// all data nodes; one with a leafref has an entry for each data node that uses it, since its path starts there
+/// (RFC 7950 9.9.2). It is a fault where such a path leads to no leaf or leaf-list. Time and memory grow with the
+/// data nodes and the entries of the table. More than 2^32 - 2 entries are answered as want of memory.
+pub fn typed<'a, D: Derives>(
+    alloc: Global,
+    scopes: &Scopes<'a>,
+    features: &Features<'a>,
+    plan: &Plan,
+    meanings: &Meanings,
+    prefixes: &[Many<Bound>],
+    identities: &D,
+    schema: Schema,
+) -> Result<Schema, LeafFault>
+    requires meanings { AreMeanings (holds scopes.now.texts (is_on features.now)) scopes.now meanings.now }
+    requires whole { bases.AllMeanWhole (bases.basis features.now scopes.now plan.now schema) }
+    requires prefixes { bases.ArePrefixes scopes.now.texts prefixes.now }
+    requires located { D.located identities.now ≡ scopes.now.located }
+    requires blank { schema.types ≡ [] }
+    ensures { MatchResult result
+        (IsTyped (D.derived identities.now) (bases.basis features.now scopes.now plan.now schema))
+        (λ stop. OnBroken stop (BreaksLeafref (bases.basis features.now scopes.now plan.now schema))) }
+{
+    let Found { types, kinds } = types_of(
+        alloc, scopes, plan, meanings, prefixes, identities, &schema,
+    )?;
+    let schema = with_types(schema, types)?;
+    Ok(with_kinds(alloc, schema, kinds.as_slice())?)
+}

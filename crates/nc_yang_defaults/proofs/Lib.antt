@@ -1,0 +1,9 @@
+pub mod ValueLemmas
+pub mod ListLemmas
+pub mod ReadLemmas
+pub mod SourceLemmas
+pub mod NodeLemmas
+pub mod PutLemmas
+pub mod LawLemmas
+pub mod BareLemmas
+pub mod OutcomeLemmas

@@ -1,0 +1,10 @@
+use Rattle.std.proofs.Common.{◌≡◌, length}
+use Rattle.nc_yang_defaults.specs.Typed.{ArePrefixes, IsTyped}
+use Rattle.nc_yang_defaults.specs.inner.Reading.{AreFound}
+use Rattle.nc_yang_defaults.proofs.all.all_defaults.Given as goal
+
+abbrev pub invariant-loop-number : goal.invariant-loop-number
+invariant-loop-number l = record {
+  found : ArePrefixes l.scopes.texts l.prefixes → IsTyped l.scopes l.plan l.schema → AreFound l.scopes l.plan l.schema l.number l.found;
+  counted : length l.found ≡ l.number;
+}

@@ -1,0 +1,10 @@
+pub mod FeatureLemmas
+pub mod UnknownLemmas
+pub mod Trees
+pub mod Lists
+pub mod Looked
+pub mod Endings
+pub mod Meaning
+pub mod Planned
+pub mod DataTypes
+pub mod Modules

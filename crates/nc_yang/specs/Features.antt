@@ -1,0 +1,33 @@
+-- The features of modules, as lines name them: each line is `module:feature` (RFC 7950 7.20.1).
+use Rattle.std.specs.Prelude.{◌≡◌, ℕ, ◌&&◌, not, Bool, true, false, List, [], ◌∷◌, is_some, slice_get, take, IsSomeAnd}
+use Rattle.std.specs.List.{All}
+use Rattle.std.specs.Option.{option_map_or}
+use Rattle.nc_yang_words.specs.declared.statement.Statement.{Statement}
+use Rattle.nc_yang_statements.specs.declared.keyword.Keyword.TheVariants.{Feature}
+use Rattle.nc_yang_scopes.specs.Scopes.{found, has_colon, local_of, prefix_of, text_of, top}
+use Rattle.nc_yang_texts.specs.Texts.{AreRead}
+use Rattle.nc_yang_texts.specs.declared.text.ModuleText.{ModuleText}
+
+-- the module of a text defines that feature; a name has no colon
+abbrev pub has_feature : List Statement → List ℕ → ℕ → Bool
+has_feature texts feature text = not (has_colon feature) && is_some (found Feature feature text (top texts text ∷ []))
+
+-- a line names a feature of one of the modules
+abbrev pub is_feature : List Statement → List ℕ → Bool
+is_feature texts line = has_colon line && option_map_or (has_feature texts (local_of line)) (text_of texts (prefix_of line)) false
+
+-- the first of these lines that names no feature of one of these modules
+pub record IsFirstOther (texts : List Statement) (lines : List (List ℕ)) (place : ℕ) : Type 0 where
+  pub before : All (λ line. is_feature texts line ≡ true) (take place lines)
+  pub other : IsSomeAnd (slice_get lines place) (λ line. is_feature texts line ≡ false)
+
+-- a line names a feature of the modules
+pub record NamesFeature (modules : List ModuleText) (line : List ℕ) : Type 0 where
+  pub roots : List Statement
+  pub read : AreRead modules roots
+  pub names : is_feature roots line ≡ true
+
+-- the first of these lines that names no feature of the modules
+pub record IsFirstUnknown (modules : List ModuleText) (lines : List (List ℕ)) (place : ℕ) : Type 0 where
+  pub before : All (NamesFeature modules) (take place lines)
+  pub unknown : IsSomeAnd (slice_get lines place) (λ line. NamesFeature modules line → ⊥)

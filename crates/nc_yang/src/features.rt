@@ -1,0 +1,78 @@
+//! The features that lines name.
+ghost use Rattle.std.specs.Prelude.{◌≡◌, true, IfOk, MatchOption};
+ghost use Rattle.std.specs.List.{All};
+ghost use Rattle.nc_yang.specs.Features as words;
+
+use nc_names::{Memory, Text};
+use nc_yang_scopes::{Scopes, split_reference};
+use nc_yang_statements::Keyword;
+use nc_yang_texts::{CompileFault, ModuleText, read_texts};
+use std::alloc::Global;
+
+// Whether the module of a text defines a feature.
+fn has_feature<'a>(scopes: &Scopes<'a>, feature: &'a str, text: usize) -> bool
+    ensures { result ≡ words.has_feature scopes.now.texts feature.now text }
+{
+    if split_reference(feature).is_some() {
+        return false;
+    }
+    let Some(root) = scopes.root(text) else {
+        return false;
+    };
+    let Some(statement) = scopes.statement(root) else {
+        return false;
+    };
+    if statement.below.is_empty() {
+        return false;
+    }
+    let first = scopes.child(root, 0);
+    scopes.resolve(Keyword::Feature, first, feature).is_some()
+}
+
+// Whether a line names a feature of one of the modules.
+fn is_feature<'a>(scopes: &Scopes<'a>, line: &'a Text) -> bool
+    ensures { result ≡ words.is_feature scopes.now.texts line.now }
+{
+    let Some((name, feature)) = split_reference(line.as_str()) else {
+        return false;
+    };
+    match scopes.text_of(name) {
+        Some(text) => has_feature(scopes, feature, text),
+        None => false,
+    }
+}
+
+// The place of the first line that names no feature of the modules.
+fn first_unknown<'a>(scopes: &Scopes<'a>, lines: &'a [Text]) -> Option<usize>
+    ensures { MatchOption result (All (λ line. words.is_feature scopes.now.texts line ≡ true) lines.now)
+        (words.IsFirstOther scopes.now.texts lines.now) }
+{
+    for (place, line) in lines.iter().enumerate() {
+        if !is_feature(scopes, line) {
+            return Some(place);
+        }
+    }
+    None
+}
+
+/// The place of the first line that names no feature of the modules, each `module:feature` (RFC 7950 7.20.1), or
+/// `None` where each names one. Modules that cannot be read have none.
+pub fn first_unknown_feature(
+    alloc: Global,
+    modules: &[ModuleText],
+    lines: &[Text],
+) -> Result<Option<usize>, Memory>
+    ensures { IfOk result (λ it. MatchOption it
+        (All (words.NamesFeature modules.now) lines.now)
+        (words.IsFirstUnknown modules.now lines.now)) }
+{
+    let roots = match read_texts(alloc, modules) {
+        Ok(roots) => roots,
+        Err(CompileFault::Memory) => return Err(Memory),
+        Err(CompileFault::Module { .. }) => {
+            return Ok(if lines.is_empty() { None } else { Some(0) });
+        }
+    };
+    let scopes = Scopes::of(alloc, roots.as_slice())?;
+    Ok(first_unknown(&scopes, lines))
+}

@@ -1,0 +1,25 @@
+//! Laws: what follows of the definitions that the contracts cite.
+ghost use Rattle.nc_yang.specs.Laws.{DataTypesMean, ModulesAreProper, PlannedTypesMean, TypesMean};
+
+/// In modules that keep all rules each `type` statement that is looked at means something, and so does each
+/// member of a union, down to the last (RFC 7950 7.3, 7.4, 9.12).
+pub fn types_mean()
+    ensures { TypesMean }
+{}
+
+/// In modules that keep all rules each data node of a plan that is a leaf or a leaf-list has a `type`
+/// statement, and this means something, with all members of a union (RFC 7950 7.6.3, 7.7.3).
+pub fn planned_types_mean()
+    ensures { PlannedTypesMean }
+{}
+
+/// The same of each data node of a schema that is a leaf or a leaf-list (RFC 7950 7.6.3, 7.7.3).
+pub fn data_types_mean()
+    ensures { DataTypesMean }
+{}
+
+/// Modules that keep all rules have identifiers for names and have namespaces, and no two have one of either
+/// (RFC 7950 5.1, 5.3, 7.1).
+pub fn modules_are_proper()
+    ensures { ModulesAreProper }
+{}

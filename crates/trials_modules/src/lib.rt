@@ -2,6 +2,14 @@
 #![tactic(auto)]
 
 #[cfg(test)]
+mod data_tests;
+#[cfg(test)]
+mod defaults_tests;
+#[cfg(test)]
+mod features_tests;
+#[cfg(test)]
+mod identities_tests;
+#[cfg(test)]
 mod loops_tests;
 #[cfg(test)]
 mod nodes_tests;

@@ -9,21 +9,20 @@ use Rattle.nc_names.specs.declared.path.Row.{Row}
 use Rattle.nc_names.specs.declared.path.Step.{Step}
 use Rattle.nc_message.specs.declared.tree.Elem.{Elem}
 use Rattle.nc_schema.specs.Tables.{Tables}
-use Rattle.nc_model.specs.Filter.{holds}
+use Rattle.nc_model.specs.Filter.{holds, level_of}
 use Rattle.nc_filter.specs.declared.runs.Run.{Run}
 use Rattle.nc_filter.specs.declared.guards.Class.{Class}
 use Rattle.nc_filter.specs.declared.groups.Group.{Group}
 use Rattle.nc_filter.specs.inner.Keys.{among, asked, has_all, keys_in}
 use Rattle.nc_filter.specs.inner.Lists.{AddsOne}
 use Rattle.nc_filter.specs.inner.Picks.{Adds, opens, within}
-use Rattle.nc_filter.specs.inner.Runs.{AddsGroup, AddsHeld, AreAll, AreClasses, AreGroups, AreHeld, AreHeldOf, AreKnown, AreRowsAt, AreRuns, IsGroup, IsTable, PutsRowsAt, Slots, at_number, class_says, elem_says, group_tells, has_key, holds_in, in_slot}
+use Rattle.nc_filter.specs.inner.Runs.{AddsGroup, AddsHeld, AreAll, AreClasses, AreGroups, AreHeld, AreHeldOf, AreKnown, AreRowsAt, AreRuns, IsGroup, IsTable, PutsRowsAt, Slots, at_number, class_says, elem_says, group_tells, has_key, holds_in, in_slot, told_in}
 use Rattle.nc_filter.specs.inner.Tables.{has_text}
-use Rattle.nc_filter.specs.inner.Wholes.{picks_in}
 use Rattle.nc_filter.proofs.ClassLemmas.{map_join}
 use Rattle.nc_filter.proofs.KeyLemmas.{holds_keys}
 use Rattle.nc_filter.proofs.PickLemmas.{within_is}
 use Rattle.nc_filter.proofs.TableLemmas.{known_same, none_at}
-use Rattle.nc_filter.proofs.Unions.{and_assoc, and_false, any_and, any_and_last, any_or, any_same, any_turned, or_assoc, or_false}
+use Rattle.nc_filter.proofs.Unions.{adds_same, and_assoc, and_false, any_and, any_and_last, any_or, any_same, any_turned, or_assoc, or_false}
 
 -- ---- numbers of instances
 at_or : (whole : List Run) (p q : Run → Bool) (n : ℕ) → at_number whole (λ run. p run || q run) n ≡ (at_number whole p n || at_number whole q n)
@@ -157,56 +156,66 @@ rows_more whole numbers i number d before now within is puts so_far test =
     ∙ (λ k. so_far test k || at_number whole (λ run. list_any test (map (λ row. row.now) run.rows)) (is k))
     ∙ sym (list_any_more (at_number whole (λ run. list_any test (map (λ row. row.now) run.rows))) numbers i d within)
 
--- ---- what groups pick
-module _ (tables : Tables) (all : List Row) (depth : ℕ) (whole : List Run) where
-  abbrev group_picks : (Row → Bool) → Group → Bool
-  group_picks test group = picks_in tables all depth whole test group
+-- ---- what groups select
+module _ (tables : Tables) (all : List Row) (depth : ℕ) (whole : List Run) (says : Row → Elem → Bool) where
+  pub group_step : (out mid now found : List Row) (groups : List Group) (i : ℕ) (group : Group) → i < length groups → group ≡ get_or groups i group → AreRowsAt whole group.numbers found →
+      Adds mid now (λ row. list_any (says row) (map (λ elem. elem.now) group.elems)) found →
+      ((test : Row → Bool) → list_any test mid ≡ (list_any test out || list_any (told_in says whole test) (take i groups))) →
+      (test : Row → Bool) → list_any test now ≡ (list_any test out || list_any (told_in says whole test) (take (i + 1) groups))
+  group_step out mid now found groups i group within is rows adds so_far test =
+      adds test
+      ∙ (λ k. so_far test k || rows (λ row. list_any (says row) (map (λ elem. elem.now) group.elems) && test row) k)
+      ∙ or_assoc (list_any test out) (list_any (told_in says whole test) (take i groups)) (told_in says whole test group)
+      ∙ ap (λ b. list_any test out || b) (ap (λ (one : Group). list_any (told_in says whole test) (take i groups) || told_in says whole test one) is ∙ sym (list_any_more (told_in says whole test) groups i group within))
 
   -- what an element says of a row where its content matches hold
   abbrev there : (List ℕ → Bool) → (Row → Bool) → Row → Elem → Bool
-  there has test row elem = has_all has (asked elem) && (opens tables all depth row elem && test row)
+  there has test row elem = has_all has (asked elem) && (says row elem && test row)
 
-  tells_is : (test : Row → Bool) (group : Group) → group_picks test group ≡ group_tells whole (λ run elem. list_any (λ row. opens tables all depth row elem && test row) (map (λ row. row.now) run.rows)) group
+  tells_is : (test : Row → Bool) (group : Group) → told_in says whole test group ≡ group_tells whole (λ run elem. list_any (λ row. says row elem && test row) (map (λ row. row.now) run.rows)) group
   tells_is test group = λ i. list_any (at_number whole (λ run. turned run i)) group.numbers
     where
       some : List Elem
       some = map (λ elem. elem.now) group.elems
 
-      turned : (run : Run) → list_any (λ row. list_any (opens tables all depth row) some && test row) (map (λ row. row.now) run.rows)
-          ≡ list_any (λ elem. list_any (λ row. opens tables all depth row elem && test row) (map (λ row. row.now) run.rows)) some
+      turned : (run : Run) → list_any (λ row. list_any (says row) some && test row) (map (λ row. row.now) run.rows)
+          ≡ list_any (λ elem. list_any (λ row. says row elem && test row) (map (λ row. row.now) run.rows)) some
       turned run =
-          any_same (λ row. list_any (opens tables all depth row) some && test row) (λ row. list_any (λ elem. opens tables all depth row elem && test row) some) (map (λ row. row.now) run.rows)
-          (λ row. sym (any_and_last (opens tables all depth row) (test row) some))
-          ∙ any_turned (λ row elem. opens tables all depth row elem && test row) (map (λ row. row.now) run.rows) some
+          any_same (λ row. list_any (says row) some && test row) (λ row. list_any (λ elem. says row elem && test row) some) (map (λ row. row.now) run.rows)
+          (λ row. sym (any_and_last (says row) (test row) some))
+          ∙ any_turned (λ row elem. says row elem && test row) (map (λ row. row.now) run.rows) some
 
   says_rows : (has : List ℕ → Bool) (test : Row → Bool) (rows : List Row) (elems : List Elem) →
-      list_any (elem_says has (λ elem. list_any (λ row. opens tables all depth row elem && test row) rows)) elems ≡ list_any (λ row. list_any (there has test row) elems) rows
+      list_any (elem_says has (λ elem. list_any (λ row. says row elem && test row) rows)) elems ≡ list_any (λ row. list_any (there has test row) elems) rows
   says_rows has test rows elems =
-      any_same (elem_says has (λ elem. list_any (λ row. opens tables all depth row elem && test row) rows)) (λ elem. list_any (λ row. there has test row elem) rows) elems
-      (λ elem. sym (any_and (has_all has (asked elem)) (λ row. opens tables all depth row elem && test row) rows))
+      any_same (elem_says has (λ elem. list_any (λ row. says row elem && test row) rows)) (λ elem. list_any (λ row. there has test row elem) rows) elems
+      (λ elem. sym (any_and (has_all has (asked elem)) (λ row. says row elem && test row) rows))
       ∙ any_turned (λ elem row. there has test row elem) elems rows
 
   pub groups_done : (out now rows : List Row) (elems : List Elem) (classes : List Class) (groups : List Group) → AreRuns depth rows whole → AreKnown tables all whole →
-      AreClasses elems classes → AreGroups whole classes groups → ((test : Row → Bool) → list_any test now ≡ (list_any test out || list_any (group_picks test) groups)) →
-      Adds out now (λ row. list_any (within tables all depth row) elems) rows
+      AreClasses elems classes → AreGroups whole classes groups → ((test : Row → Bool) → list_any test now ≡ (list_any test out || list_any (told_in says whole test) groups)) →
+      Adds out now (λ row. list_any (λ elem. holds tables all (take depth row.path.steps) (level_of elem) && says row elem) elems) rows
   groups_done out now rows elems classes groups runs known are joined so_far test = so_far test ∙ ap (λ b. list_any test out || b) picks
     where
       f : Run → Elem → Bool
-      f run elem = list_any (λ row. opens tables all depth row elem && test row) (map (λ row. row.now) run.rows)
+      f run elem = list_any (λ row. says row elem && test row) (map (λ row. row.now) run.rows)
 
       g : List Step → Row → Bool
       g above row = list_any (there (λ wanted. among (keys_in tables all above) wanted) test row) elems
 
-      at_row : (row : Row) → g (take depth row.path.steps) row ≡ (list_any (within tables all depth row) elems && test row)
-      at_row row =
-          any_same (there (λ wanted. among (keys_in tables all (take depth row.path.steps)) wanted) test row) (λ elem. within tables all depth row elem && test row) elems
-          (λ elem. sym (and_assoc (has_all (λ wanted. among (keys_in tables all (take depth row.path.steps)) wanted) (asked elem)) (opens tables all depth row elem) (test row))
-          ∙ ap (λ b. b && test row) (ap (λ b. b && opens tables all depth row elem) (sym (holds_keys tables all (take depth row.path.steps) elem)) ∙ sym (within_is tables all row depth elem)))
-          ∙ any_and_last (within tables all depth row) (test row) elems
+      passes : Row → Elem → Bool
+      passes row elem = holds tables all (take depth row.path.steps) (level_of elem) && says row elem
 
-      picks : list_any (group_picks test) groups ≡ list_any (λ row. list_any (within tables all depth row) elems && test row) rows
+      at_row : (row : Row) → g (take depth row.path.steps) row ≡ (list_any (passes row) elems && test row)
+      at_row row =
+          any_same (there (λ wanted. among (keys_in tables all (take depth row.path.steps)) wanted) test row) (λ elem. passes row elem && test row) elems
+          (λ elem. sym (and_assoc (has_all (λ wanted. among (keys_in tables all (take depth row.path.steps)) wanted) (asked elem)) (says row elem) (test row))
+          ∙ ap (λ b. b && test row) (ap (λ b. b && says row elem) (sym (holds_keys tables all (take depth row.path.steps) elem))))
+          ∙ any_and_last (passes row) (test row) elems
+
+      picks : list_any (told_in says whole test) groups ≡ list_any (λ row. list_any (passes row) elems && test row) rows
       picks =
-          any_same (group_picks test) (group_tells whole f) groups (tells_is test)
+          any_same (told_in says whole test) (group_tells whole f) groups (tells_is test)
           ∙ joined f
           ∙ any_turned (λ class run. class_says (λ wanted. has_text run.keys wanted) (f run) class) classes whole
           ∙ any_same (λ run. list_any (class_says (λ wanted. has_text run.keys wanted) (f run)) classes) (λ run. list_any (elem_says (λ wanted. has_text run.keys wanted) (f run)) elems) whole
@@ -215,4 +224,11 @@ module _ (tables : Tables) (all : List Row) (depth : ℕ) (whole : List Run) whe
           ∙ any_same (λ run. list_any (elem_says (has_key tables all run) (f run)) elems) (λ run. list_any (g run.above.now) (map (λ row. row.now) run.rows)) whole
           (λ run. says_rows (has_key tables all run) test (map (λ row. row.now) run.rows) elems)
           ∙ runs g
-          ∙ any_same (λ row. g (take depth row.path.steps) row) (λ row. list_any (within tables all depth row) elems && test row) rows at_row
+          ∙ any_same (λ row. g (take depth row.path.steps) row) (λ row. list_any (passes row) elems && test row) rows at_row
+
+pub within_done : (tables : Tables) (all : List Row) (depth : ℕ) (out now rows : List Row) (elems : List Elem) →
+    Adds out now (λ row. list_any (λ elem. holds tables all (take depth row.path.steps) (level_of elem) && opens tables all depth row elem) elems) rows →
+    Adds out now (λ row. list_any (within tables all depth row) elems) rows
+within_done tables all depth out now rows elems =
+    adds_same out now (λ row. list_any (λ elem. holds tables all (take depth row.path.steps) (level_of elem) && opens tables all depth row elem) elems) (λ row. list_any (within tables all depth row) elems) rows
+    (λ row. any_same (λ elem. holds tables all (take depth row.path.steps) (level_of elem) && opens tables all depth row elem) (within tables all depth row) elems (λ elem. sym (within_is tables all row depth elem)))

@@ -8,10 +8,12 @@ pub mod PickLemmas
 pub mod KeyLemmas
 pub mod ListLemmas
 pub mod WalkLemmas
-pub mod WholeLemmas
 pub mod TableLemmas
 pub mod ClassLemmas
 pub mod GroupLemmas
 pub mod NameLemmas
+pub mod LabelLemmas
+pub mod FlatLemmas
+pub mod SpotLemmas
 pub mod PlacesLemmas
 pub mod KeptLemmas

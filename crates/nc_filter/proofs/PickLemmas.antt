@@ -149,6 +149,52 @@ module _ (tables : Tables) (rows : List Row) (row : Row) where
       by (inl (none, end)) = let clash : None ≡ Some node = sym (ap (option_map (λ step. step.node)) none) ∙ at_node in cc
       by (inr (step, cut)) = ended step (drop (suc depth) row.path.steps) cut.at cut.deep cut.whole
 
+  -- a content match is met where the path ends and the row fits
+  pub named_meets : (depth node : ℕ) (elem : Elem) → node_at depth row ≡ Some node →
+      (is_named tables node elem && meets tables elem (take depth row.path.steps) row) ≡ (ends depth row && fits tables elem row)
+  named_meets depth node elem at_node = by (cut_at depth row.path.steps)
+    where
+      twice : (n t : Bool) → (n && (n && t)) ≡ (n && t)
+      twice true t = refl
+      twice false t = refl
+
+      never : (b : Bool) → (b && false) ≡ false
+      never true = refl
+      never false = refl
+
+      ended : (step : Step) (rest : List Step) → slice_get row.path.steps depth ≡ Some step → length (take depth row.path.steps) ≡ depth →
+          row.path.steps ≡ take depth row.path.steps ++ step ∷ rest →
+          (is_named tables node elem && meets tables elem (take depth row.path.steps) row) ≡ (ends depth row && fits tables elem row)
+      ended step [] at deep path =
+          ap (λ b. is_named tables node elem && b) (meets_here elem (take depth row.path.steps) step path ∙ fitting)
+          ∙ twice (is_named tables node elem) (is_of_text elem row)
+          ∙ sym fitting
+          ∙ ap (λ b. b && fits tables elem row) (sym there)
+        where
+          fitting : fits tables elem row ≡ (is_named tables node elem && is_of_text elem row)
+          fitting =
+              ap (λ (o : Option Step). option_map_or (is_of_node tables elem) o false && is_of_text elem row) (ap (last_or None) path ∙ last_of None (take depth row.path.steps) step)
+              ∙ ap (λ n. is_named tables n elem && is_of_text elem row) (node_of_step depth node step at at_node)
+
+          there : ends depth row ≡ true
+          there = (Decides-eqb (length row.path.steps) (depth + 1)).1 (ends_is depth step [] deep path ∙ ap (λ n. depth + n) refl)
+      ended step (following ∷ rest) at deep path =
+          ap (λ b. is_named tables node elem && b) (meets_lower elem (take depth row.path.steps) step following rest path)
+          ∙ never (is_named tables node elem)
+          ∙ sym (ap (λ b. b && fits tables elem row) (not_there (ends depth row) refl))
+        where
+          not_there : (b : Bool) → ends depth row ≡ b → b ≡ false
+          not_there false e = refl
+          not_there true e = absurd (longer (length rest) (sym (ends_is depth step (following ∷ rest) deep path) ∙ (Decides-eqb (length row.path.steps) (depth + 1)).0 e))
+            where
+              longer : (n : ℕ) → ¬ (depth + suc (suc n) ≡ depth + 1)
+              longer n e = omega (arith, e)
+
+      by : ((slice_get row.path.steps depth ≡ None) × (drop depth row.path.steps ≡ [])) ⊎ ((step : Step) × IsCut depth row.path.steps step) →
+          (is_named tables node elem && meets tables elem (take depth row.path.steps) row) ≡ (ends depth row && fits tables elem row)
+      by (inl (none, end)) = let clash : None ≡ Some node = sym (ap (option_map (λ step. step.node)) none) ∙ at_node in cc
+      by (inr (step, cut)) = ended step (drop (suc depth) row.path.steps) cut.at cut.deep cut.whole
+
   -- what one element says, by its kind
   abbrev matches_there : ℕ → Elem → Bool
   matches_there depth elem = is_content_match elem && (ends depth row && is_of_text elem row)

@@ -5,4 +5,4 @@ pub mod Tables
 pub mod Picks
 pub mod Runs
 pub mod Names
-pub mod Wholes
+pub mod Labels

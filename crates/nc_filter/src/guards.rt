@@ -45,8 +45,8 @@ fn with_once(keys: Many<Many<u8>>, key: Many<u8>) -> Result<Many<Many<u8>>, Memo
     Ok(more)
 }
 
-// Some keys in order, each once.
-fn unique(alloc: Global, keys: Many<Many<u8>>) -> Result<Many<Many<u8>>, Memory>
+/// Some keys in order, each once.
+pub(crate) fn unique(alloc: Global, keys: Many<Many<u8>>) -> Result<Many<Many<u8>>, Memory>
     ensures { IfOk result (λ it. IsSame keys it) }
 {
     let mut rest = sorted_keys(keys)?;

@@ -39,7 +39,8 @@ pub(crate) fn key(alloc: Global, space: &[u8], name: &[u8], text: &[u8]) -> Resu
     Ok(Many::from_vec(bytes.into_vec()))
 }
 
-fn elem_key(alloc: Global, elem: &Elem) -> Result<Many<u8>, Memory>
+/// The key for which a content match asks.
+pub(crate) fn elem_key(alloc: Global, elem: &Elem) -> Result<Many<u8>, Memory>
     ensures { IfOk result (λ it. it ≡ keys.elem_key elem.now) }
 {
     if !has_no_attribute(&elem.attrs) {
@@ -98,7 +99,8 @@ fn some_value_keys(
     }
 }
 
-fn row_keys(alloc: Global, schema: &Schema, row: &Row) -> Result<Many<Many<u8>>, Memory>
+/// The keys of a row.
+pub(crate) fn row_keys(alloc: Global, schema: &Schema, row: &Row) -> Result<Many<Many<u8>>, Memory>
     ensures { IfOk result (λ it. it ≡ keys.row_keys schema.now row.now) }
 {
     match row_node(schema, row) {

@@ -38,9 +38,9 @@ fn are_matches(parts: &Many<Part>) -> bool
     parts.as_slice().iter().all(|part| is_part_match(part))
 }
 
-// Whether nothing but content matches stands at a level that has elements.
+/// Whether nothing but content matches stands at a level that has elements.
 #[tactic(auto, using(crate::proofs::LevelLemmas::level_of_matches))]
-fn is_of_matches(parts: &Many<Part>) -> bool
+pub(crate) fn is_of_matches(parts: &Many<Part>) -> bool
     ensures { result ≡ meant.is_of_matches (filter_map elements.elem_of parts.now) }
 {
     has_element(parts) && are_matches(parts)

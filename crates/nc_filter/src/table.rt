@@ -49,7 +49,8 @@ pub(crate) fn with_key(
     Ok(items)
 }
 
-fn with_keys(
+/// A number more at each of some keys.
+pub(crate) fn with_keys(
     alloc: Global,
     items: BTreeMap<Many<u8>, Many<usize>>,
     keys: &[Many<u8>],

@@ -1,24 +1,25 @@
 //! The filter from the top down: which of some rows the elements of a level select (RFC 6241 6.2).
-ghost use Rattle.std.specs.Prelude.{◌≡◌, ◌+◌, ◌<◌, ◌≤◌, ◌^◌, ◌&&◌, ◌||◌, ℕ, Bool, List, IfOk, OnSome};
+ghost use Rattle.std.specs.Prelude.{◌≡◌, ◌+◌, ◌<◌, ◌≤◌, ◌^◌, ◌&&◌, ◌||◌, not, List, IfOk, OnSome};
 ghost use Rattle.std.specs.Prelude.{length, map, take};
-ghost use Rattle.std.specs.List.{list_any};
+ghost use Rattle.std.specs.List.{filter, list_any};
 ghost use Rattle.nc_names.specs.declared.path.Row.{Row};
-ghost use Rattle.nc_schema.specs.Tables.{Tables};
+ghost use Rattle.nc_filter.specs.inner.Labels.{is_flat};
 ghost use Rattle.nc_filter.specs.inner.Names as names;
 ghost use Rattle.nc_filter.specs.inner.Picks as picks;
+ghost use Rattle.nc_filter.specs.inner.Runs as inner;
 ghost use Rattle.nc_filter.specs.inner.Tables.{IsIndex};
-ghost use Rattle.nc_filter.specs.inner.Wholes as wholes;
 
-use crate::groups::{Group, groups, rows_at};
+use crate::flat::pick_flat;
+use crate::groups::{groups, rows_at};
 use crate::guards::classes;
 use crate::index::Index;
+use crate::labels::deeps;
 use crate::level::{containments, has_level_of_matches, has_match, has_selection, levels_of};
 use crate::names::Level;
 use crate::rows::{by_node, count_node, extended, first_node, listed, with_node};
 use crate::runs::{Run, cut};
 use crate::table::Table;
 use crate::texts::matched;
-use crate::wholes::whole_numbers;
 use nc_message::Elem;
 use nc_names::{Many, Memory, Row, tail};
 use nc_schema::Schema;
@@ -194,54 +195,39 @@ fn pick_guarded<'a>(
     let runs = cut(alloc, schema, index, depth, rows)?;
     let whole = runs.as_slice();
     let table = Table::new(alloc, schema, index, whole)?;
-    let classes = classes(alloc, elems)?;
-    let groups = groups(alloc, &table, whole, classes)?;
-    let some = groups.as_slice();
-    let mut out = with_wholes(alloc, whole, some, out)?;
-    for group in some {
-        out = pick_group(alloc, schema, index, depth, whole, group, out)?;
-    }
-    Ok(out)
+    let found = pick_flat(alloc, schema, depth, &table, whole, elems, out)?;
+    let more = pick_deep(alloc, schema, index, depth, &table, whole, elems, found)?;
+    Ok(more)
 }
 
-// Adds the rows of the instances that some groups select whole, each once.
-fn with_wholes<'a>(
-    alloc: Global,
-    whole: &[Run<'a>],
-    groups: &[Group<'a>],
-    out: Many<&'a Row>,
-) -> Result<Many<&'a Row>, Memory>
-    ensures { IfOk result (λ it. (tables : Tables) (all : List Row) (depth : ℕ) (test : Row → Bool) →
-        list_any test (map (λ row. row.now) it) ≡ (list_any test (map (λ row. row.now) out.entry)
-        || list_any (wholes.picks_wholly_in tables all depth whole.now test) groups.now)) }
-{
-    let numbers = whole_numbers(alloc, groups)?;
-    let rows = rows_at(alloc, whole, numbers.as_slice())?;
-    let found = extended(out, rows.as_slice())?;
-    Ok(found)
-}
-
-// Adds what a group of elements picks in its instances, unless it selects them whole.
+// Adds those rows of some instances that the levels of some elements select, at which containment nodes stand.
 #[cycle(pick)]
-fn pick_group<'a>(
+fn pick_deep<'a>(
     alloc: Global,
     schema: &Schema,
     index: &Index<'a>,
     depth: usize,
+    table: &Table,
     whole: &[Run<'a>],
-    group: &Group<'a>,
+    elems: &[&'a Elem],
     out: Many<&'a Row>,
 ) -> Result<Many<&'a Row>, Memory>
-    ensures { IfOk result (λ it. (all : List Row) → IsIndex index.now.table all → (test : Row → Bool) →
-        list_any test (map (λ row. row.now) it) ≡ (list_any test (map (λ row. row.now) out.entry)
-        || wholes.picks_parts_in schema.now all depth whole.now test group.now)) }
+    ensures { IfOk result (λ it. (all rows : List Row) → IsIndex index.now.table all →
+        inner.AreRuns depth rows whole.now → inner.AreKnown schema.now all whole.now →
+        inner.IsTable schema.now all table.now.items whole.now whole.now →
+        picks.Adds (map (λ row. row.now) out.entry) (map (λ row. row.now) it)
+        (λ row. list_any (picks.within schema.now all depth row)
+        (filter (λ elem. not (is_flat elem)) (map (λ elem. elem.now) elems.now))) rows) }
 {
-    let elems = group.elems.as_slice();
-    if has_level_of_matches(elems) {
-        return Ok(out);
+    let deep = deeps(alloc, elems)?;
+    let classes = classes(alloc, deep.as_slice())?;
+    let groups = groups(alloc, table, whole, classes)?;
+    let mut out = out;
+    for group in groups.as_slice() {
+        let held = rows_at(alloc, whole, group.numbers.as_slice())?;
+        let some = group.elems.as_slice();
+        let here = held.as_slice();
+        out = pick_open(alloc, schema, index, depth, some, here, out)?;
     }
-    let held = rows_at(alloc, whole, group.numbers.as_slice())?;
-    let here = held.as_slice();
-    let found = pick_open(alloc, schema, index, depth, elems, here, out)?;
-    Ok(found)
+    Ok(out)
 }

@@ -141,3 +141,10 @@ AddsHeld keys whole number before now = (test : ℕ → Bool) →
 
 abbrev pub IsGroup : List Run → Group → Class → Type 0
 IsGroup whole group class = (test : Run → Elem → Bool) → group_tells whole test group ≡ class_tells whole test class
+
+-- what a group selects in its instances, by what its elements say of rows there and by a test of rows
+abbrev pub told_in : (Row → Elem → Bool) → List Run → (Row → Bool) → Group → Bool
+told_in says whole test group = list_any
+    (at_number whole (λ run. list_any
+    (λ row. list_any (says row) (map (λ elem. elem.now) group.elems) && test row)
+    (map (λ row. row.now) run.rows))) group.numbers

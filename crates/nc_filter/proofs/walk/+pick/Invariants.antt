@@ -3,9 +3,9 @@ use Rattle.std.specs.Prelude.{map}
 use Rattle.std.specs.List.{list_any}
 use Rattle.nc_names.specs.declared.path.Row.{Row}
 use Rattle.nc_filter.specs.inner.Names.{AreNames}
-use Rattle.nc_filter.specs.inner.Picks.{picked}
+use Rattle.nc_filter.specs.inner.Picks.{opens, picked}
+use Rattle.nc_filter.specs.inner.Runs.{told_in}
 use Rattle.nc_filter.specs.inner.Tables.{IsIndex}
-use Rattle.nc_filter.specs.inner.Wholes.{picks_parts_in, picks_wholly_in}
 use Rattle.nc_filter.proofs.walk.+pick.Given as goal
 
 abbrev pub decreases-pick_level : goal.decreases-pick_level
@@ -23,9 +23,6 @@ decreases-pick_within l = 8 * (2 ^ 64 - l.depth) + 4
 abbrev pub decreases-pick_guarded : goal.decreases-pick_guarded
 decreases-pick_guarded l = 8 * (2 ^ 64 - l.depth) + 3
 
-abbrev pub decreases-pick_group : goal.decreases-pick_group
-decreases-pick_group l = 8 * (2 ^ 64 - l.depth) + 2
-
 abbrev pub decreases-pick_open : goal.decreases-pick_open
 decreases-pick_open l = 8 * (2 ^ 64 - l.depth) + 1
 
@@ -38,9 +35,11 @@ invariant-pick_level-nodes l =
 abbrev pub decreases-pick_level-nodes : goal.decreases-pick_level-nodes
 decreases-pick_level-nodes l = length l.rest
 
-abbrev pub invariant-pick_guarded-loop-group : goal.invariant-pick_guarded-loop-group
-invariant-pick_guarded-loop-group l =
+abbrev pub decreases-pick_deep : goal.decreases-pick_deep
+decreases-pick_deep l = 8 * (2 ^ 64 - l.depth) + 2
+
+abbrev pub invariant-pick_deep-loop-group : goal.invariant-pick_deep-loop-group
+invariant-pick_deep-loop-group l =
     (all : List Row) → IsIndex l.index.table all → (test : Row → Bool) →
     list_any test (map (λ row. row.now) l.out)
-    ≡ ((list_any test (map (λ row. row.now) l.fn.out) || list_any (picks_wholly_in l.schema all l.depth l.whole test) l.some)
-    || list_any (picks_parts_in l.schema all l.depth l.whole test) (take l.group-index l.some))
+    ≡ (list_any test (map (λ row. row.now) l.fn.out) || list_any (told_in (opens l.schema all l.depth) l.whole test) (take l.group-index l.group-items))

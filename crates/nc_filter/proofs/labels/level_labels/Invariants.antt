@@ -1,0 +1,10 @@
+use Rattle.std.proofs.Common.{◌≡◌, ◌++◌, drop}
+use Rattle.std.specs.Prelude.{map}
+use Rattle.std.specs.List.{filter_map}
+use Rattle.nc_model.specs.Elements.{elem_of}
+use Rattle.nc_filter.specs.inner.Labels.{elem_label, level_labels}
+use Rattle.nc_filter.proofs.labels.level_labels.Given as goal
+
+abbrev pub invariant-loop-part : goal.invariant-loop-part
+invariant-loop-part l =
+    l.out ++ map elem_label (filter_map elem_of (drop l.part-index l.part-items)) ≡ level_labels l.fn.elem

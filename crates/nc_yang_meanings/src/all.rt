@@ -15,9 +15,9 @@ use std::alloc::Global;
 /// it leads (RFC 7950 7.3, 7.4, 9), where none of them breaks a rule; else the first rule that is broken, in
 /// the order of the statements. A type over one that means nothing breaks none. Time and memory grow with the
 /// number of statements, whatever order typedefs stand in, and with what the types say.
-pub fn meanings_of<F: Features>(
+pub fn meanings_of<'a, F: Features<'a>>(
     alloc: Global,
-    scopes: &Scopes,
+    scopes: &Scopes<'a>,
     features: &F,
 ) -> Result<Meanings, MeaningStop>
     ensures ok { IfOk result (AreMeanings (F.on features.now) scopes.now) }

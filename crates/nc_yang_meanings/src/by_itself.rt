@@ -66,14 +66,14 @@ fn plan_of(
 }
 
 /// The plan of the `type` statement of a number over a built-in type.
-pub(crate) fn by_itself<F: Features>(
+pub(crate) fn by_itself<'a, F: Features<'a>>(
     alloc: Global,
-    scopes: &Scopes,
+    scopes: &Scopes<'a>,
     features: &F,
     number: usize,
     text: usize,
     one: BuiltIn,
-    statement: &Statement,
+    statement: &'a Statement,
 ) -> Result<Option<Planned>, TypeStop>
     requires statement { HasNumber scopes.now number statement.now }
     requires text { StandsInText scopes.now number text }

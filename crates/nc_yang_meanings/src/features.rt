@@ -7,18 +7,18 @@ use nc_yang_types::Conditions;
 use nc_yang_words::Statement;
 
 /// Which `if-feature` statements hold (RFC 7950 5.6.2, 7.20.2).
-pub trait Features {
+pub trait Features<'a> {
     ghost use Rattle.std.specs.Prelude.{ℕ, Bool, List};
 
     ghost on: { Self → ℕ → List ℕ → Bool };
 
     /// Whether the feature is on to which the argument of an `if-feature` leads in the text of that number.
-    fn is_on(&self, text: usize, reference: &str) -> bool
+    fn is_on(&self, text: usize, reference: &'a str) -> bool
         ensures { result ≡ on self.now text reference.now };
 }
 
 // Whether a statement is no `if-feature`, or holds.
-fn lets<F: Features>(features: &F, text: usize, statement: &Statement) -> bool
+fn lets<'a, F: Features<'a>>(features: &F, text: usize, statement: &'a Statement) -> bool
     ensures { result ≡ definitions.lets (F.on features.now) text statement.now }
 {
     if is_same_keyword(Keyword::IfFeature, kind(statement)) {
@@ -29,7 +29,11 @@ fn lets<F: Features>(features: &F, text: usize, statement: &Statement) -> bool
 }
 
 /// Whether all holds that is said by `if-feature` directly in a statement of a text.
-pub(crate) fn stands<F: Features>(features: &F, text: usize, statement: &Statement) -> bool
+pub(crate) fn stands<'a, F: Features<'a>>(
+    features: &F,
+    text: usize,
+    statement: &'a Statement,
+) -> bool
     ensures { result ≡ definitions.stands (F.on features.now) text statement.now }
 {
     for below in statement.below.as_slice() {
@@ -55,10 +59,10 @@ impl<'b, F> Drop for InText<'b, F> {
     }
 }
 
-impl<'b, F: Features> Conditions for InText<'b, F> {
+impl<'a, 'b, F: Features<'a>> Conditions<'a> for InText<'b, F> {
     ghost stands = { λ c. definitions.stands (F.on c.features.now) c.text };
 
-    fn holds(&self, statement: &Statement) -> bool {
+    fn holds(&self, statement: &'a Statement) -> bool {
         stands(self.features, self.text, statement)
     }
 }

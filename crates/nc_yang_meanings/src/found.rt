@@ -29,14 +29,14 @@ pub(crate) enum Found {
 }
 
 // What is found of a type over a built-in type.
-fn on_built_in<F: Features>(
+fn on_built_in<'a, F: Features<'a>>(
     alloc: Global,
-    scopes: &Scopes,
+    scopes: &Scopes<'a>,
     features: &F,
     number: usize,
     text: usize,
     one: BuiltIn,
-    statement: &Statement,
+    statement: &'a Statement,
 ) -> Result<Found, Memory>
     requires statement { HasNumber scopes.now number statement.now }
     requires text { StandsInText scopes.now number text }
@@ -98,9 +98,9 @@ fn on_type(
 }
 
 /// What is found of the statement of a number that rests on this.
-pub(crate) fn look<F: Features>(
+pub(crate) fn look<'a, F: Features<'a>>(
     alloc: Global,
-    scopes: &Scopes,
+    scopes: &Scopes<'a>,
     features: &F,
     meanings: &Meanings,
     number: usize,

@@ -60,10 +60,10 @@ impl Meanings {
     }
 
     // With what is found of the next number.
-    fn step<F: Features>(
+    fn step<'a, F: Features<'a>>(
         self,
         alloc: Global,
-        scopes: &Scopes,
+        scopes: &Scopes<'a>,
         features: &F,
         number: usize,
         footing: Footing,
@@ -76,10 +76,10 @@ impl Meanings {
     }
 
     // With what is found of the numbers of an order.
-    fn along<F: Features>(
+    fn along<'a, F: Features<'a>>(
         self,
         alloc: Global,
-        scopes: &Scopes,
+        scopes: &Scopes<'a>,
         features: &F,
         footings: &[Footing],
         order: &[usize],
@@ -108,9 +108,9 @@ pub(crate) fn ordered(alloc: Global, footings: &[Footing]) -> Result<Reach, Memo
 }
 
 /// What all statements mean as types.
-pub(crate) fn table<F: Features>(
+pub(crate) fn table<'a, F: Features<'a>>(
     alloc: Global,
-    scopes: &Scopes,
+    scopes: &Scopes<'a>,
     features: &F,
 ) -> Result<Meanings, Memory>
     ensures { IfOk result (AreMeanings (F.on features.now) scopes.now) }

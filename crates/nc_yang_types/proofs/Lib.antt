@@ -5,3 +5,4 @@ pub mod KnownLemmas
 pub mod InsideLemmas
 pub mod LawLemmas
 pub mod OrderLemmas
+pub mod ApartLemmas

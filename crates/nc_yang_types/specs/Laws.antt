@@ -1,15 +1,16 @@
 -- What the laws say.
-use Rattle.std.specs.Prelude.{◌≡◌, ℕ, Bool, true, false, List, [], ◌∷◌, ◌&&◌, ℤ, int_lt, Some, None, IsSome}
+use Rattle.std.specs.Prelude.{◌≡◌, ◌≢◌, ℕ, Bool, true, false, List, [], ◌∷◌, ◌&&◌, ℤ, int_lt, Some, None, IsSome}
+use Rattle.std.specs.List.{AllPairs}
 use Rattle.nc_schema.specs.NumberTexts.{is_among}
 use Rattle.nc_schema.specs.declared.value_type.Between.{Between}
 use Rattle.nc_schema.specs.declared.value_type.ValueType.{ValueType}
 use Rattle.nc_yang_words.specs.declared.statement.Statement.{Statement}
 use Rattle.nc_yang_statements.specs.declared.built_in.BuiltIn.{BuiltIn}
-use Rattle.nc_yang_statements.specs.declared.built_in.BuiltIn.TheVariants.{IdentityRef, LeafRef, Union}
+use Rattle.nc_yang_statements.specs.declared.built_in.BuiltIn.TheVariants.{Bits, IdentityRef, LeafRef, Union}
 use Rattle.nc_yang_statements.specs.Statements.{below}
 use Rattle.nc_yang_types.specs.declared.bound.Counted.{Counted}
 use Rattle.nc_yang_types.specs.Entries.{narrowed, narrowed_faults, own, own_faults}
-use Rattle.nc_yang_types.specs.Members.{numbered, with_bits}
+use Rattle.nc_yang_types.specs.Members.{bit_names, numbered, with_bits}
 use Rattle.nc_yang_types.specs.Ranges.{restriction}
 use Rattle.nc_yang_types.specs.declared.member.Listed.TheVariants.{Flags}
 
@@ -49,3 +50,9 @@ ascend (bit ∷ bits) = is_before bit.0 bits && ascend bits
 abbrev pub BitsAscend : Type 0
 BitsAscend =
     (stands : Statement → Bool) (ss : List Statement) → ascend (with_bits stands [] (numbered Flags None ss)) ≡ true
+
+-- a name of a bit stands once (RFC 7950 9.7.4)
+abbrev pub BitsAreApart : Type 0
+BitsAreApart =
+    (stands : Statement → Bool) (s : Statement) → own_faults Bits s ≡ [] →
+    AllPairs (λ name later. name ≢ later) (bit_names stands (below s))

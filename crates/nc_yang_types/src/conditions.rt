@@ -5,14 +5,14 @@ use nc_yang_words::Statement;
 
 /// Whether the `if-feature` statements of an `enum` or a `bit` all hold, so that it is there (RFC 7950
 /// 7.20.2).
-pub trait Conditions {
+pub trait Conditions<'a> {
     ghost use Rattle.std.specs.Prelude.{Bool};
     ghost use Rattle.nc_yang_words.specs.declared.statement.Statement.{Statement};
 
     ghost stands: { Self → Statement → Bool };
 
     /// Whether the name of the statement is there.
-    fn holds(&self, statement: &Statement) -> bool
+    fn holds(&self, statement: &'a Statement) -> bool
         ensures { result ≡ stands self.now statement.now };
 }
 
@@ -20,10 +20,10 @@ pub trait Conditions {
 #[derive(Clone, Copy, Debug, PartialEq, Eq)]
 pub struct Always;
 
-impl Conditions for Always {
+impl<'a> Conditions<'a> for Always {
     ghost stands = { λ _ _. true };
 
-    fn holds(&self, statement: &Statement) -> bool {
+    fn holds(&self, statement: &'a Statement) -> bool {
         true
     }
 }

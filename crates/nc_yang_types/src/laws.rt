@@ -1,5 +1,5 @@
 //! Laws: what follows of the definitions that the contracts cite.
-ghost use Rattle.nc_yang_types.specs.Laws.{BitsAscend, NarrowedGives, OwnGives, RestrictionsNarrow};
+ghost use Rattle.nc_yang_types.specs.Laws.{BitsAreApart, BitsAscend, NarrowedGives, OwnGives, RestrictionsNarrow};
 
 /// A range or a length admits no number that its base does not (RFC 7950 9.2.4, 9.4.4).
 pub fn restrictions_narrow()
@@ -19,4 +19,9 @@ pub fn narrowed_gives()
 /// Bits stand in the order of their positions, each position once (RFC 7950 9.7.4.2).
 pub fn bits_ascend()
     ensures { BitsAscend }
+{}
+
+/// The names of the bits of a type that breaks no rule are apart (RFC 7950 9.7.4).
+pub fn bits_are_apart()
+    ensures { BitsAreApart }
 {}

@@ -28,7 +28,7 @@ mod stop;
 
 pub use bound::Counted;
 pub use conditions::{Always, Conditions};
-pub use laws::{bits_ascend, narrowed_gives, own_gives, restrictions_narrow};
+pub use laws::{bits_are_apart, bits_ascend, narrowed_gives, own_gives, restrictions_narrow};
 pub use over_built_in::own;
 pub use over_type::narrowed;
 pub use part::{misshapen, narrows, needs, takes};

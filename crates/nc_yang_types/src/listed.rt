@@ -41,11 +41,11 @@ fn name_of(alloc: Global, statement: &Statement) -> Result<Text, Memory>
 }
 
 // Puts the name of an enumeration at the end, where it is one that is there.
-fn push_name<C: Conditions>(
+fn push_name<'a, C: Conditions<'a>>(
     alloc: Global,
     conditions: &C,
     names: &mut Many<Text>,
-    statement: &Statement,
+    statement: &'a Statement,
 ) -> Result<(), Memory>
     ensures { OnOk result (names.new
         ≡ names.old ++ members.enum_name (C.stands conditions.now) statement.now) }
@@ -58,10 +58,10 @@ fn push_name<C: Conditions>(
 }
 
 /// The names of an enumeration, in the order of the text.
-pub(crate) fn enum_names<C: Conditions>(
+pub(crate) fn enum_names<'a, C: Conditions<'a>>(
     alloc: Global,
     conditions: &C,
-    below: &[Statement],
+    below: &'a [Statement],
 ) -> Result<Many<Text>, Memory>
     ensures { IfOk result (λ it. it ≡ members.enum_names (C.stands conditions.now) below.now) }
 {
@@ -73,11 +73,11 @@ pub(crate) fn enum_names<C: Conditions>(
 }
 
 // The bits with one more at its place, where it is there and has a position.
-fn with_bit<C: Conditions>(
+fn with_bit<'a, C: Conditions<'a>>(
     alloc: Global,
     conditions: &C,
     bits: BTreeMap<i128, Text>,
-    statement: &Statement,
+    statement: &'a Statement,
     position: Option<i128>,
 ) -> Result<BTreeMap<i128, Text>, Memory>
     ensures { IfOk result (λ it. it.entries
@@ -95,10 +95,10 @@ fn with_bit<C: Conditions>(
 }
 
 // The bits by their positions.
-fn bits_of<C: Conditions>(
+fn bits_of<'a, C: Conditions<'a>>(
     alloc: Global,
     conditions: &C,
-    below: &[Statement],
+    below: &'a [Statement],
 ) -> Result<BTreeMap<i128, Text>, Memory>
     ensures { IfOk result (λ it. it.entries
         ≡ members.with_bits (C.stands conditions.now) [] (members.numbered Flags None below.now)) }
@@ -129,10 +129,10 @@ fn names_in_order(alloc: Global, bits: BTreeMap<i128, Text>) -> Result<Many<Text
 }
 
 /// The names of bits, in the order of their positions.
-pub(crate) fn bit_names<C: Conditions>(
+pub(crate) fn bit_names<'a, C: Conditions<'a>>(
     alloc: Global,
     conditions: &C,
-    below: &[Statement],
+    below: &'a [Statement],
 ) -> Result<Many<Text>, Memory>
     ensures { IfOk result (λ it. it ≡ members.bit_names (C.stands conditions.now) below.now) }
 {

@@ -81,10 +81,10 @@ fn decimal(alloc: Global, below: &[Statement]) -> Result<Option<ValueType>, Type
 
 // The names of an enumeration.
 #[tactic(auto, using(crate::proofs::Firsts::nothing_first))]
-fn enumeration<C: Conditions>(
+fn enumeration<'a, C: Conditions<'a>>(
     alloc: Global,
     conditions: &C,
-    below: &[Statement],
+    below: &'a [Statement],
 ) -> Result<Many<Text>, TypeStop>
     ensures ok { IfOk result (λ it. it ≡ members.enum_names (C.stands conditions.now) below.now) }
     ensures kept { OnOk result (members.ill_listed Enums below.now ≡ []) }
@@ -99,10 +99,10 @@ fn enumeration<C: Conditions>(
 
 // The names of bits.
 #[tactic(auto, using(crate::proofs::Firsts::nothing_first))]
-fn bits<C: Conditions>(
+fn bits<'a, C: Conditions<'a>>(
     alloc: Global,
     conditions: &C,
-    below: &[Statement],
+    below: &'a [Statement],
 ) -> Result<Many<Text>, TypeStop>
     ensures ok { IfOk result (λ it. it ≡ members.bit_names (C.stands conditions.now) below.now) }
     ensures kept { OnOk result (members.ill_listed Flags below.now ≡ []) }
@@ -116,11 +116,11 @@ fn bits<C: Conditions>(
 }
 
 // The entry by the parts that a built-in type has.
-fn entry<C: Conditions>(
+fn entry<'a, C: Conditions<'a>>(
     alloc: Global,
     conditions: &C,
     built_in: BuiltIn,
-    below: &[Statement],
+    below: &'a [Statement],
 ) -> Result<Option<ValueType>, TypeStop>
     ensures ok { IfOk result (λ it. entries.own (C.stands conditions.now) built_in below.now ≡ it) }
     ensures kept { OnOk result (entries.misused built_in below.now ≡ []) }
@@ -159,11 +159,11 @@ fn entry<C: Conditions>(
 /// that it has: of what parts stand there, and then of what they say. Of an enumeration and of bits those
 /// names are left out whose conditions do not hold.
 #[tactic(auto, using(crate::proofs::Firsts::first_some, crate::proofs::Firsts::first_none, crate::proofs::Firsts::nothing_first, crate::proofs::Firsts::nothing_more))]
-pub fn own<C: Conditions>(
+pub fn own<'a, C: Conditions<'a>>(
     alloc: Global,
     conditions: &C,
     built_in: BuiltIn,
-    statement: &Statement,
+    statement: &'a Statement,
 ) -> Result<Option<ValueType>, TypeStop>
     ensures ok { IfOk result (λ it.
         entries.own (C.stands conditions.now) built_in (statements.below statement.now) ≡ it) }

@@ -17,10 +17,10 @@ use std::process::Abort;
 /// No feature is on.
 struct Off;
 
-impl Conditions for Off {
+impl<'a> Conditions<'a> for Off {
     ghost stands = { λ _ s. not (statements.has IfFeatureWord (statements.below s)) };
 
-    fn holds(&self, statement: &Statement) -> bool {
+    fn holds(&self, statement: &'a Statement) -> bool {
         !has(statement.below.as_slice(), Keyword::IfFeature)
     }
 }
@@ -82,26 +82,32 @@ fn shown(
 }
 
 /// What comes of a type over a built-in one.
-fn own_of<C: Conditions>(
+fn own_of<'a, C: Conditions<'a>>(
     rt: &impl Abort,
     alloc: Global,
     conditions: &C,
-    root: &Statement,
+    root: &'a Statement,
 ) -> Result<Option<ValueType>, TypeStop> {
     let built_in = built_in_of(name(root)).expect(rt, "a built-in type");
     own(alloc, conditions, built_in, root)
 }
 
-/// The same of a text, as text.
-fn read<C: Conditions>(rt: &impl Abort, alloc: Global, conditions: &C, text: &str) -> String {
+/// The same of a text, as text, with all features on.
+fn read(rt: &impl Abort, alloc: Global, text: &str) -> String {
     let root = statements(alloc, text).expect(rt, "a statement");
-    shown(rt, alloc, own_of(rt, alloc, conditions, &root), "names")
+    shown(rt, alloc, own_of(rt, alloc, &Always, &root), "names")
+}
+
+/// The same where no feature is on.
+fn read_off(rt: &impl Abort, alloc: Global, text: &str) -> String {
+    let root = statements(alloc, text).expect(rt, "a statement");
+    shown(rt, alloc, own_of(rt, alloc, &Off, &root), "names")
 }
 
 /// Each type with what comes of it.
 fn look_at(rt: &impl Abort, alloc: Global, cases: &[(&str, &str)]) {
     for (text, wanted) in cases {
-        let got = read(rt, alloc, &Always, text);
+        let got = read(rt, alloc, text);
         assert_eq!(rt; got.as_str(), *wanted, "of {text}");
     }
 }
@@ -368,11 +374,11 @@ fn bits_stand_in_order_of_position(rt: HostRuntime) {
 fn names_without_their_feature_are_left_out_and_counted(rt: HostRuntime) {
     let alloc = rt.alloc();
     let text = "type enumeration { enum a; enum b { if-feature f; } enum c; }";
-    assert_eq!(rt; read(&rt, alloc, &Off, text).as_str(), "enum a c");
+    assert_eq!(rt; read_off(&rt, alloc, text).as_str(), "enum a c");
     let text = "type bits { bit a { position 9; } bit b { if-feature f; } bit c { position 1; } }";
-    assert_eq!(rt; read(&rt, alloc, &Off, text).as_str(), "bits c a");
+    assert_eq!(rt; read_off(&rt, alloc, text).as_str(), "bits c a");
     let text = "type enumeration { enum a { if-feature f; } enum b {\n value 0; } }";
-    assert_eq!(rt; read(&rt, alloc, &Off, text).as_str(), "2 BadArgument");
+    assert_eq!(rt; read_off(&rt, alloc, text).as_str(), "2 BadArgument");
 }
 
 #[test]

@@ -13,10 +13,10 @@ use std::process::Abort;
 /// Every feature is on but the one that is called `off`.
 struct AllButOff;
 
-impl Features for AllButOff {
+impl<'a> Features<'a> for AllButOff {
     ghost on = { λ _ _ reference. not (is_same_text reference (codes "off")) };
 
-    fn is_on(&self, text: usize, reference: &str) -> bool {
+    fn is_on(&self, text: usize, reference: &'a str) -> bool {
         reference != "off"
     }
 }

@@ -12,3 +12,4 @@ mod KeptUniques
 mod KeptNames
 mod KeptCases
 pub mod Lawful
+pub mod AlikeLemmas

@@ -5,7 +5,8 @@
 //! It stands on the plan of nc_yang_nodes, the statements of nc_yang_scopes, and the schema of nc_schema.
 //!
 //! `data_nodes` promises exactly the defined tables where no rule is broken, and else the first rule that is;
-//! by the law `data_is_in_place` the data nodes and choices then are in place as those of a proper schema.
+//! by the law `data_is_in_place` the data nodes and choices then are in place as those of a proper schema, and by
+//! `data_is_fixed` they do not depend on which plan of the modules is taken.
 //! `prefixes` promises the prefixes of a text with their namespaces, and `namespaces` those of all texts.
 //! First each node is made by its statement alone; then each again, with the leafs that it names among those.
 //! The crate `trials_modules` tests it.
@@ -31,7 +32,7 @@ mod texts;
 mod words;
 
 pub use bounds::prefixes;
-pub use laws::data_is_in_place;
+pub use laws::{data_is_fixed, data_is_in_place};
 pub use stop::DataFault;
 pub use tables::data_nodes;
 pub use texts::namespaces;

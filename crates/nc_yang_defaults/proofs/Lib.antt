@@ -7,3 +7,4 @@ pub mod PutLemmas
 pub mod LawLemmas
 pub mod BareLemmas
 pub mod OutcomeLemmas
+pub mod AlikeLemmas

@@ -2,6 +2,7 @@
 use Rattle.std.proofs.Common.{◌≡◌, ◌<◌, ℕ, suc, List, [], ◌∷◌, length, map, refl, sym, ap, ◌∙◌, subst, arith}
 use Rattle.std.specs.Prelude.{Option, Some, None, IsSome, slice_get}
 use Rattle.std.specs.List.{All}
+use Rattle.nc_names.specs.declared.name.Bound.{Bound}
 use Rattle.nc_schema.specs.declared.node.Node.{Node}
 use Rattle.nc_schema.specs.Tables.{Tables}
 use Rattle.nc_schema.specs.Values.{IsCanonical, canonical}
@@ -27,7 +28,7 @@ lists_alike (x ∷ xs) (y ∷ ys) long alike =
 
 module _ (scoping : Scoping) (plan : Plan) (typed tables : Tables) (is : IsTyped scoping plan typed) (has : HasDefaults scoping plan typed tables) where
   -- the statement of a data node
-  stated : (number : ℕ) → number < length typed.nodes → (l : Located) × (statement_of scoping plan number ≡ Some l)
+  pub stated : (number : ℕ) → number < length typed.nodes → (l : Located) × (statement_of scoping plan number ≡ Some l)
   stated number less = by (statement_of scoping plan number) refl (is.stated number (omega (arith, less, is.counted)))
     where
       by : (o : Option Located) → statement_of scoping plan number ≡ o → IsSome o → (l : Located) × (statement_of scoping plan number ≡ Some l)
@@ -45,6 +46,11 @@ module _ (scoping : Scoping) (plan : Plan) (typed tables : Tables) (is : IsTyped
   tables_alike =
       let nodes = lists_alike tables.nodes typed.nodes has.counted nodes_alike in
       λ i. record { nodes = nodes i; choices = has.choices i; types = has.types i; modules = has.modules i }
+
+  -- its defaults change no value
+  pub canonical_kept : (number : ℕ) (text : List ℕ) (bounds : List Bound) → canonical tables number text bounds ≡ canonical typed number text bounds
+  canonical_kept number text bounds =
+      sym (canonical_same tables number text bounds) ∙ ap (λ z. canonical z number text bounds) tables_alike ∙ canonical_same typed number text bounds
 
   pub outcome_canonical : (number : ℕ) (node : Node) → slice_get tables.nodes number ≡ Some node → All (IsCanonical tables number) node.defaults
   outcome_canonical number node at =

@@ -9,3 +9,4 @@ pub mod Seeing
 pub mod Lawful
 pub mod Sound
 pub mod Followed
+pub mod Alike

@@ -4,5 +4,6 @@ pub mod Supported
 pub mod Cases
 pub mod Expansion
 pub mod Plans
+pub mod Alike
 pub mod Laws
 pub mod inner

@@ -1,5 +1,5 @@
 //! What follows from the definitions.
-ghost use Rattle.nc_yang_nodes.specs.Laws.{PlanHasNoFault, PlanIsSound};
+ghost use Rattle.nc_yang_nodes.specs.Laws.{PlanHasNoFault, PlanIsSound, PlansAreAlike};
 
 /// Where modules have a plan, no statement is the first past a limit.
 pub fn plan_has_no_fault()
@@ -10,4 +10,9 @@ pub fn plan_has_no_fault()
 /// belong to modules that are there.
 pub fn plan_is_sound()
     ensures { PlanIsSound }
+{}
+
+/// Two plans of the same modules differ at most in the numbers of statements that are written alike in one place.
+pub fn plans_are_alike()
+    ensures { PlansAreAlike }
 {}

@@ -6,7 +6,8 @@
 //!
 //! `plan_of` promises exactly the defined list of data nodes and of choices, each with the statement that
 //! defines it, or a fault at the first statement past a limit; by the law `plan_has_no_fault` no modules have
-//! both, and by `plan_is_sound` each data node comes after the one in which it stands. `features_on` promises
+//! both, by `plan_is_sound` each data node comes after the one in which it stands, and by `plans_are_alike` two
+//! plans differ only in the numbers of statements that are written alike in one place. `features_on` promises
 //! which of the given features are on, `is_supported_at` whether a statement is there under them, and `case_of` the
 //! number of a choice's case. A walk has a stack of its own, and passes over what plans nothing. The crate
 //! `trials_modules` tests it.
@@ -28,7 +29,7 @@ mod walk;
 pub use cases::case_of;
 pub use entries::is_supported_at;
 pub use features::Features;
-pub use laws::{plan_has_no_fault, plan_is_sound};
+pub use laws::{plan_has_no_fault, plan_is_sound, plans_are_alike};
 pub use plan::plan_of;
 pub use planned::{Plan, PlanStop, Planned, PlannedChoice};
 pub use supported::features_on;

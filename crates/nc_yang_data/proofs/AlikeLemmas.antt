@@ -1,0 +1,172 @@
+-- Plans that are alike give the same data nodes, and break the same rules.
+use Rattle.std.proofs.Common.{◌≡◌, ◌+◌, ℕ, zero, suc, false, cond, List, [], ◌∷◌, ◌++◌, map, refl, sym, ap, ◌∙◌}
+use Rattle.std.specs.Prelude.{Option, Some, None, slice_get}
+use Rattle.std.specs.Option.{option_map_or}
+use Rattle.nc_schema.specs.Tables.{Tables}
+use Rattle.nc_schema.specs.declared.node.Choice.{Choice}
+use Rattle.nc_schema.specs.declared.node.Node.{Node}
+use Rattle.nc_yang_statements.specs.Statements.{line}
+use Rattle.nc_yang_statements.specs.declared.fault.ModuleWhy.TheVariants.{BadArgument}
+use Rattle.nc_yang_scopes.specs.Prefixes.{namespace_at}
+use Rattle.nc_yang_scopes.specs.Scopes.{Located, Scoping}
+use Rattle.nc_yang_scopes.specs.declared.naming.TextFault.{TextFault}
+use Rattle.nc_yang_nodes.specs.Alike.{AreAlike, SeenChoice, SeenNode, seen_choice, seen_node}
+use Rattle.nc_yang_nodes.specs.Plans.{most_levels}
+use Rattle.nc_yang_nodes.specs.Roles.{FeatureTest}
+use Rattle.nc_yang_nodes.specs.declared.planned.Plan.{Plan}
+use Rattle.nc_yang_nodes.specs.declared.planned.Planned.{Planned}
+use Rattle.nc_yang_nodes.specs.declared.planned.PlannedChoice.{PlannedChoice}
+use Rattle.nc_yang_data.specs.Data.{data_faults, data_tables, drafts, nodes_from, with_leafs}
+use Rattle.nc_yang_data.specs.Defaults.{asks, carrier, choices_from, default_faults, is_by_default, outermost, nodes_from as asking_from}
+use Rattle.nc_yang_data.specs.Drafts.{choice_at, choice_in, draft_at, draft_in, unknown_choice, unknown_in}
+use Rattle.nc_yang_data.specs.Modules.{modules_from}
+use Rattle.nc_yang_data.specs.Places.{faults_from, in_text, node_faults, node_leafs}
+use Rattle.nc_yang_data.specs.declared.place.Leafs.{Leafs}
+
+map_seen : {A B C : Type 0} (seen : A → B) (f : A → C) (g : B → C) → ((x : A) → f x ≡ g (seen x)) → (xs : List A) → map f xs ≡ map g (map seen xs)
+map_seen seen f g same [] = refl
+map_seen seen f g same (x ∷ xs) = λ i. same x i ∷ map_seen seen f g same xs i
+
+module _ (scoping : Scoping) (on : FeatureTest) where
+  -- ---- data nodes
+  abbrev planned_of : SeenNode → Planned
+  planned_of s = record { statement = 0; «module» = s.in_module; parent = s.parent; level = s.level; cases = s.cases }
+
+  abbrev draft_of : SeenNode → Node
+  draft_of s =
+      option_map_or (λ (l : Located). draft_in (namespace_at scoping.texts s.in_module) (planned_of s) l.statement) s.statement
+      (unknown_in (namespace_at scoping.texts s.in_module) (planned_of s))
+
+  draft_is : (p : Planned) → draft_at scoping p ≡ draft_of (seen_node scoping p)
+  draft_is p = refl
+
+  abbrev leafs_of : Tables → ℕ → Option Located → Leafs
+  leafs_of tables number o =
+      option_map_or (λ (l : Located). node_leafs scoping.texts tables l.place.text number l.statement) o (record { keys = []; uniques = [] })
+
+  abbrev nodes_of : Tables → ℕ → List SeenNode → List Node
+  nodes_of tables number [] = []
+  nodes_of tables number (s ∷ ss) = with_leafs (draft_of s) (leafs_of tables number s.statement) ∷ nodes_of tables (number + 1) ss
+
+  nodes_are : (tables : Tables) (number : ℕ) (ps : List Planned) → nodes_from scoping tables number ps ≡ nodes_of tables number (map (seen_node scoping) ps)
+  nodes_are tables number [] = refl
+  nodes_are tables number (p ∷ ps) = λ i. with_leafs (draft_is p i) (leafs_of tables number (slice_get scoping.located p.statement)) ∷ nodes_are tables (number + 1) ps i
+
+  abbrev faults_of : Tables → ℕ → List SeenNode → List TextFault
+  faults_of tables number [] = []
+  faults_of tables number (s ∷ ss) =
+      option_map_or (λ (l : Located). map (in_text l.place.text) (node_faults scoping.texts tables l.place.text number l.statement)) s.statement []
+      ++ faults_of tables (number + 1) ss
+
+  faults_are : (tables : Tables) (number : ℕ) (ps : List Planned) → faults_from scoping tables number ps ≡ faults_of tables number (map (seen_node scoping) ps)
+  faults_are tables number [] = refl
+  faults_are tables number (p ∷ ps) = λ i.
+      option_map_or (λ (l : Located). map (in_text l.place.text) (node_faults scoping.texts tables l.place.text number l.statement)) (slice_get scoping.located p.statement) []
+      ++ faults_are tables (number + 1) ps i
+
+  -- ---- choices
+  abbrev choice_of : SeenChoice → Choice
+  choice_of c =
+      let p : PlannedChoice = record { statement = 0; parent = c.parent; within = c.within } in
+      option_map_or (choice_at scoping.texts on p) c.statement (unknown_choice p)
+
+  choice_is : (p : PlannedChoice) → choice_in scoping on p ≡ choice_of (seen_choice scoping p)
+  choice_is p = refl
+
+  -- ---- what has to be there in a default case
+  abbrev fault_of : Option Located → List TextFault
+  fault_of o = option_map_or (λ (l : Located). record { text = l.place.text; fault = record { line = line l.statement; why = BadArgument } } ∷ []) o []
+
+  abbrev blame : List SeenNode → ℕ → List TextFault
+  blame ss number = option_map_or (λ (s : SeenNode). fault_of s.statement) (slice_get ss number) []
+
+  blame_is : (ps : List Planned) (number : ℕ) →
+      option_map_or (λ (p : Planned). fault_of (slice_get scoping.located p.statement)) (slice_get ps number) [] ≡ blame (map (seen_node scoping) ps) number
+  blame_is [] number = refl
+  blame_is (p ∷ ps) zero = refl
+  blame_is (p ∷ ps) (suc number) = blame_is ps number
+
+  abbrev forbidden_of : (ℕ → List TextFault) → Tables → ℕ → List TextFault
+  forbidden_of blamed tables number =
+      cond (option_map_or (λ (node : Node). is_by_default tables node.cases) (slice_get tables.nodes number) false) (blamed number) []
+
+  abbrev asking_of : (ℕ → List TextFault) → Tables → ℕ → List SeenNode → List TextFault
+  asking_of blamed tables number [] = []
+  asking_of blamed tables number (s ∷ ss) =
+      cond (option_map_or asks (slice_get tables.nodes number) false) (forbidden_of blamed tables (outermost tables most_levels number)) []
+      ++ asking_of blamed tables (number + 1) ss
+
+  abbrev placed_of : (ℕ → List TextFault) → Tables → Option Located → Choice → List TextFault
+  placed_of blamed tables o choice =
+      option_map_or (λ above. forbidden_of blamed tables (outermost tables most_levels above)) (carrier tables choice.parent choice.within)
+      (cond (is_by_default tables choice.within) (fault_of o) [])
+
+  abbrev choices_of : (ℕ → List TextFault) → Tables → ℕ → List SeenChoice → List TextFault
+  choices_of blamed tables number [] = []
+  choices_of blamed tables number (c ∷ cs) =
+      option_map_or (λ (choice : Choice). cond choice.mandatory (placed_of blamed tables c.statement choice) []) (slice_get tables.choices number) []
+      ++ choices_of blamed tables (number + 1) cs
+
+  module _ (plan : Plan) (tables : Tables) where
+    abbrev blamed : ℕ → List TextFault
+    blamed number = option_map_or (λ (p : Planned). fault_of (slice_get scoping.located p.statement)) (slice_get plan.nodes number) []
+
+    asking_are : (number : ℕ) (ps : List Planned) → asking_from scoping tables plan number ps ≡ asking_of blamed tables number (map (seen_node scoping) ps)
+    asking_are number [] = refl
+    asking_are number (p ∷ ps) = λ i.
+        cond (option_map_or asks (slice_get tables.nodes number) false) (forbidden_of blamed tables (outermost tables most_levels number)) []
+        ++ asking_are (number + 1) ps i
+
+    choices_are : (number : ℕ) (ps : List PlannedChoice) → choices_from scoping tables plan number ps ≡ choices_of blamed tables number (map (seen_choice scoping) ps)
+    choices_are number [] = refl
+    choices_are number (p ∷ ps) = λ i.
+        option_map_or (λ (choice : Choice). cond choice.mandatory (placed_of blamed tables (slice_get scoping.located p.statement) choice) []) (slice_get tables.choices number) []
+        ++ choices_are (number + 1) ps i
+
+    defaults_are : default_faults scoping tables plan
+        ≡ asking_of (blame (map (seen_node scoping) plan.nodes)) tables 0 (map (seen_node scoping) plan.nodes)
+        ++ choices_of (blame (map (seen_node scoping) plan.nodes)) tables 0 (map (seen_choice scoping) plan.choices)
+    defaults_are =
+        (λ i. asking_are 0 plan.nodes i ++ choices_are 0 plan.choices i)
+        ∙ (λ i. asking_of (λ number. blame_is plan.nodes number i) tables 0 (map (seen_node scoping) plan.nodes)
+        ++ choices_of (λ number. blame_is plan.nodes number i) tables 0 (map (seen_choice scoping) plan.choices))
+
+  -- ---- plans
+  abbrev tables_of : List SeenNode → List SeenChoice → Tables
+  tables_of ss cs = record {
+    nodes = nodes_of (record { nodes = map draft_of ss; choices = []; types = []; modules = [] }) 0 ss;
+    choices = map choice_of cs;
+    types = [];
+    modules = modules_from on 0 scoping.texts;
+  }
+
+  drafts_are : (plan : Plan) → drafts scoping plan ≡ record { nodes = map draft_of (map (seen_node scoping) plan.nodes); choices = []; types = []; modules = [] }
+  drafts_are plan =
+      let nodes = map_seen (seen_node scoping) (draft_at scoping) draft_of draft_is plan.nodes in
+      λ i. record { nodes = nodes i; choices = []; types = []; modules = [] }
+
+  tables_are : (plan : Plan) → data_tables scoping on plan ≡ tables_of (map (seen_node scoping) plan.nodes) (map (seen_choice scoping) plan.choices)
+  tables_are plan =
+      let nodes = ap (λ t. nodes_from scoping t 0 plan.nodes) (drafts_are plan)
+      ∙ nodes_are (record { nodes = map draft_of (map (seen_node scoping) plan.nodes); choices = []; types = []; modules = [] }) 0 plan.nodes in
+      let choices = map_seen (seen_choice scoping) (choice_in scoping on) choice_of choice_is plan.choices in
+      λ i. record { nodes = nodes i; choices = choices i; types = []; modules = modules_from on 0 scoping.texts }
+
+  pub tables_alike : (p q : Plan) → AreAlike scoping p q → data_tables scoping on p ≡ data_tables scoping on q
+  tables_alike p q h = tables_are p ∙ (λ i. tables_of (h.nodes i) (h.choices i)) ∙ sym (tables_are q)
+
+  abbrev all_faults_of : List SeenNode → List SeenChoice → List TextFault
+  all_faults_of ss cs =
+      faults_of (record { nodes = map draft_of ss; choices = []; types = []; modules = [] }) 0 ss
+      ++ (asking_of (blame ss) (tables_of ss cs) 0 ss ++ choices_of (blame ss) (tables_of ss cs) 0 cs)
+
+  all_faults_are : (plan : Plan) → data_faults scoping on plan ≡ all_faults_of (map (seen_node scoping) plan.nodes) (map (seen_choice scoping) plan.choices)
+  all_faults_are plan =
+      let own = ap (λ t. faults_from scoping t 0 plan.nodes) (drafts_are plan)
+      ∙ faults_are (record { nodes = map draft_of (map (seen_node scoping) plan.nodes); choices = []; types = []; modules = [] }) 0 plan.nodes in
+      let by_default = ap (λ t. default_faults scoping t plan) (tables_are plan)
+      ∙ defaults_are plan (tables_of (map (seen_node scoping) plan.nodes) (map (seen_choice scoping) plan.choices)) in
+      λ i. own i ++ by_default i
+
+  pub faults_alike : (p q : Plan) → AreAlike scoping p q → data_faults scoping on p ≡ data_faults scoping on q
+  faults_alike p q h = all_faults_are p ∙ (λ i. all_faults_of (h.nodes i) (h.choices i)) ∙ sym (all_faults_are q)

@@ -1,6 +1,6 @@
 -- Numbers that are asked for.
-use Rattle.std.proofs.Common.{inl, inr, ◌≡◌, ◌≢◌, ◌<◌, ◌≤◌, ◌+◌, ◌-◌, ◌==◌, ◌&&◌, ℕ, zero, suc, Bool, true, false, not, cond, List, [], ◌∷◌, ◌++◌, length, take, get_or, map, refl, sym, ap, ◌∙◌, subst, arith, append_assoc}
-use Rattle.std.specs.Prelude.{Option, Some, None, slice_get, set, unwrap_or, option_and_then, Contains, ◌⊎◌}
+use Rattle.std.proofs.Common.{inl, inr, ◌≡◌, ◌≢◌, ◌<◌, ◌≤◌, ◌+◌, ◌==◌, ℕ, Bool, true, false, not, cond, List, [], ◌∷◌, ◌++◌, length, take, get_or, map, refl, sym, ap, ◌∙◌, subst, arith, append_assoc}
+use Rattle.std.specs.Prelude.{Option, Some, None, slice_get, unwrap_or, option_and_then, Contains, ◌⊎◌}
 use Rattle.std.proofs.lemmas.Bool.{cases_eq}
 use Rattle.std.proofs.lemmas.List.{append-nil, length-append, map-append}
 use Rattle.std.proofs.lemmas.List.Elements.{Contains-append_left, Contains-append_cases, Contains-push}
@@ -9,7 +9,7 @@ use Rattle.nc_yang_order.proofs.Lists.{contains_none, contains_one, get_none, ge
 use Rattle.nc_yang_scopes.proofs.Lists.{get_left, get_right}
 use Rattle.nc_yang_leafs.specs.declared.table.Slot.{Slot}
 use Rattle.nc_yang_leafs.specs.declared.table.Table.{Table}
-use Rattle.nc_yang_leafs.specs.inner.Marks.{is_marked, plan_at}
+use Rattle.nc_yang_leafs.specs.Marks.{is_marked, plan_at}
 use Rattle.nc_yang_leafs.specs.inner.Tables.{Asked, Asks, AsksMember, Work, number_at, number_in, number_of, slot_at, with_plan}
 
 pub and_then_kept : (f g : ℕ → Option ℕ) → ((plan number : ℕ) → f plan ≡ Some number → g plan ≡ Some number) → (o : Option ℕ) (number : ℕ) → option_and_then f o ≡ Some number → option_and_then g o ≡ Some number
@@ -37,6 +37,7 @@ asked_none w table = record {
   from = λ plan h. absurd (contains_none plan h);
   kept = λ plan number e. e;
   fresh = λ plan number e. inl e;
+  given = λ plan number le e. absurd (let l = slice_get_within table.plans number plan e in omega (arith, l, le));
   stamped = λ plan slot e. inl e;
   answers = refl;
 }
@@ -105,6 +106,7 @@ module _ (w : Work) (members : List ℕ) (member : ℕ) (old mid : Table) (numbe
     from = λ q h. let f = before.from q h in (f.0, Contains-append_left members (member ∷ []) f.0 f.1, f.2);
     kept = before.kept;
     fresh = before.fresh;
+    given = before.given;
     stamped = before.stamped;
     answers = answered mid.known before.answers e;
   }
@@ -117,6 +119,7 @@ module _ (w : Work) (members : List ℕ) (member : ℕ) (old mid : Table) (numbe
     from = from;
     kept = λ q n e. new_kept w plan mid none within q n (before.kept q n e);
     fresh = fresh;
+    given = given;
     stamped = λ q slot e. elim (new_stamped w plan mid none within q slot e) [ inl earlier ↦ before.stamped q slot earlier | inr now ↦ inr now ];
     answers = answered (with_plan mid w.node plan).known (map_kept w mid.known (with_plan mid w.node plan).known (new_kept w plan mid none within) members numbers before.answers) (new_same w plan mid none within ∙ ap Some (sym next));
   }
@@ -141,6 +144,18 @@ module _ (w : Work) (members : List ℕ) (member : ℕ) (old mid : Table) (numbe
           (let l = longer in omega arith),
           (let z : n ≡ length mid.plans + 0 = omega arith in ap (slice_get (mid.plans ++ plan ∷ [])) z ∙ get_right mid.plans (plan ∷ []) (length mid.plans) 0 refl ∙ ap Some (sym same)),
         )
+      ]
+
+      given : (q n : ℕ) → length old.plans ≤ n → slice_get (mid.plans ++ plan ∷ []) n ≡ Some q → number_of w.marks (with_plan mid w.node plan).known w.node q ≡ Some n
+      given q n le e = elim (cases_eq n (length mid.plans)) [
+        | inl now ↦
+            let here : slice_get (mid.plans ++ plan ∷ []) n ≡ Some plan =
+            (let z : n ≡ length mid.plans + 0 = omega (arith, now) in ap (slice_get (mid.plans ++ plan ∷ [])) z ∙ get_right mid.plans (plan ∷ []) (length mid.plans) 0 refl) in
+            let same : plan ≡ q = cc in
+            subst (λ z. number_of w.marks (with_plan mid w.node plan).known w.node z ≡ Some n) same (new_same w plan mid none within ∙ ap Some (sym now))
+        | inr apart ↦
+            let less : n < length mid.plans = (let l = slice_get_within (mid.plans ++ plan ∷ []) n q e in let c = length-append mid.plans (plan ∷ []) in omega (arith, l, c, apart)) in
+            new_kept w plan mid none within q n (before.given q n le (sym (get_left mid.plans (plan ∷ []) n less) ∙ e))
       ]
 
 pub asked_more : (w : Work) (members : List ℕ) (member : ℕ) (old mid new : Table) (numbers : List ℕ) (number : ℕ) → Asked w members old mid numbers → AsksMember w member mid new number →

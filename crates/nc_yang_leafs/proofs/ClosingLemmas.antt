@@ -1,29 +1,25 @@
 -- What the entries are of, when all are made.
-use Rattle.std.proofs.Common.{inl, inr, ◌≡◌, ◌≢◌, ◌<◌, ◌≤◌, ◌+◌, ◌==◌, ℕ, zero, suc, Bool, true, false, not, cond, List, [], ◌∷◌, ◌++◌, length, map, refl, sym, ap, ◌∙◌, subst, arith}
-use Rattle.std.specs.Prelude.{Option, Some, None, slice_get, option_and_then, Contains, IsTrue, IsFalse}
-use Rattle.std.specs.List.{list_all}
-use Rattle.std.proofs.lemmas.Bool.{cases_eq}
+use Rattle.std.proofs.Common.{◌≡◌, ℕ, suc, Bool, List, [], ◌∷◌, ◌++◌, map, refl, sym, ap, ◌∙◌, subst, arith}
+use Rattle.std.specs.Prelude.{Option, Some, None, slice_get, option_and_then, Contains}
 use Rattle.std.proofs.lemmas.Option.{slice_get_within, slice_get-get_or}
 use Rattle.nc_names.specs.declared.name.QName.{QName}
 use Rattle.nc_schema.specs.declared.value_type.ValueType.{ValueType}
 use Rattle.nc_schema.specs.declared.value_type.ValueType.TheVariants.{Union as UnionType, Identity as IdentityType}
 use Rattle.nc_schema.specs.declared.value_type.ValueType.TheVariants.{Leafref as LeafrefType}
-use Rattle.nc_yang_order.proofs.Lists.{contains_at, contains_none, get_none}
+use Rattle.nc_yang_order.proofs.Lists.{contains_at, get_none}
 use Rattle.nc_yang_scopes.proofs.Lists.{get_left}
-use Rattle.nc_yang_scopes.specs.Scopes.{Located, Scoping}
-use Rattle.nc_yang_meanings.specs.declared.planned.Meanings.{Meanings}
+use Rattle.nc_yang_scopes.specs.Scopes.{Located}
 use Rattle.nc_yang_meanings.specs.declared.planned.Planned.{Planned}
 use Rattle.nc_yang_meanings.specs.declared.planned.Planned.TheVariants.{Bases, Finished, Leafref, Members}
 use Rattle.nc_yang_meanings.specs.Meanings.{DerivedFrom, Entry, Meaning, Means, OneOf, Refers}
 use Rattle.nc_yang_meanings.specs.Plans.{AreMeanings, HasPlan, IsPlan}
 use Rattle.nc_yang_meanings.specs.Wholes.{MeansWhole, members_of, whole}
 use Rattle.nc_yang_meanings.proofs.MeaningLemmas.{means_one}
-use Rattle.nc_yang_leafs.specs.declared.table.Slot.{Slot}
 use Rattle.nc_yang_leafs.specs.declared.table.Table.{Table}
 use Rattle.nc_yang_leafs.specs.Bases.{leads}
 use Rattle.nc_yang_leafs.specs.Typings.{HasTypes, IsEntry, none, numbers_of, one_more}
-use Rattle.nc_yang_leafs.specs.inner.Marks.{AreMarks, is_marked, is_plain, is_unmarked_at, plan_at}
-use Rattle.nc_yang_leafs.specs.inner.Tables.{Fits, IsReady, IsRight, IsSettled, Work, number_at, number_in, number_of, slot_at}
+use Rattle.nc_yang_leafs.specs.Marks.{plan_at}
+use Rattle.nc_yang_leafs.specs.inner.Tables.{Fits, IsSettled, Work, number_at, number_of}
 use Rattle.nc_yang_leafs.proofs.StepLemmas.{has_plan_at}
 
 module _ (means : Located → Meaning → Type 0) (is : Meaning → ValueType → Type 0) where
@@ -77,14 +73,12 @@ module _ (derived : List Located → List QName → Type 0) (on : ℕ → List �
       by None e f = absurd (cc)
       by (Some plan) e f = close l (contains_at (l ∷ ls) 0 l refl) n plan t here e f
 
-  close_one : (l : Located) (m : Meaning) → Means on w.scoping.texts l m → ((member : Located) → Contains (members_of m) member → Closes member) → Closes l
-  close_one l m means members number plan given here at known =
+  close_plan : (l : Located) (m : Meaning) → Means on w.scoping.texts l m → ((member : Located) → Contains (members_of m) member → Closes member) →
+      (plan given : ℕ) → HasPlan on w.scoping w.meanings.plans l plan → number_of w.marks table.known w.node plan ≡ Some given → One l given
+  close_plan l m means members plan given h known =
       by h.plan m (subst (IsPlan w.scoping.located h.plan) (means_one on w.scoping.texts l h.meaning m h.means means) h.is) means members
       (settled.right.fits plan given entry.0 h.plan known entry.1 h.there)
     where
-      h : HasPlan on w.scoping w.meanings.plans l plan
-      h = has_plan_at on w.scoping w.meanings are number l plan here at
-
       entry : (e : ValueType) × (slice_get table.types given ≡ Some e)
       entry = find (slice_get table.types given) refl
         where
@@ -129,4 +123,10 @@ module _ (derived : List Located → List QName → Type 0) (on : ℕ → List �
       by (Leafref path need) (DerivedFrom ls) is means members fits = absurd is
 
   pub closes : (l : Located) → MeansWhole on w.scoping.texts l → Closes l
-  closes _ (whole l m means rest) = close_one l m means (λ member c. closes member (rest member c))
+  closes _ (whole l m means rest) number plan given here at known =
+      close_plan l m means (λ member c. closes member (rest member c)) plan given (has_plan_at on w.scoping w.meanings are number l plan here at) known
+
+  -- so does one whose plan is known
+  pub closes_plan : (l : Located) → MeansWhole on w.scoping.texts l → (plan given : ℕ) → HasPlan on w.scoping w.meanings.plans l plan →
+      number_of w.marks table.known w.node plan ≡ Some given → One l given
+  closes_plan _ (whole l m means rest) plan given h known = close_plan l m means (λ member c. closes member (rest member c)) plan given h known

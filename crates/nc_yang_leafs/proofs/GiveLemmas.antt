@@ -1,8 +1,8 @@
 -- The type of one data node, and of several.
-use Rattle.std.proofs.Common.{inl, inr, ◌≡◌, ◌≢◌, ◌<◌, ◌≤◌, ◌+◌, ◌-◌, ℕ, zero, suc, Bool, true, false, List, [], ◌∷◌, ◌++◌, length, get_or, map, refl, sym, ap, ◌∙◌, subst, arith}
-use Rattle.std.specs.Prelude.{Option, Some, None, Result, Ok, Err, IfOk, IfErr, IfSome, IsSomeAnd, IsTrue, IsFalse, slice_get, slice_set, option_and_then, Contains, ◌⊎◌}
-use Rattle.std.proofs.lemmas.Bool.{cases_eq}
-use Rattle.std.proofs.lemmas.List.{append-nil, length-append, length-set}
+use Rattle.std.proofs.Common.{inl, inr, ◌≡◌, ◌≢◌, ◌<◌, ◌≤◌, ◌+◌, ◌-◌, ℕ, Bool, List, [], ◌∷◌, ◌++◌, length, get_or, refl, sym, ap, ◌∙◌, subst, arith}
+use Rattle.std.specs.Prelude.{Option, Some, None, Result, Ok, Err, IfOk, IfErr, IsSomeAnd, IsTrue, slice_get, slice_set, option_and_then}
+use Rattle.std.proofs.lemmas.Bool.{cases_eq, cases_lt}
+use Rattle.std.proofs.lemmas.List.{length-append, length-set}
 use Rattle.std.proofs.lemmas.Option.{slice_get_within, slice_get-get_or}
 use Rattle.nc_names.specs.declared.name.QName.{QName}
 use Rattle.nc_schema.specs.declared.node.Kind.{Kind}
@@ -13,7 +13,7 @@ use Rattle.nc_schema.specs.Tables.{Tables}
 use Rattle.nc_yang_order.proofs.Lists.{contains_at, contains_one, get_none, get_set_other, get_set_same}
 use Rattle.nc_yang_scopes.proofs.Lists.{get_left, get_right}
 use Rattle.nc_yang_scopes.specs.declared.naming.TextFault.{TextFault}
-use Rattle.nc_yang_scopes.specs.Scopes.{Located, Scoping}
+use Rattle.nc_yang_scopes.specs.Scopes.{Located}
 use Rattle.nc_yang_nodes.specs.declared.planned.Plan.{Plan}
 use Rattle.nc_yang_meanings.specs.Meanings.{Means}
 use Rattle.nc_yang_scopes.specs.Numbers.{OnNumber}
@@ -22,20 +22,19 @@ use Rattle.nc_yang_meanings.specs.Wholes.{MeansWhole}
 use Rattle.nc_yang_leafs.specs.declared.site.Site.{Site}
 use Rattle.nc_yang_leafs.specs.declared.stop.LeafFault.{LeafFault}
 use Rattle.nc_yang_leafs.specs.declared.stop.LeafFault.TheVariants.{Broken, Memory}
-use Rattle.nc_yang_leafs.specs.declared.table.Slot.{Slot}
 use Rattle.nc_yang_leafs.specs.declared.table.Table.{Table}
 use Rattle.nc_yang_leafs.specs.Bases.{Basis, leads, type_of}
 use Rattle.nc_yang_leafs.specs.Faults.{BreaksLeafref, OnBroken}
-use Rattle.nc_yang_leafs.specs.Typings.{HasItsType, HasTypes, IsEntry, IsTyped, none}
+use Rattle.nc_yang_leafs.specs.Typings.{HasItsType, HasTypes, IsAmong, IsEntry, IsInUse, IsOfType, IsTyped, itself, none}
 use Rattle.nc_yang_leafs.specs.inner.Assembly.{HasKinds, HasSome, node_with, with_kind}
-use Rattle.nc_yang_leafs.specs.inner.Marks.{is_marked, plan_at}
+use Rattle.nc_yang_leafs.specs.Marks.{plan_at}
 use Rattle.nc_yang_leafs.specs.inner.Nodes.{AreGiven, BreaksAt, Gives, GivesNumber, HaveKinds, IsKnown, MayGive, basis_of}
 use Rattle.nc_yang_leafs.specs.inner.Sites.{work}
-use Rattle.nc_yang_leafs.specs.inner.Tables.{AddsTypes, Asked, Asks, Fills, Fits, IsOnWay, IsReady, IsRight, IsSettled, LosesPath, Work, number_at, number_of, slot_at}
+use Rattle.nc_yang_leafs.specs.inner.Tables.{Asked, Asks, Fills, IsAtStart, IsReady, IsRight, LosesPath, Work, number_at, number_of}
 use Rattle.nc_yang_leafs.proofs.AskLemmas.{asked_more, asked_none}
-use Rattle.nc_yang_leafs.proofs.ClosingLemmas.{closes, one_and, types_kept}
+use Rattle.nc_yang_leafs.proofs.ClosingLemmas.{closes, closes_plan, one_and, types_kept}
 use Rattle.nc_yang_leafs.proofs.LaterLemmas.{ready_next}
-use Rattle.nc_yang_leafs.proofs.StepLemmas.{fits_kept, has_plan_at}
+use Rattle.nc_yang_leafs.proofs.StepLemmas.{among_whole, fits_kept, has_plan_at}
 
 pub if_ok_on : {A E : Type 0} {P Q : A → Type 0} (r : Result A E) → ((x : A) → P x → Q x) → IfOk r P → IfOk r Q
 if_ok_on (Ok x) f h = f x h
@@ -83,24 +82,33 @@ module _ (derived : List Located → List QName → Type 0) (w : Work) (statemen
         let there : plan_at w.meanings.findings statement ≡ Some q = subst (λ y. plan_at w.meanings.findings y ≡ Some q) (sym one) f.2 in
         cc
 
-    pub on_way : IsOnWay derived on w top new
+    pub on_way : IsAtStart derived on w top new
     on_way = record {
       right = right;
       used = λ q n le found. record {
         statement = top;
         has = subst (λ y. HasPlan on w.scoping w.meanings.plans top y) (used q n le found) (has_plan_at on w.scoping w.meanings are statement top plan here at);
-        within = λ path uses. uses;
+        among = itself;
       };
+      given = λ q n le found. asked.given q n (let made = ready.settled.made in let same = ap length asked.types in omega (arith, le, made, same)) found;
+      past = omega arith;
       few = (let made = ready.settled.made in let same = ap length asked.types in
           let e : length new.plans ≡ length old.plans + length asked.more = ap length asked.plans ∙ length-append old.plans asked.more in omega (arith, made, same, e));
     }
 
-    pub gives_number : (last : Table) → Fills derived w new last → GivesNumber derived on w top old last number
+    pub gives_number : (last : Table) → Fills derived on w top new last → GivesNumber derived on w top old last number
     gives_number last fills = record {
       adds = (fills.adds.0, fills.adds.1 ∙ ap (λ z. z ++ fills.adds.0) asked.types);
       settled = fills.settled;
       means = λ whole. one_and (Means on w.scoping.texts) (IsEntry derived (leads w.scoping w.given w.node)) last.types top [] number []
           (closes derived on w are last fills.settled top whole statement plan number here at (fills.kept plan number known)) none;
+      fresh = λ whole other le less. (
+          let u = fills.used other (let same = ap length asked.types in omega (arith, le, same)) less in (
+            u.1.statement,
+            u.1.among,
+            one_and (Means on w.scoping.texts) (IsEntry derived (leads w.scoping w.given w.node)) last.types u.1.statement [] other []
+                (closes_plan derived on w are last fills.settled u.1.statement (among_whole on w.scoping.texts top u.1.statement whole u.1.among) u.0 other u.1.has u.2) none,
+          ));
     }
 
 -- a data node with a value
@@ -122,6 +130,17 @@ module _ (derived : List Located → List QName → Type 0) (b : Basis) (w : Wor
               (g.means (subst (λ z. MeansWhole b.on z.texts m.0) same m.2)))));
           other = λ f. absurd (let t = valued in cc);
         };
+        fresh = λ other le less. (
+            let f = g.fresh (subst (λ z. MeansWhole b.on z.texts m.0) same m.2) other le less in
+            record {
+              valued = valued;
+              of_type = m.0;
+              is = m.1;
+              one = f.0;
+              among = subst (λ z. IsAmong b.on z.texts m.0 f.0) (sym same) f.1;
+              has = subst (λ z. HasTypes (Means b.on z.texts) (IsEntry derived (leads z b.given w.node)) new.types (f.0 ∷ []) (other ∷ [])) (sym same)
+                  (subst (λ z. HasTypes (Means b.on w.scoping.texts) (IsEntry derived (leads w.scoping z w.node)) new.types (f.0 ∷ []) (other ∷ [])) (sym same_given) f.2);
+            });
       }
 
   pub breaks_kind : (fault : TextFault) → (IsReady derived w old → OnNumber w.scoping statement (λ top. LosesPath b.on w top fault)) → BreaksAt b w kind fault
@@ -137,11 +156,31 @@ module _ (derived : List Located → List QName → Type 0) (b : Basis) where
     other = has.other;
   }
 
+  pub use_kept : (types more : List ValueType) (number : ℕ) → IsInUse derived b types number → IsInUse derived b (types ++ more) number
+  use_kept types more number (place, node, there, use_of) = (
+    place,
+    node,
+    there,
+    record {
+      valued = use_of.valued;
+      of_type = use_of.of_type;
+      is = use_of.is;
+      one = use_of.one;
+      among = use_of.among;
+      has = types_kept (Means b.on b.scoping.texts) (IsEntry derived (leads b.scoping b.given place)) types more (use_of.one ∷ []) (number ∷ []) use_of.has;
+    },
+  )
+
   pub have_more : (old new : List ValueType) (count : ℕ) (kinds : List ℕ) (given : ℕ) (node : Node) → HaveKinds derived b old count kinds → (more : List ValueType) → new ≡ old ++ more →
-      slice_get b.given.nodes count ≡ Some node → HasItsType derived b new count node.kind given → HaveKinds derived b new (count + 1) (kinds ++ given ∷ [])
-  have_more old new count kinds given node have more grown there has = record {
+      slice_get b.given.nodes count ≡ Some node → HasItsType derived b new count node.kind given →
+      ((number : ℕ) → length old ≤ number → number < length new → IsOfType derived b new count node.kind number) → HaveKinds derived b new (count + 1) (kinds ++ given ∷ [])
+  have_more old new count kinds given node have more grown there has fresh = record {
     counted = length-append kinds (given ∷ []) ∙ ap (λ z. z + 1) have.counted;
     each = each;
+    used = λ number less. elim (cases_lt number (length old)) [
+      | inl earlier ↦ subst (λ z. IsInUse derived b z number) (sym grown) (use_kept old more number (have.used number earlier))
+      | inr le ↦ (count, node, there, fresh number le less)
+    ];
   }
     where
       each : (number kind : ℕ) (other : Node) → slice_get (kinds ++ given ∷ []) number ≡ Some kind → slice_get b.given.nodes number ≡ Some other → HasItsType derived b new number other.kind kind
@@ -168,7 +207,7 @@ module _ (derived : List Located → List QName → Type 0) (on : ℕ → List �
   given_more number node old new kinds next kind there given gives next_is = record {
     ready = ready_next site.scopes.now site.schema.now site.meanings.now site.marks.now derived known.marked number new gives.settled;
     have = subst (HaveKinds derived (basis_of on site plan) new.types (number + 1)) (sym next_is)
-        (have_more derived (basis_of on site plan) old.types new.types number kinds kind node given.have gives.adds.0 gives.adds.1 there gives.has);
+        (have_more derived (basis_of on site plan) old.types new.types number kinds kind node given.have gives.adds.0 gives.adds.1 there gives.has gives.fresh);
   }
 
   pub breaks_leafref : (number : ℕ) (node : Node) (fault : TextFault) → slice_get site.schema.now.nodes number ≡ Some node → BreaksAt (basis_of on site plan) (work site number) node.kind fault →
@@ -239,6 +278,7 @@ all_typed derived b mid new types kinds blank mid_is have has = record {
   choices = has.choices ∙ ap (λ (z : Tables). z.choices) mid_is;
   counted = has.counted ∙ ap (λ (z : Tables). length z.nodes) mid_is;
   nodes = nodes;
+  entries = λ number less. subst (λ z. IsInUse derived b z number) (sym types_are) (have.used number (let same = ap length types_are in omega (arith, less, same)));
 }
   where
     types_are : new.types ≡ types

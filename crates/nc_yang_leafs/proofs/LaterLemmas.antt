@@ -1,6 +1,6 @@
 -- What was given for one data node does for the next, where no leafref is in it.
-use Rattle.std.proofs.Common.{inl, inr, ◌≡◌, ◌≢◌, ◌<◌, ◌≤◌, ◌+◌, ◌==◌, ◌&&◌, ℕ, zero, suc, Bool, true, false, not, cond, List, [], ◌∷◌, ◌++◌, length, map, refl, sym, ap, ◌∙◌, subst, arith}
-use Rattle.std.specs.Prelude.{Option, Some, None, slice_get, option_and_then, unwrap_or, replicate}
+use Rattle.std.proofs.Common.{◌≡◌, ◌≤◌, ◌+◌, ◌==◌, ◌&&◌, ℕ, zero, suc, Bool, true, false, not, cond, List, [], ◌∷◌, map, refl, sym, ap, ◌∙◌, arith}
+use Rattle.std.specs.Prelude.{Option, Some, None, option_and_then, replicate}
 use Rattle.std.specs.List.{list_all}
 use Rattle.std.specs.Option.{option_map_or}
 use Rattle.nc_names.specs.declared.name.QName.{QName}
@@ -12,9 +12,9 @@ use Rattle.nc_yang_meanings.specs.declared.planned.Planned.{Planned}
 use Rattle.nc_yang_meanings.specs.declared.planned.Planned.TheVariants.{Bases, Finished, Leafref, Members}
 use Rattle.nc_yang_leafs.specs.declared.table.Slot.{Slot}
 use Rattle.nc_yang_leafs.specs.declared.table.Table.{Table}
-use Rattle.nc_yang_leafs.specs.inner.Marks.{AreMarks, are_unmarked, is_marked, is_plain, is_unmarked_at, plan_at}
+use Rattle.nc_yang_leafs.specs.Marks.{AreMarks, is_marked, is_plain, is_unmarked_at, plan_at}
 use Rattle.nc_yang_leafs.specs.inner.Nodes.{blank}
-use Rattle.nc_yang_leafs.specs.inner.Tables.{Fits, IsReady, IsRight, IsSettled, Work, number_at, number_in, number_of, slot_at}
+use Rattle.nc_yang_leafs.specs.inner.Tables.{Fits, IsReady, IsSettled, Work, number_at, number_in, number_of, slot_at}
 
 module _ (scoping : Scoping) (given : Tables) (meanings : Meanings) (marks : List Bool) where
   abbrev pub at_node : ℕ → Work

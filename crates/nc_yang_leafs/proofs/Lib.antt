@@ -4,3 +4,6 @@ pub mod ClosingLemmas
 pub mod LaterLemmas
 pub mod GiveLemmas
 pub mod EntryLemmas
+pub mod SoundLemmas
+pub mod LeafrefLemmas
+pub mod ProperLemmas

@@ -2,4 +2,6 @@ pub mod Conditions
 pub mod Bases
 pub mod Typings
 pub mod Faults
+pub mod Marks
+pub mod Laws
 pub mod inner

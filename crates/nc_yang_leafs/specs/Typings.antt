@@ -1,5 +1,5 @@
 -- The types of the leafs and leaf-lists of a schema (RFC 7950 7.6.3, 7.7.3, 9).
-use Rattle.std.specs.Prelude.{◌≡◌, ℕ, List, [], ◌∷◌, length, Option, Some, IsTrue, IsFalse, IsSomeAnd, slice_get}
+use Rattle.std.specs.Prelude.{◌≡◌, ◌<◌, ℕ, Bool, Contains, List, [], ◌∷◌, length, Option, Some, IsTrue, IsFalse, IsSomeAnd, slice_get}
 use Rattle.nc_names.specs.declared.name.QName.{QName}
 use Rattle.nc_schema.specs.declared.node.Kind.{Kind}
 use Rattle.nc_schema.specs.declared.node.Node.{Node}
@@ -10,6 +10,7 @@ use Rattle.nc_schema.specs.declared.value_type.ValueType.TheVariants.{Leafref as
 use Rattle.nc_schema.specs.Kinds.{has_value}
 use Rattle.nc_schema.specs.Proper.{EachNode}
 use Rattle.nc_schema.specs.Tables.{Tables}
+use Rattle.nc_yang_words.specs.declared.statement.Statement.{Statement}
 use Rattle.nc_yang_scopes.specs.Scopes.{Located}
 use Rattle.nc_yang_meanings.specs.Meanings.{DerivedFrom, Entry, Meaning, Means, OneOf, Refers}
 use Rattle.nc_yang_meanings.specs.Wholes.{members_of}
@@ -43,6 +44,26 @@ abbrev pub HasType : (derived : List Located → List QName → Type 0) → Basi
 HasType derived b types node l number =
     HasTypes (Means b.on b.scoping.texts) (IsEntry derived (leads b.scoping b.given node)) types (l ∷ []) (number ∷ [])
 
+-- a `type` statement is that one, or one of its members, down to the last (RFC 7950 9.12)
+pub data IsAmong (on : ℕ → List ℕ → Bool) (texts : List Statement) (top : Located) : Located → Type 0 where
+  itself : IsAmong on texts top top
+  member : (one l : Located) (members : List Located) → IsAmong on texts top one → Means on texts one (OneOf members)
+      → Contains members l → IsAmong on texts top l
+
+-- an entry is of the type of a data node of a kind, or of one of its members
+pub record IsOfType (derived : List Located → List QName → Type 0) (b : Basis) (types : List ValueType) (number : ℕ) (kind : Kind) (entry : ℕ) : Type 0 where
+  pub valued : IsTrue (has_value kind)
+  pub of_type : Located
+  pub is : type_of b.scoping b.plan number ≡ Some of_type
+  pub one : Located
+  pub among : IsAmong b.on b.scoping.texts of_type one
+  pub has : HasType derived b types number one entry
+
+-- a leaf or leaf-list uses an entry of the table of types
+abbrev pub IsInUse : (derived : List Located → List QName → Type 0) → Basis → (types : List ValueType) → (entry : ℕ) → Type 0
+IsInUse derived b types entry =
+    (number : ℕ) × (node : Node) × (slice_get b.given.nodes number ≡ Some node) × IsOfType derived b types number node.kind entry
+
 -- a data node of a kind has that type: a leaf or leaf-list what its `type` statement means, and any other 0
 pub record HasItsType (derived : List Located → List QName → Type 0) (b : Basis) (types : List ValueType) (number : ℕ) (kind : Kind) (kind_of_value : ℕ) : Type 0 where
   pub valued : IsTrue (has_value kind) → (l : Located) → type_of b.scoping b.plan number ≡ Some l → HasType derived b types number l kind_of_value
@@ -59,3 +80,4 @@ pub record IsTyped (derived : List Located → List QName → Type 0) (b : Basis
   pub counted : length tables.nodes ≡ length b.given.nodes
   pub nodes : EachNode b.given (λ number old.
       IsSomeAnd (slice_get tables.nodes number) (λ new. IsSameNode old new × HasItsType derived b tables.types number new.kind new.kind_of_value))
+  pub entries : (number : ℕ) → number < length tables.types → IsInUse derived b tables.types number

@@ -1,4 +1,3 @@
-pub mod Marks
 pub mod Tables
 pub mod Sites
 pub mod Nodes

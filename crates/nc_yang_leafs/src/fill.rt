@@ -47,11 +47,11 @@ impl Table {
         requires prefixes { HasPrefixes site.now }
         requires located { D.located identities.now ≡ site.now.scopes.now.located }
         ensures ok { OnOk result ((on : ℕ → List ℕ → Bool) → AreMeanings on site.now.scopes.now site.now.meanings.now
-            → (top : Located) → words.IsOnWay (D.derived identities.now) on (work site.now node) top self.old
-            → words.Fills (D.derived identities.now) (work site.now node) self.old self.new) }
+            → (top : Located) → words.IsAtStart (D.derived identities.now) on (work site.now node) top self.old
+            → words.Fills (D.derived identities.now) on (work site.now node) top self.old self.new) }
         ensures fault { IfErr result (λ stop. OnBroken stop (λ fault. (on : ℕ → List ℕ → Bool)
             → AreMeanings on site.now.scopes.now site.now.meanings.now → (top : Located)
-            → words.IsOnWay (D.derived identities.now) on (work site.now node) top self.old
+            → words.IsAtStart (D.derived identities.now) on (work site.now node) top self.old
             → words.LosesPath on (work site.now node) top fault)) }
     {
         for _ in 0..usize::MAX {

@@ -5,8 +5,9 @@
 //!
 //! `typed` gives a schema its table of types and each leaf and leaf-list the number of its own, or a leafref whose
 //! path leads to no leaf or leaf-list. Types without a leafref in them are shared by all that use them; one with a
-//! leafref is made for each data node, since its path starts there. Each entry of the table is made once, and no
-//! call recurses along the members of unions.
+//! leafref is made for each data node, since its path starts there. Each entry of the table is made once and for
+//! some data node, and no call recurses along the members of unions. By the law `types_are_proper` the types then are
+//! those of a proper schema. `marks_of` tells types with a leafref in them from those without one.
 #![tactic(auto)]
 
 mod copies;
@@ -14,6 +15,7 @@ mod derives;
 mod entry;
 mod fill;
 mod kinds;
+mod laws;
 mod marks;
 mod node;
 mod site;
@@ -22,5 +24,7 @@ mod table;
 mod typing;
 
 pub use derives::Derives;
+pub use laws::types_are_proper;
+pub use marks::{is_marked, marks_of, plan_at};
 pub use stop::LeafFault;
 pub use typing::typed;

@@ -1,14 +1,14 @@
 //! Which plans may have a leafref in them.
 ghost use Rattle.std.specs.Prelude.{◌≡◌, true, IfOk};
-ghost use Rattle.nc_yang_leafs.specs.inner.Marks as words;
+ghost use Rattle.nc_yang_leafs.specs.Marks as words;
 
 use nc_names::{Many, Memory};
 use nc_yang_meanings::{Finding, Meanings, Planned};
 use nc_yang_order::{Ordered, is_within, targets_first};
 use std::alloc::Global;
 
-/// The number of the plan of the `type` statement of a number.
-pub(crate) fn plan_at(meanings: &Meanings, number: usize) -> Option<usize>
+/// The number of the plan of the `type` statement of a number, if it has a plan.
+pub fn plan_at(meanings: &Meanings, number: usize) -> Option<usize>
     ensures { result ≡ words.plan_at meanings.now.findings number }
 {
     match meanings.findings.get(number) {
@@ -17,8 +17,8 @@ pub(crate) fn plan_at(meanings: &Meanings, number: usize) -> Option<usize>
     }
 }
 
-/// Whether a plan may have a leafref in it.
-pub(crate) fn is_marked(marks: &[bool], plan: usize) -> bool
+/// Whether a plan may have a leafref in it, by its mark; what has no mark may.
+pub fn is_marked(marks: &[bool], plan: usize) -> bool
     ensures { result ≡ words.is_marked marks.now plan }
 {
     match marks.get(plan) {
@@ -133,8 +133,9 @@ fn along(alloc: Global, meanings: &Meanings) -> Result<Many<bool>, Memory> {
     Ok(marks)
 }
 
-/// Which plans may have a leafref in them: those that have one, or all where a union leads back to itself.
-pub(crate) fn marks_of(alloc: Global, meanings: &Meanings) -> Result<Many<bool>, Memory>
+/// Which plans may have a leafref in them, at any depth of unions: those that have one, or all where a union leads back
+/// to itself. What is not marked is neither a leafref nor a union with a member that is marked.
+pub fn marks_of(alloc: Global, meanings: &Meanings) -> Result<Many<bool>, Memory>
     ensures { IfOk result (words.AreMarks meanings.now) }
 {
     let marks = along(alloc, meanings)?;

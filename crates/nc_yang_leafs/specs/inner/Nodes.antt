@@ -1,12 +1,12 @@
 -- The type of one data node, and of several.
-use Rattle.std.specs.Prelude.{◌≡◌, ℕ, Bool, List, [], ◌∷◌, length, replicate, Some, None, IsTrue, slice_get}
+use Rattle.std.specs.Prelude.{◌≡◌, ◌<◌, ◌≤◌, ℕ, Bool, List, [], ◌∷◌, length, replicate, Some, None, IsTrue, slice_get}
 use Rattle.nc_names.specs.declared.name.QName.{QName}
 use Rattle.nc_schema.specs.declared.node.Kind.{Kind}
 use Rattle.nc_schema.specs.declared.node.Node.{Node}
 use Rattle.nc_schema.specs.declared.value_type.ValueType.{ValueType}
 use Rattle.nc_schema.specs.Kinds.{has_value}
 use Rattle.nc_yang_scopes.specs.declared.naming.TextFault.{TextFault}
-use Rattle.nc_yang_scopes.specs.Scopes.{Located, Scoping}
+use Rattle.nc_yang_scopes.specs.Scopes.{Located}
 use Rattle.nc_yang_nodes.specs.declared.planned.Plan.{Plan}
 use Rattle.nc_yang_meanings.specs.declared.planned.Meanings.{Meanings}
 use Rattle.nc_yang_meanings.specs.Meanings.{Means}
@@ -15,8 +15,8 @@ use Rattle.nc_yang_meanings.specs.Wholes.{MeansWhole}
 use Rattle.nc_yang_leafs.specs.declared.table.Table.{Table}
 use Rattle.nc_yang_leafs.specs.declared.site.Site.{Site}
 use Rattle.nc_yang_leafs.specs.Bases.{AllMeanWhole, Basis, leads, type_of}
-use Rattle.nc_yang_leafs.specs.Typings.{HasItsType, HasTypes, IsEntry}
-use Rattle.nc_yang_leafs.specs.inner.Marks.{AreMarks}
+use Rattle.nc_yang_leafs.specs.Typings.{HasItsType, HasTypes, IsAmong, IsEntry, IsInUse, IsOfType}
+use Rattle.nc_yang_leafs.specs.Marks.{AreMarks}
 use Rattle.nc_yang_leafs.specs.inner.Sites.{work}
 use Rattle.nc_yang_leafs.specs.inner.Tables.{AddsTypes, IsReady, IsSettled, LosesPath, Work}
 
@@ -29,6 +29,8 @@ pub record GivesNumber (derived : List Located → List QName → Type 0) (on : 
   pub settled : IsSettled derived w new
   pub means : MeansWhole on w.scoping.texts top →
       HasTypes (Means on w.scoping.texts) (IsEntry derived (leads w.scoping w.given w.node)) new.types (top ∷ []) (number ∷ [])
+  pub fresh : MeansWhole on w.scoping.texts top → (other : ℕ) → length old.types ≤ other → other < length new.types →
+      (l : Located) × IsAmong on w.scoping.texts top l × HasTypes (Means on w.scoping.texts) (IsEntry derived (leads w.scoping w.given w.node)) new.types (l ∷ []) (other ∷ [])
 
 -- a data node may be given a type
 pub record MayGive (derived : List Located → List QName → Type 0) (b : Basis) (w : Work) (kind : Kind) (table : Table) : Type 0 where
@@ -41,6 +43,7 @@ pub record Gives (derived : List Located → List QName → Type 0) (b : Basis) 
   pub adds : AddsTypes old new
   pub settled : IsSettled derived w new
   pub has : HasItsType derived b new.types w.node kind kind_of_value
+  pub fresh : (number : ℕ) → length old.types ≤ number → number < length new.types → IsOfType derived b new.types w.node kind number
 
 -- the path of a leafref in its type leads nowhere
 pub record BreaksAt (b : Basis) (w : Work) (kind : Kind) (fault : TextFault) : Type 0 where
@@ -53,11 +56,12 @@ pub record BreaksAt (b : Basis) (w : Work) (kind : Kind) (fault : TextFault) : T
 abbrev pub blank : ℕ → Table
 blank count = record { known = replicate count None; plans = []; types = [] }
 
--- the first so many data nodes have those types
+-- the first so many data nodes have those types, and each type is in use
 pub record HaveKinds (derived : List Located → List QName → Type 0) (b : Basis) (types : List ValueType) (count : ℕ) (kinds : List ℕ) : Type 0 where
   pub counted : length kinds ≡ count
   pub each : (number kind : ℕ) (node : Node) → slice_get kinds number ≡ Some kind → slice_get b.given.nodes number ≡ Some node →
       HasItsType derived b types number node.kind kind
+  pub used : (number : ℕ) → number < length types → IsInUse derived b types number
 
 -- what is known of the schema and of what its types mean
 pub record IsKnown (b : Basis) (meanings : Meanings) (marks : List Bool) : Type 0 where

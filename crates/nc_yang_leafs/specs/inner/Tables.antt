@@ -1,5 +1,5 @@
 -- The table of types as it grows: of which plan each number is, and which numbers are given to plans.
-use Rattle.std.specs.Prelude.{◌≡◌, ◌==◌, ◌&&◌, ◌<◌, ◌≤◌, ◌⊎◌, ℕ, Bool, true, false, not, if◌then◌else◌, List, [], ◌∷◌, ◌++◌, map, length, Option, Some, None, IsTrue, IsFalse, slice_get, slice_set, unwrap_or, option_and_then, Contains}
+use Rattle.std.specs.Prelude.{◌≡◌, ◌==◌, ◌&&◌, ◌<◌, ◌≤◌, ◌⊎◌, ℕ, Bool, not, if◌then◌else◌, List, [], ◌∷◌, ◌++◌, map, length, Option, Some, None, slice_get, slice_set, unwrap_or, option_and_then, Contains}
 use Rattle.nc_names.specs.declared.name.QName.{QName}
 use Rattle.nc_schema.specs.declared.pattern.LeafrefEnd.{LeafrefEnd}
 use Rattle.nc_schema.specs.declared.value_type.ValueType.{ValueType}
@@ -8,7 +8,6 @@ use Rattle.nc_schema.specs.declared.value_type.ValueType.TheVariants.{Leafref as
 use Rattle.nc_schema.specs.Tables.{Tables}
 use Rattle.nc_yang_scopes.specs.declared.naming.TextFault.{TextFault}
 use Rattle.nc_yang_scopes.specs.Scopes.{Located, Scoping}
-use Rattle.nc_yang_meanings.specs.declared.planned.Finding.{Finding}
 use Rattle.nc_yang_meanings.specs.declared.planned.Meanings.{Meanings}
 use Rattle.nc_yang_meanings.specs.declared.planned.Planned.{Planned}
 use Rattle.nc_yang_meanings.specs.declared.planned.Planned.TheVariants.{Bases, Finished, Leafref, Members}
@@ -19,7 +18,8 @@ use Rattle.nc_yang_leafs.specs.declared.table.Slot.{Slot}
 use Rattle.nc_yang_leafs.specs.declared.table.Table.{Table}
 use Rattle.nc_yang_leafs.specs.Bases.{leads}
 use Rattle.nc_yang_leafs.specs.Faults.{fault_at}
-use Rattle.nc_yang_leafs.specs.inner.Marks.{is_marked, plan_at}
+use Rattle.nc_yang_leafs.specs.Typings.{IsAmong}
+use Rattle.nc_yang_leafs.specs.Marks.{is_marked, plan_at}
 
 -- for which data node types are made, and from what
 pub record Work : Type 0 where
@@ -74,6 +74,7 @@ pub record Asked (w : Work) (members : List ℕ) (old new : Table) (numbers : Li
   pub kept : (plan number : ℕ) → number_of w.marks old.known w.node plan ≡ Some number → number_of w.marks new.known w.node plan ≡ Some number
   pub fresh : (plan number : ℕ) → number_of w.marks new.known w.node plan ≡ Some number →
       (number_of w.marks old.known w.node plan ≡ Some number) ⊎ ((length old.plans ≤ number) × (slice_get new.plans number ≡ Some plan))
+  pub given : (plan number : ℕ) → length old.plans ≤ number → slice_get new.plans number ≡ Some plan → number_of w.marks new.known w.node plan ≡ Some number
   pub stamped : (plan : ℕ) (slot : Slot) → slot_at new.known plan ≡ Some slot → (slot_at old.known plan ≡ Some slot) ⊎ (slot.node ≡ w.node)
   pub answers : map (number_at w new.known) members ≡ map Some numbers
 
@@ -141,7 +142,7 @@ pub record LosesPlan (w : Work) (plan : ℕ) (fault : TextFault) : Type 0 where
 pub record IsUsed (on : ℕ → List ℕ → Bool) (w : Work) (top : Located) (plan : ℕ) : Type 0 where
   pub statement : Located
   pub has : HasPlan on w.scoping w.meanings.plans statement plan
-  pub within : (path : Located) → UsesPath on w.scoping.texts statement path → UsesPath on w.scoping.texts top path
+  pub among : IsAmong on w.scoping.texts top statement
 
 -- entries are right as far as they are made
 pub record IsRight (derived : List Located → List QName → Type 0) (w : Work) (table : Table) : Type 0 where
@@ -150,11 +151,17 @@ pub record IsRight (derived : List Located → List QName → Type 0) (w : Work)
       slice_get table.types number ≡ Some entry → slice_get w.meanings.plans plan ≡ Some planned → Fits derived w table.known planned entry
   pub stamped : (plan : ℕ) (slot : Slot) → slot_at table.known plan ≡ Some slot → slot.node ≤ w.node
 
--- those that are yet to be made are for the type of the data node
-pub record IsOnWay (derived : List Located → List QName → Type 0) (on : ℕ → List ℕ → Bool) (w : Work) (top : Located) (table : Table) : Type 0 where
+-- the numbers from that one on are for the type of the data node, and those that are yet to be made are among them
+pub record IsOnWay (derived : List Located → List QName → Type 0) (on : ℕ → List ℕ → Bool) (w : Work) (top : Located) (start : ℕ) (table : Table) : Type 0 where
   pub right : IsRight derived w table
-  pub used : (plan number : ℕ) → length table.types ≤ number → slice_get table.plans number ≡ Some plan → IsUsed on w top plan
+  pub used : (plan number : ℕ) → start ≤ number → slice_get table.plans number ≡ Some plan → IsUsed on w top plan
+  pub given : (plan number : ℕ) → start ≤ number → slice_get table.plans number ≡ Some plan → number_of w.marks table.known w.node plan ≡ Some number
+  pub past : start ≤ length table.types
   pub few : length table.types ≤ length table.plans
+
+-- none of them is made
+abbrev pub IsAtStart : (derived : List Located → List QName → Type 0) → (on : ℕ → List ℕ → Bool) → Work → (top : Located) → Table → Type 0
+IsAtStart derived on w top table = IsOnWay derived on w top (length table.types) table
 
 -- all are made
 pub record IsSettled (derived : List Located → List QName → Type 0) (w : Work) (table : Table) : Type 0 where
@@ -174,13 +181,15 @@ AddsTypes old new = (more : List ValueType) × (new.types ≡ old.types ++ more)
 pub record Goes (derived : List Located → List QName → Type 0) (on : ℕ → List ℕ → Bool) (w : Work) (top : Located) (old new : Table) : Type 0 where
   pub adds : AddsTypes old new
   pub kept : (plan number : ℕ) → number_of w.marks old.known w.node plan ≡ Some number → number_of w.marks new.known w.node plan ≡ Some number
-  pub on_way : IsOnWay derived on w top new
+  pub on_way : IsOnWay derived on w top (length old.types) new
 
 -- the entries of all numbers are made
-pub record Fills (derived : List Located → List QName → Type 0) (w : Work) (old new : Table) : Type 0 where
+pub record Fills (derived : List Located → List QName → Type 0) (on : ℕ → List ℕ → Bool) (w : Work) (top : Located) (old new : Table) : Type 0 where
   pub adds : AddsTypes old new
   pub kept : (plan number : ℕ) → number_of w.marks old.known w.node plan ≡ Some number → number_of w.marks new.known w.node plan ≡ Some number
   pub settled : IsSettled derived w new
+  pub used : (number : ℕ) → length old.types ≤ number → number < length new.types →
+      (plan : ℕ) × IsUsed on w top plan × (number_of w.marks new.known w.node plan ≡ Some number)
 
 -- the path of a leafref in a type leads nowhere
 pub record LosesPath (on : ℕ → List ℕ → Bool) (w : Work) (top : Located) (fault : TextFault) : Type 0 where

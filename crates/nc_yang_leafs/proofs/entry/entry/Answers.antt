@@ -1,6 +1,3 @@
-use Rattle.std.proofs.Common.{[], refl, sym, subst}
-use Rattle.std.specs.Prelude.{IfOk}
-use Rattle.nc_yang_meanings.specs.declared.planned.Planned.TheVariants.{Bases, Finished}
 use Rattle.nc_yang_leafs.specs.inner.Sites.{work}
 use Rattle.nc_yang_leafs.proofs.EntryLemmas.{enters_bases, enters_finished, enters_leafref}
 use Rattle.nc_yang_leafs.proofs.entry.entry.Goals as goal

@@ -1,7 +1,7 @@
 use Rattle.std.proofs.Common.{◌≡◌, ◌<◌, ℕ, true, false}
 use Rattle.std.specs.Prelude.{Some, slice_get}
 use Rattle.nc_yang_meanings.specs.declared.planned.Planned.{Planned}
-use Rattle.nc_yang_leafs.specs.inner.Marks.{is_marked, is_plain}
+use Rattle.nc_yang_leafs.specs.Marks.{is_marked, is_plain}
 use Rattle.nc_yang_leafs.proofs.marks.are_marks.Given as goal
 
 abbrev pub invariant-loop-plan : goal.invariant-loop-plan

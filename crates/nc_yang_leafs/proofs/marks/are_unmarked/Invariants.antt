@@ -1,5 +1,5 @@
 use Rattle.std.proofs.Common.{◌≡◌, drop}
-use Rattle.nc_yang_leafs.specs.inner.Marks.{are_unmarked}
+use Rattle.nc_yang_leafs.specs.Marks.{are_unmarked}
 use Rattle.nc_yang_leafs.proofs.marks.are_unmarked.Given as goal
 
 abbrev pub invariant-loop-member : goal.invariant-loop-member

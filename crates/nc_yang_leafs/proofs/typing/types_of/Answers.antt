@@ -1,5 +1,5 @@
 use Rattle.std.proofs.Common.{sym, subst}
-use Rattle.nc_yang_leafs.specs.inner.Marks.{AreMarks}
+use Rattle.nc_yang_leafs.specs.Marks.{AreMarks}
 use Rattle.nc_yang_leafs.proofs.GiveLemmas.{if_ok_on}
 use Rattle.nc_yang_leafs.proofs.typing.types_of.Goals as goal
 

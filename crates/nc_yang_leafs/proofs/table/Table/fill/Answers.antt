@@ -2,7 +2,7 @@ use Rattle.std.proofs.Common.{◌∙◌, sym, ap}
 use Rattle.std.specs.Prelude.{slice_get}
 use Rattle.std.proofs.lemmas.Result.{err_from_is_err_and}
 use Rattle.nc_yang_leafs.specs.inner.Sites.{work}
-use Rattle.nc_yang_leafs.proofs.StepLemmas.{all_filled, goes_on, lost_on, step_on}
+use Rattle.nc_yang_leafs.proofs.StepLemmas.{all_filled, lost_on, step_on}
 use Rattle.nc_yang_leafs.proofs.table.Table.fill.Goals as goal
 
 pub returns-in_default-clause-ok : goal.returns-in_default-clause-ok
@@ -19,7 +19,5 @@ returns-in_err-add-clause-fault g c =
 
 pub loop-preserved : goal.loop-preserved
 loop-preserved g c = λ on are top way.
-    let so_far = c.loop.invariant on are top way in
-    goes_on (g.D.Derives.derived c.args.identities.now) (work c.args.site.now c.args.node) on top c.args.self.now c.loop.self c.add.new.self so_far
-    (step_on (g.D.Derives.derived c.args.identities.now) (work c.args.site.now c.args.node) on are top c.in-Some.plan c.loop.self c.add.new.self so_far.on_way
-    (ap (slice_get c.loop.self.plans) (sym c.len.ensures) ∙ sym c.get.ensures.value ∙ sym c.copied.ensures ∙ c.in-Some.is) c.in_ok-add.ensures.ok)
+    step_on (g.D.Derives.derived c.args.identities.now) (work c.args.site.now c.args.node) on are top c.in-Some.plan c.args.self.now c.loop.self c.add.new.self (c.loop.invariant on are top way)
+    (ap (slice_get c.loop.self.plans) (sym c.len.ensures) ∙ sym c.get.ensures.value ∙ sym c.copied.ensures ∙ c.in-Some.is) c.in_ok-add.ensures.ok

@@ -1,4 +1,4 @@
-use Rattle.std.proofs.Common.{◌≡◌, Bool, true, refl, subst, arith}
+use Rattle.std.proofs.Common.{◌≡◌, true, refl, subst, arith}
 use Rattle.std.specs.Prelude.{Some, IfSome, slice_get}
 use Rattle.nc_schema.specs.Kinds.{has_value}
 use Rattle.nc_yang_leafs.specs.inner.Nodes.{basis_of}

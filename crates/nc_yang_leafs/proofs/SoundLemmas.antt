@@ -1,0 +1,155 @@
+-- What a `type` statement says by its own parts is in order: digits of decimals, names of bits.
+use Rattle.std.proofs.Common.{◌≡◌, ◌≢◌, ◌≤◌, ◌&&◌, ℕ, Bool, true, false, cond, List, [], Option, Some, None, refl, subst, arith}
+use Rattle.std.specs.Prelude.{ℤ, pos, negsuc, nat_le, option_map}
+use Rattle.std.specs.List.{AllPairs}
+use Rattle.nc_schema.specs.NumberTexts.{number_of}
+use Rattle.nc_schema.specs.Proper.{IsProperType}
+use Rattle.nc_schema.specs.Tables.{Tables}
+use Rattle.nc_schema.specs.declared.value_type.ValueType.{ValueType}
+use Rattle.nc_schema.specs.declared.value_type.ValueType.TheVariants.{Whole, Decimal, Chars as String, Boolean as Truth, Enumeration as Names, Bits as Set, Binary as Octets, Empty as Nothing, Union as Members, Identity, Leafref, Instance, NodeInstance}
+use Rattle.nc_yang_words.specs.declared.statement.Statement.{Statement}
+use Rattle.nc_yang_statements.specs.declared.built_in.BuiltIn.{BuiltIn}
+use Rattle.nc_yang_statements.specs.declared.built_in.BuiltIn.TheVariants.{Binary, Bits, Boolean, Decimal64, Empty, Enumeration, IdentityRef, InstanceIdentifier, Int8, Int16, Int32, Int64, LeafRef, Chars, Uint8, Uint16, Uint32, Uint64, Union}
+use Rattle.nc_yang_statements.specs.declared.keyword.Keyword.TheVariants.{Base, FractionDigits, Length, Path, Range, TypeName}
+use Rattle.nc_yang_statements.specs.Statements.{below, name, part}
+use Rattle.nc_yang_scopes.specs.Scopes.{Located}
+use Rattle.nc_yang_types.specs.declared.bound.Counted.TheVariants.{Units, Lengths}
+use Rattle.nc_yang_types.specs.Entries.{decimal, decimals, digits_by, digits_in, digits_of, integers, lengths, narrowed, own, own_faults, required, restricted}
+use Rattle.nc_yang_types.specs.Members.{bit_names, enum_names}
+use Rattle.nc_yang_meanings.specs.Features.{stands}
+use Rattle.nc_yang_meanings.specs.Meanings.{DerivedFrom, Entry, Meaning, Means, OneOf, Refers, by_itself, meant, over, with_parts}
+use Rattle.nc_yang_meanings.specs.Places.{part_of, parts_of}
+use Rattle.nc_yang_types.proofs.ApartLemmas.{names_apart}
+
+-- an entry that names no other is in order
+abbrev pub IsSound : ValueType → Type 0
+IsSound (Decimal digits among) = (1 ≤ digits) × (digits ≤ 18)
+IsSound (Set names) = AllPairs (λ name later. name ≢ later) names
+IsSound (Members members) = ⊥
+IsSound (Identity among) = ⊥
+IsSound (Leafref target above need) = ⊥
+IsSound other = Unit {0}
+
+pub sound_proper : (tables : Tables) (entry : ValueType) → IsSound entry → IsProperType tables entry
+sound_proper tables (Decimal digits among) h = h
+sound_proper tables (Set names) h = h
+sound_proper tables (Members members) h = absurd h
+sound_proper tables (Identity among) h = absurd h
+sound_proper tables (Leafref target above need) h = absurd h
+sound_proper tables (Whole among) h = tt
+sound_proper tables (String among starless) h = tt
+sound_proper tables Truth h = tt
+sound_proper tables (Names names) h = tt
+sound_proper tables (Octets among) h = tt
+sound_proper tables Nothing h = tt
+sound_proper tables (Instance need) h = tt
+sound_proper tables NodeInstance h = tt
+
+-- an entry that is made of what may be there
+made : {A : Type 0} (f : A → ValueType) → ((x : A) → IsSound (f x)) → (o : Option A) (entry : ValueType) → option_map f o ≡ Some entry → IsSound entry
+made f sound None entry e = absurd (cc)
+made f sound (Some x) entry e = let same : f x ≡ entry = cc in subst IsSound same (sound x)
+
+given : (one entry : ValueType) → IsSound one → Some one ≡ Some entry → IsSound entry
+given one entry sound e = let same : one ≡ entry = cc in subst IsSound same sound
+
+-- fraction digits
+within : (n d : ℕ) (b : Bool) → (nat_le 1 n && nat_le n 18) ≡ b → cond b (Some n) None ≡ Some d → (1 ≤ d) × (d ≤ 18)
+within n d false is e = absurd (cc)
+within n d true is e = let same : n ≡ d = cc in (grind arith, grind arith)
+
+digits_within : (o : Option ℤ) (d : ℕ) → digits_in o ≡ Some d → (1 ≤ d) × (d ≤ 18)
+digits_within None d e = absurd (cc)
+digits_within (Some (pos n)) d e = within n d (nat_le 1 n && nat_le n 18) refl e
+digits_within (Some (negsuc n)) d e = absurd (cc)
+
+written_within : (o : Option Statement) (d : ℕ) → digits_by o ≡ Some d → (1 ≤ d) × (d ≤ 18)
+written_within None d e = absurd (cc)
+written_within (Some s) d e = digits_within (number_of (name s)) d e
+
+decimal_sound : (o : Option ℕ) (ss : List Statement) (entry : ValueType) → ((d : ℕ) → o ≡ Some d → (1 ≤ d) × (d ≤ 18)) → decimal o ss ≡ Some entry → IsSound entry
+decimal_sound None ss entry bound e = absurd (cc)
+decimal_sound (Some digits) ss entry bound e = made (λ among. Decimal digits among) (λ among. bound digits refl) (restricted (Units digits) Range decimals ss) entry e
+
+-- of a built-in type
+own_sound : (holds : Statement → Bool) (one : BuiltIn) (s : Statement) (entry : ValueType) → own_faults one s ≡ [] → own holds one (below s) ≡ Some entry → IsSound entry
+own_sound holds Binary s entry off e = made Octets (λ among. tt) (restricted Lengths Length lengths (below s)) entry e
+own_sound holds Bits s entry off e = given (Set (bit_names holds (below s))) entry (names_apart holds s off) e
+own_sound holds Boolean s entry off e = given Truth entry tt e
+own_sound holds Decimal64 s entry off e = decimal_sound (digits_of (below s)) (below s) entry (written_within (part FractionDigits (below s))) e
+own_sound holds Empty s entry off e = given Nothing entry tt e
+own_sound holds Enumeration s entry off e = given (Names (enum_names holds (below s))) entry tt e
+own_sound holds IdentityRef s entry off e = absurd (cc)
+own_sound holds InstanceIdentifier s entry off e = given (Instance (required true (below s))) entry tt e
+own_sound holds Int8 s entry off e = made Whole (λ among. tt) (restricted (Units 0) Range (integers Int8) (below s)) entry e
+own_sound holds Int16 s entry off e = made Whole (λ among. tt) (restricted (Units 0) Range (integers Int16) (below s)) entry e
+own_sound holds Int32 s entry off e = made Whole (λ among. tt) (restricted (Units 0) Range (integers Int32) (below s)) entry e
+own_sound holds Int64 s entry off e = made Whole (λ among. tt) (restricted (Units 0) Range (integers Int64) (below s)) entry e
+own_sound holds LeafRef s entry off e = absurd (cc)
+own_sound holds Chars s entry off e = made (λ among. String among false) (λ among. tt) (restricted Lengths Length lengths (below s)) entry e
+own_sound holds Uint8 s entry off e = made Whole (λ among. tt) (restricted (Units 0) Range (integers Uint8) (below s)) entry e
+own_sound holds Uint16 s entry off e = made Whole (λ among. tt) (restricted (Units 0) Range (integers Uint16) (below s)) entry e
+own_sound holds Uint32 s entry off e = made Whole (λ among. tt) (restricted (Units 0) Range (integers Uint32) (below s)) entry e
+own_sound holds Uint64 s entry off e = made Whole (λ among. tt) (restricted (Units 0) Range (integers Uint64) (below s)) entry e
+own_sound holds Union s entry off e = absurd (cc)
+
+-- of a type over another
+narrowed_sound : (base entry : ValueType) (ss : List Statement) → IsSound base → narrowed base ss ≡ Some entry → IsSound entry
+narrowed_sound (Whole among) entry ss h e = made Whole (λ left. tt) (restricted (Units 0) Range among ss) entry e
+narrowed_sound (Decimal digits among) entry ss h e = made (λ left. Decimal digits left) (λ left. h) (restricted (Units digits) Range among ss) entry e
+narrowed_sound (String among starless) entry ss h e = made (λ left. String left starless) (λ left. tt) (restricted Lengths Length among ss) entry e
+narrowed_sound (Octets among) entry ss h e = made Octets (λ left. tt) (restricted Lengths Length among ss) entry e
+narrowed_sound (Leafref target above need) entry ss h e = absurd h
+narrowed_sound (Instance need) entry ss h e = given (Instance (required need ss)) entry tt e
+narrowed_sound Truth entry ss h e = given Truth entry tt e
+narrowed_sound (Names names) entry ss h e = given (Names names) entry tt e
+narrowed_sound (Set names) entry ss h e = given (Set names) entry h e
+narrowed_sound Nothing entry ss h e = given Nothing entry tt e
+narrowed_sound (Members members) entry ss h e = absurd h
+narrowed_sound (Identity among) entry ss h e = absurd h
+narrowed_sound NodeInstance entry ss h e = given NodeInstance entry tt e
+
+-- of a meaning
+abbrev pub IsSoundMeaning : Meaning → Type 0
+IsSoundMeaning (Entry entry) = IsSound entry
+IsSoundMeaning (OneOf members) = Unit {0}
+IsSoundMeaning (DerivedFrom bases) = Unit {0}
+IsSoundMeaning (Refers path need) = Unit {0}
+
+as_meant : {A : Type 0} (f : A → Meaning) → (o : Option A) (m : Meaning) → ((x : A) → o ≡ Some x → IsSoundMeaning (f x)) → option_map f o ≡ Some m → IsSoundMeaning m
+as_meant f None m sound e = absurd (cc)
+as_meant f (Some x) m sound e = let same : f x ≡ m = cc in subst IsSoundMeaning same (sound x refl)
+
+is_meant : (one m : Meaning) → IsSoundMeaning one → Some one ≡ Some m → IsSoundMeaning m
+is_meant one m sound e = let same : one ≡ m = cc in subst IsSoundMeaning same sound
+
+meant_sound : (on : ℕ → List ℕ → Bool) (one : BuiltIn) (l : Located) (m : Meaning) → own_faults one l.statement ≡ [] → meant on one l ≡ Some m → IsSoundMeaning m
+meant_sound on Union l m off e = is_meant (OneOf (parts_of TypeName l)) m tt e
+meant_sound on IdentityRef l m off e = is_meant (DerivedFrom (parts_of Base l)) m tt e
+meant_sound on LeafRef l m off e = as_meant (λ path. Refers path (required true (below l.statement))) (part_of Path l) m (λ path f. tt) e
+meant_sound on Binary l m off e = as_meant Entry (own (stands on l.place.text) Binary (below l.statement)) m (λ entry f. own_sound (stands on l.place.text) Binary l.statement entry off f) e
+meant_sound on Bits l m off e = as_meant Entry (own (stands on l.place.text) Bits (below l.statement)) m (λ entry f. own_sound (stands on l.place.text) Bits l.statement entry off f) e
+meant_sound on Boolean l m off e = as_meant Entry (own (stands on l.place.text) Boolean (below l.statement)) m (λ entry f. own_sound (stands on l.place.text) Boolean l.statement entry off f) e
+meant_sound on Decimal64 l m off e = as_meant Entry (own (stands on l.place.text) Decimal64 (below l.statement)) m (λ entry f. own_sound (stands on l.place.text) Decimal64 l.statement entry off f) e
+meant_sound on Empty l m off e = as_meant Entry (own (stands on l.place.text) Empty (below l.statement)) m (λ entry f. own_sound (stands on l.place.text) Empty l.statement entry off f) e
+meant_sound on Enumeration l m off e = as_meant Entry (own (stands on l.place.text) Enumeration (below l.statement)) m (λ entry f. own_sound (stands on l.place.text) Enumeration l.statement entry off f) e
+meant_sound on InstanceIdentifier l m off e = as_meant Entry (own (stands on l.place.text) InstanceIdentifier (below l.statement)) m (λ entry f. own_sound (stands on l.place.text) InstanceIdentifier l.statement entry off f) e
+meant_sound on Int8 l m off e = as_meant Entry (own (stands on l.place.text) Int8 (below l.statement)) m (λ entry f. own_sound (stands on l.place.text) Int8 l.statement entry off f) e
+meant_sound on Int16 l m off e = as_meant Entry (own (stands on l.place.text) Int16 (below l.statement)) m (λ entry f. own_sound (stands on l.place.text) Int16 l.statement entry off f) e
+meant_sound on Int32 l m off e = as_meant Entry (own (stands on l.place.text) Int32 (below l.statement)) m (λ entry f. own_sound (stands on l.place.text) Int32 l.statement entry off f) e
+meant_sound on Int64 l m off e = as_meant Entry (own (stands on l.place.text) Int64 (below l.statement)) m (λ entry f. own_sound (stands on l.place.text) Int64 l.statement entry off f) e
+meant_sound on Chars l m off e = as_meant Entry (own (stands on l.place.text) Chars (below l.statement)) m (λ entry f. own_sound (stands on l.place.text) Chars l.statement entry off f) e
+meant_sound on Uint8 l m off e = as_meant Entry (own (stands on l.place.text) Uint8 (below l.statement)) m (λ entry f. own_sound (stands on l.place.text) Uint8 l.statement entry off f) e
+meant_sound on Uint16 l m off e = as_meant Entry (own (stands on l.place.text) Uint16 (below l.statement)) m (λ entry f. own_sound (stands on l.place.text) Uint16 l.statement entry off f) e
+meant_sound on Uint32 l m off e = as_meant Entry (own (stands on l.place.text) Uint32 (below l.statement)) m (λ entry f. own_sound (stands on l.place.text) Uint32 l.statement entry off f) e
+meant_sound on Uint64 l m off e = as_meant Entry (own (stands on l.place.text) Uint64 (below l.statement)) m (λ entry f. own_sound (stands on l.place.text) Uint64 l.statement entry off f) e
+
+parts_sound : (n m : Meaning) (ss : List Statement) → IsSoundMeaning n → with_parts n ss ≡ Some m → IsSoundMeaning m
+parts_sound (Entry base) m ss h e = as_meant Entry (narrowed base ss) m (λ entry f. narrowed_sound base entry ss h f) e
+parts_sound (OneOf members) m ss h e = is_meant (OneOf members) m tt e
+parts_sound (DerivedFrom bases) m ss h e = is_meant (DerivedFrom bases) m tt e
+parts_sound (Refers path need) m ss h e = is_meant (Refers path (required need ss)) m tt e
+
+pub means_sound : (on : ℕ → List ℕ → Bool) (texts : List Statement) (l : Located) (m : Meaning) → Means on texts l m → IsSoundMeaning m
+means_sound on texts _ _ (by_itself l one m built kept is) = meant_sound on one l m kept is
+means_sound on texts _ _ (over l base n m base_is means kept is) = parts_sound n m (below l.statement) (means_sound on texts base n means) is

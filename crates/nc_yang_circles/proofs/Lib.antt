@@ -1,0 +1,5 @@
+pub mod Lists
+pub mod WalkLemmas
+pub mod UseLemmas
+pub mod LinkLemmas
+pub mod CircleLemmas

@@ -8,3 +8,17 @@ pub mod Meaning
 pub mod Planned
 pub mod DataTypes
 pub mod Modules
+pub mod PrefixLemmas
+pub mod NamingLemmas
+pub mod ReadyLemmas
+pub mod Outcomes
+pub mod Carried
+pub mod IdentityNames
+pub mod ProperSchema
+pub mod Alone
+pub mod Chains
+pub mod LeafTypes
+pub mod SameTypes
+pub mod SamePlans
+pub mod Never
+pub mod One

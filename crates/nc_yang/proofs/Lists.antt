@@ -1,8 +1,8 @@
 -- What stands in lists.
 use Rattle.std.proofs.Common.{inl, inr, ◌≡◌, ◌⊎◌, ◌++◌, ℕ, zero, suc, Bool, true, false, cond, List, [], ◌∷◌, length, refl, sym, ap, subst, ◌∙◌}
-use Rattle.std.specs.Prelude.{Option, Some, None, slice_get, option_map, find, Contains}
+use Rattle.std.specs.Prelude.{Option, Some, None, slice_get, option_map, filter, find, Contains}
 use Rattle.std.specs.List.{flat_map}
-use Rattle.std.proofs.lemmas.List.Elements.{Contains-append_left, Contains-append_right}
+use Rattle.std.proofs.lemmas.List.Elements.{Contains-append_cases, Contains-append_left, Contains-append_right, filter_passes}
 use Rattle.nc_yang_order.proofs.Lists.{contains_none}
 use Rattle.nc_yang_loops.proofs.Lists.{contains_cases, contains_first, contains_later}
 
@@ -21,6 +21,15 @@ pub flat_contains : {A B : Type 0} (f : A → List B) (xs : List A) (x : A) (y :
 flat_contains f [] x y i e h = absurd (cc)
 flat_contains f (z ∷ xs) x y zero e h = let same : z ≡ x = cc in Contains-append_left (f z) (flat_map f xs) y (subst (λ w. Contains (f w) y) (sym same) h)
 flat_contains f (z ∷ xs) x y (suc i) e h = Contains-append_right (f z) (flat_map f xs) y (flat_contains f xs x y i e h)
+
+-- and which element gave it
+pub flat_origin : {A B : Type 0} (f : A → List B) (xs : List A) (y : B) → Contains (flat_map f xs) y → (x : A) × (Contains (f x) y)
+flat_origin f [] y h = absurd (contains_none y h)
+flat_origin f (x ∷ xs) y h = elim (Contains-append_cases (f x) (flat_map f xs) y h) [ inl here ↦ (x, here) | inr later ↦ flat_origin f xs y later ]
+
+-- what is left by a test passes it
+pub contained_passes : {A : Type 0} (test : A → Bool) (xs : List A) (x : A) → Contains (filter test xs) x → test x ≡ true
+contained_passes test xs x h = subst (λ z. test z ≡ true) h.2 (filter_passes test xs h.0 x h.1)
 
 -- a list in which nothing stands
 pub none_there : {A : Type 0} (xs : List A) → ((x : A) → Contains xs x → ⊥) → xs ≡ []

@@ -42,11 +42,11 @@ no_reason : (why : Option ModuleWhy) (s : Statement) → ((fault : Fault) → Co
 no_reason None s none = refl
 no_reason (Some why) s none = absurd (some_fault (Some why) s refl none)
 
-fitting : (s : Statement) → ((fault : Fault) → Contains (broken s) fault → ⊥) → why_misfit (kind s) (argument s) ≡ None
+pub fitting : (s : Statement) → ((fault : Fault) → Contains (broken s) fault → ⊥) → why_misfit (kind s) (argument s) ≡ None
 fitting s none =
     no_reason (why_misfit (kind s) (argument s)) s (λ fault h. none fault (Contains-append_left (misfit s) (faulty_below s) fault h))
 
-passed : (b : Bool) (why : ModuleWhy) → why_unless b why ≡ None → b ≡ true
+pub passed : (b : Bool) (why : ModuleWhy) → why_unless b why ≡ None → b ≡ true
 passed true why e = refl
 passed false why e = absurd (cc)
 

@@ -1,10 +1,14 @@
 -- What the laws say.
-use Rattle.std.specs.Prelude.{◌≡◌, ◌≢◌, ℕ, Bool, true, false, List, Some, IsTrue, option_and_then}
+use Rattle.std.specs.Prelude.{◌≡◌, ◌≢◌, ℕ, Bool, true, false, List, map, Some, IsTrue, option_and_then}
 use Rattle.std.specs.List.{All, AllPairs}
+use Rattle.nc_names.specs.declared.name.Bound.{Bound}
 use Rattle.nc_schema.specs.Kinds.{has_value}
-use Rattle.nc_schema.specs.Proper.{EachNode, IsProperModule}
+use Rattle.nc_schema.specs.Proper.{EachNode, IsProperModule, IsProperSchema}
 use Rattle.nc_schema.specs.Tables.{Tables}
+use Rattle.nc_schema.specs.Values.{canonical}
+use Rattle.nc_schema.specs.declared.node.Node.{Node}
 use Rattle.nc_yang_words.specs.declared.statement.Statement.{Statement}
+use Rattle.nc_yang_statements.specs.declared.fault.Fault.{Fault}
 use Rattle.nc_yang_statements.specs.declared.keyword.Keyword.{Keyword}
 use Rattle.nc_yang_statements.specs.declared.keyword.Keyword.TheVariants.{Leaf, LeafList, TypeName}
 use Rattle.nc_yang_statements.specs.Keywords.{is_same_keyword}
@@ -16,9 +20,11 @@ use Rattle.nc_yang_nodes.specs.Plans.{IsPlan, statement_of}
 use Rattle.nc_yang_nodes.specs.Roles.{FeatureTest}
 use Rattle.nc_yang_nodes.specs.declared.planned.Plan.{Plan}
 use Rattle.nc_yang_texts.specs.Rules.{KeepsTexts}
+use Rattle.nc_yang_texts.specs.declared.text.ModuleText.{ModuleText}
 use Rattle.nc_yang_data.specs.Data.{data_tables}
 use Rattle.nc_yang_meanings.specs.Faults.{KeepsTypes}
 use Rattle.nc_yang_meanings.specs.Wholes.{MeansWhole}
+use Rattle.nc_yang.specs.Schemas.{Breaks, Defines}
 
 -- in modules that keep all rules each `type` statement of a text, but for what is passed over, means something, and so
 -- do all members of a union, down to the last
@@ -63,3 +69,35 @@ abbrev pub ModulesAreProper : Type 0
 ModulesAreProper =
     (scoping : Scoping) (features : FeatureTest) (plan : Plan) → KeepsTexts scoping.texts
     → AreModules (data_tables scoping features plan)
+
+-- and the whole schema that modules define is what a schema has to be
+abbrev pub SchemasAreProper : Type 0
+SchemasAreProper =
+    (modules : List ModuleText) (lines : List (List ℕ)) (tables : Tables) → Defines modules lines tables
+    → IsProperSchema tables
+
+-- modules that break a rule have no schema
+abbrev pub NeverBoth : Type 0
+NeverBoth =
+    (modules : List ModuleText) (lines : List (List ℕ)) (tables : Tables) (file : ℕ) (fault : Fault)
+    → Defines modules lines tables → Breaks modules lines file fault → ⊥
+
+-- a data node without the number of its type
+abbrev pub without_type : Node → Node
+without_type node = record node { kind_of_value = 0 }
+
+-- two schemas are one but for their types, of which they take the same values
+pub record AreOneSchema (one other : Tables) : Type 0 where
+  pub modules : one.modules ≡ other.modules
+  pub choices : one.choices ≡ other.choices
+  -- data nodes with their defaults, each of the same number
+  pub nodes : map without_type one.nodes ≡ map without_type other.nodes
+  -- a text stands for the same value, or for none (RFC 7950 9.1)
+  pub values : (number : ℕ) (text : List ℕ) (bounds : List Bound)
+      → canonical one number text bounds ≡ canonical other number text bounds
+
+-- modules have one schema with the features that lines name; its types may be numbered in several ways
+abbrev pub OneSchema : Type 0
+OneSchema =
+    (modules : List ModuleText) (lines : List (List ℕ)) (one other : Tables) → Defines modules lines one
+    → Defines modules lines other → AreOneSchema one other

@@ -1,2 +1,4 @@
 pub mod Features
 pub mod Laws
+pub mod Schemas
+pub mod inner

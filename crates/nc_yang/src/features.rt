@@ -1,13 +1,49 @@
 //! The features that lines name.
-ghost use Rattle.std.specs.Prelude.{◌≡◌, true, IfOk, MatchOption};
+ghost use Rattle.std.specs.Prelude.{◌≡◌, ◌||◌, ℕ, true, List, IfOk, MatchOption};
 ghost use Rattle.std.specs.List.{All};
+ghost use Rattle.nc_yang_nodes.specs.FeaturesOn.{is_on};
 ghost use Rattle.nc_yang.specs.Features as words;
 
+use crate::supported::feature_at;
 use nc_names::{Memory, Text};
+use nc_yang_nodes::Features;
 use nc_yang_scopes::{Scopes, split_reference};
-use nc_yang_statements::Keyword;
 use nc_yang_texts::{CompileFault, ModuleText, read_texts};
 use std::alloc::Global;
+
+// With the feature that a line names.
+fn with_line<'a>(
+    scopes: &Scopes<'a>,
+    features: Features<'a>,
+    line: &'a Text,
+) -> Result<Features<'a>, Memory>
+    ensures { IfOk result (λ it. (text : ℕ) (feature : List ℕ) → is_on it text feature
+        ≡ (words.names_it scopes.now.texts text feature line.now || is_on features.entry text feature)) }
+{
+    let Some((name, feature)) = split_reference(line.as_str()) else {
+        return Ok(features);
+    };
+    match scopes.text_of(name) {
+        Some(text) => features.with(text, feature),
+        None => Ok(features),
+    }
+}
+
+/// The features that lines name, each `module:feature` (RFC 7950 7.20.1).
+pub(crate) fn given<'a>(
+    alloc: Global,
+    scopes: &Scopes<'a>,
+    lines: &'a [Text],
+) -> Result<Features<'a>, Memory>
+    ensures { IfOk result (λ it. (text : ℕ) (feature : List ℕ) → is_on it text feature
+        ≡ words.is_given scopes.now.texts lines.now text feature) }
+{
+    let mut features = Features::new(alloc);
+    for line in lines {
+        features = with_line(scopes, features, line)?;
+    }
+    Ok(features)
+}
 
 // Whether the module of a text defines a feature.
 fn has_feature<'a>(scopes: &Scopes<'a>, feature: &'a str, text: usize) -> bool
@@ -16,17 +52,7 @@ fn has_feature<'a>(scopes: &Scopes<'a>, feature: &'a str, text: usize) -> bool
     if split_reference(feature).is_some() {
         return false;
     }
-    let Some(root) = scopes.root(text) else {
-        return false;
-    };
-    let Some(statement) = scopes.statement(root) else {
-        return false;
-    };
-    if statement.below.is_empty() {
-        return false;
-    }
-    let first = scopes.child(root, 0);
-    scopes.resolve(Keyword::Feature, first, feature).is_some()
+    feature_at(scopes, text, feature).is_some()
 }
 
 // Whether a line names a feature of one of the modules.
@@ -55,8 +81,8 @@ fn first_unknown<'a>(scopes: &Scopes<'a>, lines: &'a [Text]) -> Option<usize>
     None
 }
 
-/// The place of the first line that names no feature of the modules, each `module:feature` (RFC 7950 7.20.1), or
-/// `None` where each names one. Modules that cannot be read have none.
+/// The place of the first line that names no feature of the modules, each `module:feature` (RFC 7950 7.20.1),
+/// or `None` where each names one. Modules that cannot be read have none.
 pub fn first_unknown_feature(
     alloc: Global,
     modules: &[ModuleText],

@@ -1,5 +1,6 @@
 //! Laws: what follows of the definitions that the contracts cite.
-ghost use Rattle.nc_yang.specs.Laws.{DataTypesMean, ModulesAreProper, PlannedTypesMean, TypesMean};
+ghost use Rattle.nc_yang.specs.Laws.{DataTypesMean, ModulesAreProper, NeverBoth, OneSchema};
+ghost use Rattle.nc_yang.specs.Laws.{PlannedTypesMean, SchemasAreProper, TypesMean};
 
 /// In modules that keep all rules each `type` statement that is looked at means something, and so does each
 /// member of a union, down to the last (RFC 7950 7.3, 7.4, 9.12).
@@ -22,4 +23,21 @@ pub fn data_types_mean()
 /// (RFC 7950 5.1, 5.3, 7.1).
 pub fn modules_are_proper()
     ensures { ModulesAreProper }
+{}
+
+/// The schema that modules define is a proper one: its names, namespaces, parents, keys, cases, unique leafs,
+/// types and defaults are as those of a schema have to be (RFC 7950 5.1, 5.3, 6.2, 7.5 to 7.9, 9).
+pub fn schemas_are_proper()
+    ensures { SchemasAreProper }
+{}
+
+/// Modules that break a rule have no schema.
+pub fn never_both()
+    ensures { NeverBoth }
+{}
+
+/// Modules have one schema with the features that lines name: the same modules, choices, data nodes, defaults
+/// and values. Its types may be numbered in several ways.
+pub fn one_schema()
+    ensures { OneSchema }
 {}

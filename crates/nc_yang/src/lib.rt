@@ -1,17 +1,32 @@
 //! The schema that YANG modules define (RFC 7950).
 //!
-//! It stands on nc_yang_texts for the rules that modules keep, on nc_yang_nodes for features, and on nc_yang_meanings for
-//! what types mean.
+//! It stands on a crate for each pass: nc_yang_texts reads module texts and knows the rules that need no data node,
+//! nc_yang_nodes has features and the data nodes in order, nc_yang_meanings what types mean, nc_yang_data the nodes with
+//! their keys, cases and `unique` leafs, nc_yang_circles leafrefs in circles, nc_yang_leafs the table of types,
+//! nc_yang_identities the identities in it, and nc_yang_defaults the defaults.
 //!
+//! `compile` promises the schema that modules define, which is a proper one, or a rule that a file breaks.
 //! `first_unknown_feature` promises the first line that names no feature of the modules. By the law `types_mean`, in
 //! modules that keep all rules each `type` statement means something, and so does each member of a union, down to the
-//! last. By the law `planned_types_mean` each leaf and leaf-list of a plan has such a type,
-//! and by `data_types_mean` each one of a schema. By `modules_are_proper` the modules of a schema have names and namespaces
-//! of their own. What compiles modules comes here.
+//! last. By the law `planned_types_mean` each leaf and leaf-list of a plan has such a type, and by
+//! `data_types_mean` each one of a schema. By `modules_are_proper` the modules of a schema have names and
+//! namespaces of their own, and by `schemas_are_proper` the whole schema that modules define is a proper one.
+//! By `never_both` modules that break a rule have no schema, and by `one_schema` the others have one, but for the
+//! numbers of its types.
 #![tactic(auto)]
 
 mod features;
 mod laws;
+mod names;
+mod prefixes;
+mod schema;
+mod stop;
+mod supported;
+mod texts;
 
 pub use features::first_unknown_feature;
-pub use laws::{data_types_mean, modules_are_proper, planned_types_mean, types_mean};
+pub use laws::{
+    data_types_mean, modules_are_proper, never_both, one_schema, planned_types_mean,
+    schemas_are_proper, types_mean,
+};
+pub use texts::compile;

@@ -17,6 +17,6 @@ mod text;
 
 pub use fault::CompileFault;
 pub use laws::read_one_way;
-pub use read::read_texts;
+pub use read::{chars_of, read_texts};
 pub use rules::first_break;
 pub use text::ModuleText;

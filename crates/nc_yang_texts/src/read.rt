@@ -33,9 +33,9 @@ fn first_long(texts: &[ModuleText]) -> Option<usize>
     texts.iter().position(|text| is_too_long(text))
 }
 
-// The characters of octets.
+/// The characters of octets. `None` means that they are not UTF-8.
 #[tactic(auto, using(crate::proofs::Utf8::utf8_yes, crate::proofs::Utf8::utf8_no))]
-fn chars_of(bytes: &[u8]) -> Option<&str>
+pub fn chars_of(bytes: &[u8]) -> Option<&str>
     ensures { MatchOption result (is_utf8 bytes.now ≡ false)
         (λ chars. (chars.now ≡ bytes.now) × (is_utf8 bytes.now ≡ true)) }
 {

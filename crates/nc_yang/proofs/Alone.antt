@@ -1,0 +1,88 @@
+-- What a `type` statement means by an entry has no other types.
+use Rattle.std.proofs.Common.{◌≡◌, ℕ, Bool, true, false, List, refl, sym, subst}
+use Rattle.std.specs.Prelude.{Option, Some, None, option_map}
+use Rattle.nc_schema.specs.declared.value_type.Between.{Between}
+use Rattle.nc_schema.specs.declared.value_type.ValueType.{ValueType}
+use Rattle.nc_schema.specs.declared.value_type.ValueType.TheVariants.{Whole, Decimal, Chars, Boolean as Truth, Enumeration as Names, Bits as Flags, Binary as Octets, Empty as Nothing, Union as UnionType, Identity as IdentityType, Leafref as LeafrefType, Instance, NodeInstance}
+use Rattle.nc_yang_words.specs.declared.statement.Statement.{Statement}
+use Rattle.nc_yang_statements.specs.declared.built_in.BuiltIn.{BuiltIn}
+use Rattle.nc_yang_statements.specs.declared.built_in.BuiltIn.TheVariants.{Binary, Bits, Boolean, Decimal64, Empty, Enumeration, IdentityRef, InstanceIdentifier, LeafRef, Chars as StringType, Union}
+use Rattle.nc_yang_statements.specs.declared.keyword.Keyword.TheVariants.{Length, Path, Range, TypeName, Base}
+use Rattle.nc_yang_statements.specs.Statements.{below}
+use Rattle.nc_yang_scopes.specs.Scopes.{Located}
+use Rattle.nc_yang_types.specs.declared.bound.Counted.TheVariants.{Units, Lengths}
+use Rattle.nc_yang_types.specs.Entries.{decimal, decimals, digits_of, integers, lengths, narrowed, own, required, restricted}
+use Rattle.nc_yang_meanings.specs.Features.{stands}
+use Rattle.nc_yang_meanings.specs.Meanings.{DerivedFrom, Entry, Meaning, Means, OneOf, Refers, by_itself, meant, over, with_parts}
+use Rattle.nc_yang_meanings.specs.Places.{part_of}
+use Rattle.nc_yang_defaults.proofs.AlikeLemmas.{has_others}
+
+abbrev pub IsAlone : Meaning → Type 0
+IsAlone (Entry entry) = has_others entry ≡ false
+IsAlone (OneOf members) = Unit {0}
+IsAlone (DerivedFrom bases) = Unit {0}
+IsAlone (Refers path need) = Unit {0}
+
+abbrev OwnAlone : Option ValueType → Type 0
+OwnAlone None = Unit {0}
+OwnAlone (Some entry) = has_others entry ≡ false
+
+abbrev EachAlone : Option Meaning → Type 0
+EachAlone None = Unit {0}
+EachAlone (Some m) = IsAlone m
+
+by_entry : (o : Option ValueType) → OwnAlone o → EachAlone (option_map Entry o)
+by_entry None h = tt
+by_entry (Some entry) h = h
+
+by_parts : (f : List Between → ValueType) → ((among : List Between) → has_others (f among) ≡ false) → (o : Option (List Between)) → OwnAlone (option_map f o)
+by_parts f each None = tt
+by_parts f each (Some among) = each among
+
+decimal_alone : (o : Option ℕ) (ss : List Statement) → OwnAlone (decimal o ss)
+decimal_alone None ss = tt
+decimal_alone (Some digits) ss = by_parts (λ among. Decimal digits among) (λ among. refl) (restricted (Units digits) Range decimals ss)
+
+own_alone : (holds : Statement → Bool) (one : BuiltIn) (ss : List Statement) → OwnAlone (own holds one ss)
+own_alone holds Binary ss = by_parts Octets (λ among. refl) (restricted Lengths Length lengths ss)
+own_alone holds Bits ss = refl
+own_alone holds Boolean ss = refl
+own_alone holds Decimal64 ss = decimal_alone (digits_of ss) ss
+own_alone holds Empty ss = refl
+own_alone holds Enumeration ss = refl
+own_alone holds IdentityRef ss = tt
+own_alone holds InstanceIdentifier ss = refl
+own_alone holds LeafRef ss = tt
+own_alone holds StringType ss = by_parts (λ among. Chars among false) (λ among. refl) (restricted Lengths Length lengths ss)
+own_alone holds Union ss = tt
+own_alone holds one ss = by_parts Whole (λ among. refl) (restricted (Units 0) Range (integers one) ss)
+
+leafref_alone : (o : Option Located) (need : Bool) → EachAlone (option_map (λ path. Refers path need) o)
+leafref_alone None need = tt
+leafref_alone (Some path) need = tt
+
+meant_alone : (on : ℕ → List ℕ → Bool) (one : BuiltIn) (l : Located) → EachAlone (meant on one l)
+meant_alone on Union l = tt
+meant_alone on IdentityRef l = tt
+meant_alone on LeafRef l = leafref_alone (part_of Path l) (required true (below l.statement))
+meant_alone on one l = by_entry (own (stands on l.place.text) one (below l.statement)) (own_alone (stands on l.place.text) one (below l.statement))
+
+narrowed_alone : (entry : ValueType) (ss : List Statement) → has_others entry ≡ false → OwnAlone (narrowed entry ss)
+narrowed_alone (Whole among) ss e = by_parts Whole (λ left. refl) (restricted (Units 0) Range among ss)
+narrowed_alone (Decimal digits among) ss e = by_parts (λ left. Decimal digits left) (λ left. refl) (restricted (Units digits) Range among ss)
+narrowed_alone (Chars among starless) ss e = by_parts (λ left. Chars left starless) (λ left. refl) (restricted Lengths Length among ss)
+narrowed_alone (Octets among) ss e = by_parts Octets (λ left. refl) (restricted Lengths Length among ss)
+narrowed_alone (LeafrefType target above need) ss e = absurd (cc)
+narrowed_alone (UnionType members) ss e = absurd (cc)
+narrowed_alone (Instance need) ss e = refl
+narrowed_alone entry ss e = e
+
+parts_alone : (m : Meaning) (ss : List Statement) → IsAlone m → EachAlone (with_parts m ss)
+parts_alone (Entry entry) ss h = by_entry (narrowed entry ss) (narrowed_alone entry ss h)
+parts_alone (OneOf members) ss h = tt
+parts_alone (DerivedFrom bases) ss h = tt
+parts_alone (Refers path need) ss h = tt
+
+pub means_alone : (on : ℕ → List ℕ → Bool) (texts : List Statement) (l : Located) (m : Meaning) → Means on texts l m → IsAlone m
+means_alone on texts _ _ (by_itself l one m built kept is) = subst EachAlone is (meant_alone on one l)
+means_alone on texts _ _ (over l base n m base_is means kept is) = subst EachAlone is (parts_alone n (below l.statement) (means_alone on texts base n means))

@@ -1,0 +1,184 @@
+-- Modules that have a schema break no rule.
+use Rattle.std.proofs.Common.{inl, inr, ◌≡◌, ◌⊎◌, ℕ, Bool, true, false, List, [], ◌∷◌, map, refl, sym, ap, subst, ◌∙◌}
+use Rattle.std.specs.Prelude.{Contains, None}
+use Rattle.nc_names.specs.declared.name.Bound.{Bound}
+use Rattle.nc_names.specs.declared.name.QName.{QName}
+use Rattle.nc_schema.specs.Tables.{Tables}
+use Rattle.nc_schema.specs.Values.{canonical, type_of as kind_at}
+use Rattle.nc_yang_words.specs.declared.statement.Statement.{Statement}
+use Rattle.nc_yang_statements.specs.declared.fault.Fault.{Fault}
+use Rattle.nc_yang_order.proofs.Lists.{contains_none}
+use Rattle.nc_yang_scopes.specs.Scopes.{Located, Scoping}
+use Rattle.nc_yang_scopes.specs.declared.naming.TextFault.{TextFault}
+use Rattle.nc_yang_scopes.proofs.Scopings.{one_scoping}
+use Rattle.nc_yang_texts.specs.Rules.{BreaksText, KeepsTexts}
+use Rattle.nc_yang_texts.specs.declared.text.ModuleText.{ModuleText}
+use Rattle.nc_yang_texts.proofs.OneWay.{read_one_way, read_or_faulty}
+use Rattle.nc_yang_nodes.specs.Plans.{IsPlan}
+use Rattle.nc_yang_nodes.specs.Roles.{FeatureTest}
+use Rattle.nc_yang_nodes.specs.Supported.{AreOn}
+use Rattle.nc_yang_nodes.specs.declared.planned.Plan.{Plan}
+use Rattle.nc_yang_nodes.proofs.Alike.{plans_alike}
+use Rattle.nc_yang_nodes.proofs.Lawful.{no_fault}
+use Rattle.nc_yang_identities.specs.Picks.{Picks, none, passed, picked}
+use Rattle.nc_yang_identities.specs.Identities.{identities}
+use Rattle.nc_yang_identities.specs.Values.{IsValue}
+use Rattle.nc_yang_identities.proofs.PickLemmas.{first_of}
+use Rattle.nc_yang_data.specs.Data.{data_faults, data_tables}
+use Rattle.nc_yang_data.proofs.AlikeLemmas.{faults_alike, tables_alike}
+use Rattle.nc_yang_meanings.specs.Faults.{KeepsTypes}
+use Rattle.nc_yang_leafs.specs.Bases.{AllMeanWhole, Basis}
+use Rattle.nc_yang_leafs.specs.Conditions.{holds}
+use Rattle.nc_yang_leafs.specs.Faults.{BreaksLeafref}
+use Rattle.nc_yang_leafs.specs.Typings.{IsTyped}
+use Rattle.nc_yang_circles.specs.Circles.{BreaksCircle, HasNoCircle}
+use Rattle.nc_yang_defaults.specs.Defaults.{BreaksDefault, HasDefaults}
+use Rattle.nc_yang_defaults.specs.Readings.{value_of}
+use Rattle.nc_yang_defaults.proofs.AlikeLemmas.{TakesAlike, canonical_alike, keep_alike, path_tables, value_alike}
+use Rattle.nc_yang.specs.Features.{is_given}
+use Rattle.nc_yang.specs.Laws.{NeverBoth}
+use Rattle.nc_yang.specs.Schemas.{AreNames, Breaks, BreaksPlan, BreaksSchema, Defines, GivesSchema, IsBegun, IsSchemaOf, basis, circle, default, identity_name, ill_typed, in_place, in_plan, in_schema, leafref, past, text, unread}
+use Rattle.nc_yang.proofs.DataTypes.{data_types_mean}
+use Rattle.nc_yang.proofs.LeafTypes.{LeafAt, leaf_at, leaf_there, leafs_end, no_path_lost, nodes_paired, paths_as_given}
+use Rattle.nc_yang.proofs.SamePlans.{circle_here, default_here, lost_here, typed_here}
+use Rattle.nc_yang.proofs.SameTypes.{Both, Kinds, nodes_take, whole_alike}
+
+-- ---- identities are picked in one way
+picks_one : {A : Type 0} (P : A → Type 0) (xs ys zs : List A) → Picks P xs ys → Picks P xs zs → ys ≡ zs
+picks_one {A} P _ _ zs none second = by zs second
+  where
+    by : (zs : List A) → Picks P [] zs → [] ≡ zs
+    by _ none = refl
+picks_one P _ _ zs (picked x xs ys p more) second =
+    let f = first_of P x xs zs second in
+    elim f.is [
+      | inl here ↦ ap (λ rest. x ∷ rest) (picks_one P xs ys f.rest more f.more) ∙ sym here.0
+      | inr gone ↦ absurd (gone.1 p)
+    ]
+picks_one P _ _ zs (passed x xs ys not_p more) second =
+    let f = first_of P x xs zs second in
+    elim f.is [
+      | inl here ↦ absurd (not_p here.1)
+      | inr gone ↦ picks_one P xs ys f.rest more f.more ∙ sym gone.0
+    ]
+
+-- ---- features
+same_answer : (a b : Bool) → (a ≡ true → b ≡ true) → (b ≡ true → a ≡ true) → a ≡ b
+same_answer true b to back = sym (to refl)
+same_answer false true to back = back refl
+same_answer false false to back = refl
+
+pub one_on : (scoping : Scoping) (given on other : FeatureTest) → AreOn scoping given on → AreOn scoping given other → on ≡ other
+one_on scoping given on other a b = λ i number word.
+    same_answer (on number word) (other number word) (b.most on a.among a.together number word) (a.most other b.among b.together number word) i
+
+module _ (scoping : Scoping) (on : FeatureTest) where
+  names_one : (bases : List Located) (xs ys : List QName) → AreNames scoping on bases xs → AreNames scoping on bases ys → xs ≡ ys
+  names_one bases xs ys a b = a.2 ∙ ap (map (identity_name scoping.texts)) (picks_one (IsValue scoping.texts on bases) (identities scoping.texts) a.0 b.0 a.1 b.1) ∙ sym b.2
+
+  abbrev derived : List Located → List QName → Type 0
+  derived = AreNames scoping on
+
+  module _ (plan : Plan) (whole : AllMeanWhole (basis scoping on plan)) where
+    abbrev stands_on : Basis
+    stands_on = basis scoping on plan
+
+    module _ (t u : Tables) (one : IsTyped derived stands_on t) (two : IsTyped derived stands_on u) where
+      kinds : (n : ℕ) → Kinds derived names_one stands_on t u (paths_as_given derived stands_on t one ∙ sym (paths_as_given derived stands_on u two)) n
+      kinds n = by (leaf_at derived stands_on t one whole n) (leaf_at derived stands_on u two whole n)
+        where
+          both : LeafAt derived stands_on t n → Both derived names_one stands_on t u (paths_as_given derived stands_on t one ∙ sym (paths_as_given derived stands_on u two)) n
+          both a =
+              let c = leaf_there derived stands_on u two n a.node a.there a.valued a.l a.is in
+              record { l = a.l; one = a.number; other = c.number; one_is = a.kind; other_is = c.kind; one_has = a.has; other_has = c.has }
+
+          by : (kind_at t n ≡ None) ⊎ LeafAt derived stands_on t n → (kind_at u n ≡ None) ⊎ LeafAt derived stands_on u n →
+              Kinds derived names_one stands_on t u (paths_as_given derived stands_on t one ∙ sym (paths_as_given derived stands_on u two)) n
+          by (inl a) (inl c) = inl (a, c)
+          by (inr a) c = inr (both a)
+          by (inl a) (inr c) = inr (both (leaf_there derived stands_on t one n c.node c.there c.valued c.l c.is))
+
+      module _ (straight : HasNoCircle stands_on) where
+        abbrev alike : path_tables t ≡ path_tables u
+        alike = paths_as_given derived stands_on t one ∙ sym (paths_as_given derived stands_on u two)
+
+        takes_same : TakesAlike t u alike
+        takes_same =
+            nodes_take derived names_one stands_on t u alike kinds (leafs_end derived stands_on t (leaf_at derived stands_on t one whole) straight)
+            (leafs_end derived stands_on u (leaf_at derived stands_on u two whole) straight)
+
+        -- they take the same values
+        pub texts_same : (n : ℕ) (text : List ℕ) (bounds : List Bound) → canonical t n text bounds ≡ canonical u n text bounds
+        texts_same = canonical_alike t u alike takes_same
+
+        pub values_same : (n : ℕ) → value_of scoping.texts t n ≡ value_of scoping.texts u n
+        values_same = value_alike t u alike takes_same (whole_alike derived names_one stands_on t u alike kinds) scoping.texts
+
+        -- the defaults of one break no rule in the other
+        defaults_keep : (tables : Tables) (fault : TextFault) → HasDefaults scoping plan t tables → BreaksDefault scoping plan u fault → ⊥
+        defaults_keep tables fault good bad = keep_alike scoping plan t u tables fault values_same (nodes_paired derived stands_on t u one two) good bad
+
+  -- ---- a schema of a plan, and rules that another plan of the same modules breaks
+  module _ (keeps : KeepsTexts scoping.texts) (types : KeepsTypes (holds scoping.texts on) scoping.texts) (plan : Plan) (planned : IsPlan scoping on plan)
+      (tables : Tables) (schema : IsSchemaOf scoping on plan tables) where
+    whole : AllMeanWhole (basis scoping on plan)
+    whole = data_types_mean (holds scoping.texts on) scoping on plan keeps types planned
+
+    module _ (other : Plan) (also : IsPlan scoping on other) where
+      same_tables : data_tables scoping on other ≡ data_tables scoping on plan
+      same_tables = tables_alike scoping on other plan (plans_alike scoping on other plan also planned)
+
+      abbrev other_on : Tables → Basis
+      other_on given = record { on = holds scoping.texts on; scoping = scoping; plan = other; given = given }
+
+      no_fault_in_place : (found : TextFault) → Contains (data_faults scoping on other) found → ⊥
+      no_fault_in_place found h =
+          contains_none found
+          (subst (λ z. Contains z found) (faults_alike scoping on other plan (plans_alike scoping on other plan also planned) ∙ schema.keeps) h)
+
+      plan_broken : (found : TextFault) → BreaksPlan scoping on other found → ⊥
+      plan_broken _ (in_place found h) = no_fault_in_place found h
+      plan_broken _ (circle found clean h) =
+          schema.straight found
+          (circle_here scoping plan other (plans_alike scoping on plan other planned also) (holds scoping.texts on) (data_tables scoping on plan) found
+          (subst (λ z. BreaksCircle (other_on z) found) same_tables h))
+      plan_broken _ (leafref found clean h) =
+          no_path_lost derived (basis scoping on plan) schema.typed schema.types found
+          (lost_here scoping plan other (plans_alike scoping on plan other planned also) (holds scoping.texts on) (data_tables scoping on plan) found
+          (subst (λ z. BreaksLeafref (other_on z) found) same_tables h))
+      plan_broken _ (default found typed clean straight is h) =
+          let alike = plans_alike scoping on plan other planned also in
+          let here = typed_here scoping plan other alike (holds scoping.texts on) (data_tables scoping on plan) derived typed
+          (subst (λ z. IsTyped derived (other_on z) typed) same_tables is) in
+          defaults_keep plan whole schema.typed typed schema.types here schema.straight tables found schema.defaults (default_here scoping plan other alike typed found h)
+
+  schema_broken : (tables : Tables) → KeepsTexts scoping.texts → GivesSchema scoping on tables → (found : TextFault) → BreaksSchema scoping on found → ⊥
+  schema_broken tables keeps g _ (ill_typed found h) = g.types found.text found.fault h
+  schema_broken tables keeps g _ (past found h) = no_fault scoping on g.plan found g.planned h
+  schema_broken tables keeps g _ (in_plan plan found types planned h) = plan_broken keeps types g.plan g.planned tables g.is plan planned found h
+
+-- ---- modules
+module _ (modules : List ModuleText) (lines : List (List ℕ)) (tables : Tables) (d : Defines modules lines tables) where
+  begun_broken : (scoping : Scoping) (on : FeatureTest) (found : TextFault) → IsBegun modules lines scoping on → BreaksSchema scoping on found → ⊥
+  begun_broken scoping on found begun breaks =
+      let same : scoping ≡ d.scoping =
+      one_scoping scoping d.scoping begun.numbers d.begun.numbers (read_one_way modules scoping.texts d.scoping.texts begun.read d.begun.read) in
+      by scoping same begun breaks
+    where
+      here : (on : FeatureTest) → IsBegun modules lines d.scoping on → BreaksSchema d.scoping on found → ⊥
+      here on begun breaks =
+          let same = one_on d.scoping (is_given d.scoping.texts lines) on d.on begun.features d.begun.features in
+          schema_broken d.scoping d.on tables d.begun.keeps d.gives found (subst (λ z. BreaksSchema d.scoping z found) same breaks)
+
+      by : (s : Scoping) → s ≡ d.scoping → IsBegun modules lines s on → BreaksSchema s on found → ⊥
+      by s same begun breaks =
+          here on (subst (λ z. IsBegun modules lines z on) same begun) (subst (λ z. BreaksSchema z on found) same breaks)
+
+  broken : (file : ℕ) (fault : Fault) → Breaks modules lines file fault → ⊥
+  broken _ _ (unread file fault h) = read_or_faulty modules d.scoping.texts file fault d.begun.read h
+  broken _ _ (text roots found read h) =
+      d.begun.keeps found (subst (λ z. BreaksText z found) (read_one_way modules roots d.scoping.texts read d.begun.read) h)
+  broken _ _ (in_schema scoping on found begun h) = begun_broken scoping on found begun h
+
+pub never_both : NeverBoth
+never_both modules lines tables file fault d h = broken modules lines tables d file fault h

@@ -1,0 +1,106 @@
+-- A schema with types is ready for defaults.
+use Rattle.std.proofs.Common.{◌≡◌, ◌<◌, ◌+◌, ℕ, zero, suc, Bool, true, List, [], ◌∷◌, length, refl, sym, ap, subst, ◌∙◌}
+use Rattle.std.specs.Prelude.{Option, Some, None, IsSome, is_some, IsSomeAnd, slice_get, option_and_then}
+use Rattle.std.specs.Option.{option_map_or}
+use Rattle.std.specs.List.{All}
+use Rattle.std.proofs.lemmas.List.Elements.{All-get_or}
+use Rattle.std.proofs.lemmas.Option.{get_or_from_slice_get, slice_get_within}
+use Rattle.nc_names.specs.declared.name.QName.{QName}
+use Rattle.nc_schema.specs.Kinds.{has_value}
+use Rattle.nc_schema.specs.Tables.{Tables}
+use Rattle.nc_schema.specs.declared.node.Node.{Node}
+use Rattle.nc_yang_words.specs.declared.statement.Statement.{Statement}
+use Rattle.nc_yang_statements.specs.declared.keyword.Keyword.TheVariants.{TypeName}
+use Rattle.nc_yang_scopes.specs.Parts.{part_of}
+use Rattle.nc_yang_scopes.specs.Prefixes.{namespace_at}
+use Rattle.nc_yang_scopes.specs.Scopes.{Located, Scoping}
+use Rattle.nc_yang_nodes.specs.Plans.{IsPlan, statement_of}
+use Rattle.nc_yang_nodes.specs.Roles.{FeatureTest}
+use Rattle.nc_yang_nodes.specs.declared.planned.Plan.{Plan}
+use Rattle.nc_yang_nodes.specs.declared.planned.Planned.{Planned}
+use Rattle.nc_yang_nodes.proofs.ListLemmas.{got}
+use Rattle.nc_yang_nodes.proofs.Sound.{plan_is_sound}
+use Rattle.nc_yang_data.specs.Data.{data_tables, drafts, node_at, nodes_from}
+use Rattle.nc_yang_data.specs.Drafts.{draft_at, draft_in, unknown_in}
+use Rattle.nc_yang_meanings.specs.Meanings.{Meaning, Means}
+use Rattle.nc_yang_meanings.specs.Wholes.{MeansWhole, whole}
+use Rattle.nc_yang_leafs.specs.Bases.{AllMeanWhole}
+use Rattle.nc_yang_leafs.specs.Conditions.{holds}
+use Rattle.nc_yang_leafs.specs.Typings.{HasItsType, IsSameNode, IsTyped}
+use Rattle.nc_yang_defaults.specs.Sources.{Defined, IsDefined}
+use Rattle.nc_yang_defaults.specs.Typed.{HasMeaning, IsTyped as IsReady}
+use Rattle.nc_yang.specs.Schemas.{basis}
+
+-- what is so of all is so of each
+all_at : {A : Type 0} (P : A → Type 0) (xs : List A) (n : ℕ) (x : A) → All P xs → slice_get xs n ≡ Some x → P x
+all_at P xs n x h is = subst P (get_or_from_slice_get xs n x x is) (All-get_or P xs n x (slice_get_within xs n x is) h)
+
+-- what means something as a whole means something
+meaning_of : (on : ℕ → List ℕ → Bool) (texts : List Statement) (l : Located) → MeansWhole on texts l → (m : Meaning) × Means on texts l m
+meaning_of on texts _ (whole l m means members) = (m, means)
+
+nodes_long : (scoping : Scoping) (tables : Tables) (k : ℕ) (ps : List Planned) → length (nodes_from scoping tables k ps) ≡ length ps
+nodes_long scoping tables k [] = refl
+nodes_long scoping tables k (p ∷ ps) = ap suc (nodes_long scoping tables (k + 1) ps)
+
+-- the data nodes of a plan have no defaults yet
+draft_fresh : (scoping : Scoping) (p : Planned) → (draft_at scoping p).defaults ≡ []
+draft_fresh scoping p = by (slice_get scoping.located p.statement)
+  where
+    by : (o : Option Located) → (option_map_or (λ (l : Located). draft_in (namespace_at scoping.texts p.module) p l.statement) o (unknown_in (namespace_at scoping.texts p.module) p)).defaults ≡ []
+    by None = refl
+    by (Some l) = refl
+
+nodes_fresh : (scoping : Scoping) (tables : Tables) (k n : ℕ) (ps : List Planned) (node : Node) → slice_get (nodes_from scoping tables k ps) n ≡ Some node → node.defaults ≡ []
+nodes_fresh scoping tables k n [] node e = absurd (cc)
+nodes_fresh scoping tables k zero (p ∷ ps) node e =
+    let same : node_at scoping tables k p ≡ node = cc in sym (ap (λ (z : Node). z.defaults) same) ∙ draft_fresh scoping p
+nodes_fresh scoping tables k (suc n) (p ∷ ps) node e = nodes_fresh scoping tables (k + 1) n ps node e
+
+module _ (scoping : Scoping) (on : FeatureTest) (plan : Plan) (planned : IsPlan scoping on plan) (derived : List Located → List QName → Type 0) (typed : Tables)
+    (is : IsTyped derived (basis scoping on plan) typed) where
+  abbrev given : Tables
+  given = data_tables scoping on plan
+
+  long : length typed.nodes ≡ length plan.nodes
+  long = is.counted ∙ nodes_long scoping (drafts scoping plan) 0 plan.nodes
+
+  -- a node as it was
+  record Was (d : Defined) : Type 0 where
+    old : Node
+    at : slice_get given.nodes d.number ≡ Some old
+    same : IsSameNode old d.node
+
+  was : (d : Defined) → IsDefined scoping plan typed d → Was d
+  was d defined =
+      let within : d.number < length typed.nodes = slice_get_within typed.nodes d.number d.node defined.0 in
+      let g = got given.nodes d.number (subst (λ n. d.number < n) is.counted within) in
+      let new : IsSameNode g.0 d.node × HasItsType derived (basis scoping on plan) typed.types d.number d.node.kind d.node.kind_of_value = subst (λ o. IsSomeAnd o (λ new. IsSameNode g.0 new × HasItsType derived (basis scoping on plan) typed.types d.number new.kind new.kind_of_value)) defined.0 (is.nodes d.number g.0 g.1) in
+      record { old = g.0; at = g.1; same = new.0 }
+
+  stated : (number : ℕ) → number < length plan.nodes → IsSome (statement_of scoping plan number)
+  stated number less =
+      let g = got plan.nodes number less in
+      ap (λ o. is_some (option_and_then (λ (n : Planned). slice_get scoping.located n.statement) o)) g.1
+      ∙ all_at (λ (n : Planned). IsSome (slice_get scoping.located n.statement)) plan.nodes number g.0 (plan_is_sound scoping on plan planned).statements g.1
+
+  mean : AllMeanWhole (basis scoping on plan) → (d : Defined) → IsDefined scoping plan typed d → has_value d.node.kind ≡ true → HasMeaning scoping.texts d.statement
+  mean all d defined has =
+      let w = was d defined in
+      let t = all d.number w.old w.at (sym (ap (λ (z : Node). has_value z.kind) w.same) ∙ has) in
+      let m = meaning_of (holds scoping.texts on) scoping.texts t.0 t.2 in
+      record {
+        of_type = t.0;
+        is_type = sym (ap (option_and_then (part_of TypeName)) defined.1) ∙ t.1;
+        on = holds scoping.texts on;
+        meaning = m.0;
+        means = m.1;
+      }
+
+  fresh : (d : Defined) → IsDefined scoping plan typed d → d.node.defaults ≡ []
+  fresh d defined =
+      let w = was d defined in
+      ap (λ (z : Node). z.defaults) w.same ∙ nodes_fresh scoping (drafts scoping plan) 0 d.number plan.nodes w.old w.at
+
+  pub is_ready : AllMeanWhole (basis scoping on plan) → IsReady scoping plan typed
+  is_ready all = record { counted = long; stated = stated; meanings = mean all; fresh = fresh }

@@ -1,0 +1,27 @@
+use Rattle.std.proofs.Common.{sym, subst}
+use Rattle.std.proofs.lemmas.Result.{err_from_is_err_and}
+use Rattle.nc_yang_nodes.specs.FeaturesOn.{is_on}
+use Rattle.nc_yang_texts.specs.Rules.{KeepsTexts}
+use Rattle.nc_yang_texts.specs.Texts.{AreRead}
+use Rattle.nc_yang.proofs.Outcomes.{defines, text_stops}
+use Rattle.nc_yang.proofs.texts.of_roots.Goals as goal
+
+pub compiled-requires : goal.compiled-requires
+compiled-requires c = subst KeepsTexts (sym c.in_ok-scopes.ensures.texts) c.in_ok-keep_texts.ensures
+
+pub returns-in_err-keep_texts : goal.returns-in_err-keep_texts
+returns-in_err-keep_texts c = λ modules read.
+    let p = err_from_is_err_and c.from_residual-in_err-keep_texts.result c.from_residual-in_err-keep_texts.ensures.1 in
+    rw (p.1, p.2) (text_stops modules c.args.lines.now c.args.roots.now read c.in_err-keep_texts.field-0.0 c.in_err-keep_texts.ensures)
+
+pub returns : goal.returns
+returns c = λ modules read.
+    let on = is_on c.in_ok-features.features in
+    defines modules c.args.lines.now c.in_ok-scopes.scopes on
+    (record {
+      read = subst (AreRead modules) (sym c.in_ok-scopes.ensures.texts) read;
+      keeps = subst KeepsTexts (sym c.in_ok-scopes.ensures.texts) c.in_ok-keep_texts.ensures;
+      numbers = c.in_ok-scopes.ensures.numbers;
+      features = c.in_ok-features.ensures;
+    })
+    c.compiled.result c.compiled.ensures

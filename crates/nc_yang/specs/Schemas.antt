@@ -1,0 +1,101 @@
+-- The schema that modules define, or the rules that they break (RFC 7950 5 to 9).
+use Rattle.std.specs.Prelude.{◌≡◌, ℕ, List, [], map, Contains}
+use Rattle.nc_names.specs.declared.name.QName.{QName}
+use Rattle.nc_schema.specs.Tables.{Tables}
+use Rattle.nc_yang_words.specs.declared.statement.Statement.{Statement}
+use Rattle.nc_yang_statements.specs.declared.fault.Fault.{Fault}
+use Rattle.nc_yang_statements.specs.Statements.{name}
+use Rattle.nc_yang_scopes.specs.Numbers.{IsScoping}
+use Rattle.nc_yang_scopes.specs.Prefixes.{namespace_at}
+use Rattle.nc_yang_scopes.specs.Scopes.{Located, Scoping}
+use Rattle.nc_yang_scopes.specs.declared.naming.TextFault.{TextFault}
+use Rattle.nc_yang_texts.specs.Rules.{BreaksText, KeepsTexts}
+use Rattle.nc_yang_texts.specs.Texts.{AreRead, IsUnread}
+use Rattle.nc_yang_texts.specs.declared.text.ModuleText.{ModuleText}
+use Rattle.nc_yang_nodes.specs.Plans.{IsFirstPast, IsPlan}
+use Rattle.nc_yang_nodes.specs.Roles.{FeatureTest}
+use Rattle.nc_yang_nodes.specs.Supported.{AreOn}
+use Rattle.nc_yang_nodes.specs.declared.planned.Plan.{Plan}
+use Rattle.nc_yang_identities.specs.Values.{AreDerived}
+use Rattle.nc_yang_data.specs.Data.{data_faults, data_tables}
+use Rattle.nc_yang_meanings.specs.Faults.{BreaksTypes, KeepsTypes}
+use Rattle.nc_yang_leafs.specs.Bases.{Basis}
+use Rattle.nc_yang_leafs.specs.Conditions.{holds}
+use Rattle.nc_yang_leafs.specs.Faults.{BreaksLeafref}
+use Rattle.nc_yang_leafs.specs.Typings.{IsTyped}
+use Rattle.nc_yang_circles.specs.Circles.{BreaksCircle, HasNoCircle}
+use Rattle.nc_yang_defaults.specs.Defaults.{BreaksDefault, HasDefaults}
+use Rattle.nc_yang.specs.Features.{is_given}
+
+-- texts whose statements keep all rules that need no data node, the numbers of these statements, and the features that
+-- are on by the lines that name some
+pub record IsBegun (modules : List ModuleText) (lines : List (List ℕ)) (scoping : Scoping) (on : FeatureTest) : Type 0 where
+  pub read : AreRead modules scoping.texts
+  pub keeps : KeepsTexts scoping.texts
+  pub numbers : IsScoping scoping
+  pub features : AreOn scoping (is_given scoping.texts lines) on
+
+-- the name of an identity, in the namespace of its module (RFC 7950 7.18)
+abbrev pub identity_name : List Statement → Located → QName
+identity_name texts l = record { space = namespace_at texts l.place.text; name = name l.statement }
+
+-- the names of the identities that are derived from each that `base` statements name (RFC 7950 9.10.2)
+abbrev pub AreNames : Scoping → FeatureTest → List Located → List QName → Type 0
+AreNames scoping on bases names =
+    (found : List Located) × AreDerived scoping on bases found × (names ≡ map (identity_name scoping.texts) found)
+
+-- what the types of leafs and leaf-lists stand on
+abbrev pub basis : Scoping → FeatureTest → Plan → Basis
+basis scoping on plan =
+    record { on = holds scoping.texts on; scoping = scoping; plan = plan; given = data_tables scoping on plan }
+
+-- the schema of a plan of data nodes, which keep their rules: leafs and leaf-lists have their types, and then their defaults
+pub record IsSchemaOf (scoping : Scoping) (on : FeatureTest) (plan : Plan) (tables : Tables) : Type 0 where
+  pub keeps : data_faults scoping on plan ≡ []
+  pub straight : HasNoCircle (basis scoping on plan)
+  pub typed : Tables
+  pub types : IsTyped (AreNames scoping on) (basis scoping on plan) typed
+  pub defaults : HasDefaults scoping plan typed tables
+
+-- data nodes of a plan break a rule: one on a data node or choice in its place; a leafref leads in a circle; the path of
+-- a leafref leads nowhere; a default suits no type. A rule on what others define is asked where these keep theirs
+pub data BreaksPlan (scoping : Scoping) (on : FeatureTest) (plan : Plan) : TextFault → Type 0 where
+  in_place : (found : TextFault) → Contains (data_faults scoping on plan) found → BreaksPlan scoping on plan found
+  circle : (found : TextFault) → data_faults scoping on plan ≡ [] → BreaksCircle (basis scoping on plan) found
+      → BreaksPlan scoping on plan found
+  leafref : (found : TextFault) → data_faults scoping on plan ≡ [] → BreaksLeafref (basis scoping on plan) found
+      → BreaksPlan scoping on plan found
+  default : (found : TextFault) (typed : Tables) → data_faults scoping on plan ≡ [] → HasNoCircle (basis scoping on plan)
+      → IsTyped (AreNames scoping on) (basis scoping on plan) typed → BreaksDefault scoping plan typed found
+      → BreaksPlan scoping on plan found
+
+-- texts whose types keep their rules and whose data nodes keep the limits give this schema
+pub record GivesSchema (scoping : Scoping) (on : FeatureTest) (tables : Tables) : Type 0 where
+  pub types : KeepsTypes (holds scoping.texts on) scoping.texts
+  pub plan : Plan
+  pub planned : IsPlan scoping on plan
+  pub is : IsSchemaOf scoping on plan tables
+
+-- a type of texts breaks a rule, a limit on data nodes is passed, or the data nodes break a rule
+pub data BreaksSchema (scoping : Scoping) (on : FeatureTest) : TextFault → Type 0 where
+  ill_typed : (found : TextFault) → BreaksTypes (holds scoping.texts on) scoping.texts found.text found.fault
+      → BreaksSchema scoping on found
+  past : (found : TextFault) → IsFirstPast scoping on found → BreaksSchema scoping on found
+  in_plan : (plan : Plan) (found : TextFault) → KeepsTypes (holds scoping.texts on) scoping.texts
+      → IsPlan scoping on plan → BreaksPlan scoping on plan found → BreaksSchema scoping on found
+
+-- the schema that modules define, with the features that lines name
+pub record Defines (modules : List ModuleText) (lines : List (List ℕ)) (tables : Tables) : Type 0 where
+  pub scoping : Scoping
+  pub on : FeatureTest
+  pub begun : IsBegun modules lines scoping on
+  pub gives : GivesSchema scoping on tables
+
+-- a file breaks a rule: its text has no statements; a rule on statements and names is broken; or a rule on types and data
+-- nodes is, where texts keep theirs
+pub data Breaks (modules : List ModuleText) (lines : List (List ℕ)) : ℕ → Fault → Type 0 where
+  unread : (file : ℕ) (fault : Fault) → IsUnread modules file fault → Breaks modules lines file fault
+  text : (roots : List Statement) (found : TextFault) → AreRead modules roots → BreaksText roots found
+      → Breaks modules lines found.text found.fault
+  in_schema : (scoping : Scoping) (on : FeatureTest) (found : TextFault) → IsBegun modules lines scoping on
+      → BreaksSchema scoping on found → Breaks modules lines found.text found.fault

@@ -1,0 +1,159 @@
+//! The schema of planned data nodes.
+ghost use Rattle.std.specs.Prelude.{◌≡◌, [], map, MatchResult};
+ghost use Rattle.nc_yang_nodes.specs.FeaturesOn.{is_on};
+ghost use Rattle.nc_yang_nodes.specs.Plans.{IsPlan};
+ghost use Rattle.nc_yang_data.specs.Data.{data_faults, data_tables};
+ghost use Rattle.nc_yang_defaults.specs.Defaults.{BreaksDefault, HasDefaults};
+ghost use Rattle.nc_yang_defaults.specs.Typed.{IsTyped as IsReady};
+ghost use Rattle.nc_yang_circles.specs.Circles.{BreaksCircle, HasNoCircle};
+ghost use Rattle.nc_yang_leafs.specs.Bases.{AllMeanWhole, ArePrefixes};
+ghost use Rattle.nc_yang_leafs.specs.Conditions.{holds};
+ghost use Rattle.nc_yang_leafs.specs.Faults.{BreaksLeafref};
+ghost use Rattle.nc_yang_leafs.specs.Typings.{IsTyped};
+ghost use Rattle.nc_yang_meanings.specs.Faults.{KeepsTypes};
+ghost use Rattle.nc_yang_meanings.specs.Plans.{AreMeanings};
+ghost use Rattle.nc_yang_scopes.specs.Prefixes.{namespace_in};
+ghost use Rattle.nc_yang_texts.specs.Rules.{KeepsTexts};
+ghost use Rattle.nc_yang.specs.Schemas as schemas;
+ghost use Rattle.nc_yang.specs.inner.Stops.{OnFound};
+
+use crate::names::{Derived, Names};
+use crate::prefixes::all_prefixes;
+use crate::stop::Stop;
+use nc_names::{Bound, Many, Text};
+use nc_schema::Schema;
+use nc_yang_circles::first_circle;
+use nc_yang_data::{data_nodes, namespaces};
+use nc_yang_defaults::with_defaults;
+use nc_yang_leafs::typed;
+use nc_yang_meanings::{Meanings, defaults_of};
+use nc_yang_nodes::{Features, Plan};
+use nc_yang_scopes::Scopes;
+use std::alloc::Global;
+
+// Nothing where no leafref of a plan leads in a circle.
+fn keep_straight<'a>(
+    alloc: Global,
+    scopes: &Scopes<'a>,
+    features: &Features<'a>,
+    meanings: &Meanings,
+    plan: &Plan,
+    prefixes: &[Many<Bound>],
+    untyped: &Schema,
+) -> Result<(), Stop>
+    requires meanings { AreMeanings (holds scopes.now.texts (is_on features.now)) scopes.now meanings.now }
+    requires untyped { untyped.now ≡ data_tables scopes.now (is_on features.now) plan.now }
+    requires prefixes { ArePrefixes scopes.now.texts prefixes.now }
+    ensures { MatchResult result
+        (λ _. HasNoCircle (schemas.basis scopes.now (is_on features.now) plan.now))
+        (OnFound (BreaksCircle (schemas.basis scopes.now (is_on features.now) plan.now))) }
+{
+    match first_circle(alloc, scopes, plan, meanings, prefixes, untyped)? {
+        Some(found) => Err(Stop::Broken(found)),
+        None => Ok(()),
+    }
+}
+
+// The schema of a plan with the types of leafs and leaf-lists and without their defaults.
+fn with_types<'a>(
+    alloc: Global,
+    scopes: &Scopes<'a>,
+    features: &Features<'a>,
+    meanings: &Meanings,
+    plan: &Plan,
+    spaces: &[Text],
+    prefixes: &[Many<Bound>],
+    untyped: Schema,
+) -> Result<Schema, Stop>
+    requires meanings { AreMeanings (holds scopes.now.texts (is_on features.now)) scopes.now meanings.now }
+    requires untyped { untyped ≡ data_tables scopes.now (is_on features.now) plan.now }
+    requires whole { AllMeanWhole (schemas.basis scopes.now (is_on features.now) plan.now) }
+    requires spaces { spaces.now ≡ map namespace_in scopes.now.texts }
+    requires prefixes { ArePrefixes scopes.now.texts prefixes.now }
+    ensures { MatchResult result
+        (IsTyped (schemas.AreNames scopes.now (is_on features.now)) (schemas.basis scopes.now (is_on features.now) plan.now))
+        (OnFound (BreaksLeafref (schemas.basis scopes.now (is_on features.now) plan.now))) }
+{
+    let names = Names::of(alloc, scopes, spaces)?;
+    let derived = Derived {
+        names: &names,
+        features,
+    };
+    Ok(typed(
+        alloc, scopes, features, plan, meanings, prefixes, &derived, untyped,
+    )?)
+}
+
+// The schema with the defaults of leafs and leaf-lists.
+fn finished(
+    alloc: Global,
+    scopes: &Scopes,
+    plan: &Plan,
+    prefixes: &[Many<Bound>],
+    typed: Schema,
+) -> Result<Schema, Stop>
+    requires prefixes { ArePrefixes scopes.now.texts prefixes.now }
+    requires ready { IsReady scopes.now plan.now typed }
+    ensures { MatchResult result (HasDefaults scopes.now plan.now typed) (OnFound (BreaksDefault scopes.now plan.now typed)) }
+{
+    let defaults = defaults_of(alloc, scopes)?;
+    Ok(with_defaults(alloc, scopes, plan, defaults.as_slice(), prefixes, typed)?)
+}
+
+// The schema of a plan whose data nodes keep the rules in their places.
+fn filled<'a>(
+    alloc: Global,
+    scopes: &Scopes<'a>,
+    features: &Features<'a>,
+    meanings: &Meanings,
+    plan: &Plan,
+    spaces: &[Text],
+    prefixes: &[Many<Bound>],
+    untyped: Schema,
+) -> Result<Schema, Stop>
+    requires meanings { AreMeanings (holds scopes.now.texts (is_on features.now)) scopes.now meanings.now }
+    requires plan { IsPlan scopes.now (is_on features.now) plan.now }
+    requires untyped { untyped ≡ data_tables scopes.now (is_on features.now) plan.now }
+    requires kept { data_faults scopes.now (is_on features.now) plan.now ≡ [] }
+    requires whole { AllMeanWhole (schemas.basis scopes.now (is_on features.now) plan.now) }
+    requires spaces { spaces.now ≡ map namespace_in scopes.now.texts }
+    requires prefixes { ArePrefixes scopes.now.texts prefixes.now }
+    ensures { MatchResult result (schemas.IsSchemaOf scopes.now (is_on features.now) plan.now)
+        (OnFound (schemas.BreaksPlan scopes.now (is_on features.now) plan.now)) }
+{
+    keep_straight(alloc, scopes, features, meanings, plan, prefixes, &untyped)?;
+    let typed = with_types(
+        alloc, scopes, features, meanings, plan, spaces, prefixes, untyped,
+    )?;
+    finished(alloc, scopes, plan, prefixes, typed)
+}
+
+/// The schema of a plan.
+pub(crate) fn schema_of<'a>(
+    alloc: Global,
+    scopes: &Scopes<'a>,
+    features: &Features<'a>,
+    meanings: &Meanings,
+    plan: &Plan,
+) -> Result<Schema, Stop>
+    requires meanings { AreMeanings (holds scopes.now.texts (is_on features.now)) scopes.now meanings.now }
+    requires texts { KeepsTexts scopes.now.texts }
+    requires types { KeepsTypes (holds scopes.now.texts (is_on features.now)) scopes.now.texts }
+    requires plan { IsPlan scopes.now (is_on features.now) plan.now }
+    ensures { MatchResult result (schemas.IsSchemaOf scopes.now (is_on features.now) plan.now)
+        (OnFound (schemas.BreaksPlan scopes.now (is_on features.now) plan.now)) }
+{
+    let untyped = data_nodes(alloc, scopes, features, plan)?;
+    let spaces = namespaces(alloc, scopes)?;
+    let prefixes = all_prefixes(alloc, scopes, spaces.as_slice())?;
+    filled(
+        alloc,
+        scopes,
+        features,
+        meanings,
+        plan,
+        spaces.as_slice(),
+        prefixes.as_slice(),
+        untyped,
+    )
+}

@@ -2,6 +2,10 @@
 #![tactic(auto)]
 
 #[cfg(test)]
+mod circles_tests;
+#[cfg(test)]
+mod compile_tests;
+#[cfg(test)]
 mod data_tests;
 #[cfg(test)]
 mod defaults_tests;
@@ -9,6 +13,8 @@ mod defaults_tests;
 mod features_tests;
 #[cfg(test)]
 mod identities_tests;
+#[cfg(test)]
+mod leafs_tests;
 #[cfg(test)]
 mod loops_tests;
 #[cfg(test)]

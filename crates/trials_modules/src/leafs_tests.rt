@@ -1,0 +1,331 @@
+//! The types of leafs and leaf-lists in the schema that modules define (RFC 7950 7.6.3, 7.7.3, 9).
+use nc_names::{Bytes, Many, QName, Text};
+use nc_schema::{Between, Kind, Node, Schema, ValueType};
+use nc_yang::compile;
+use nc_yang_texts::{CompileFault, ModuleText};
+use std::alloc::Global;
+use std::process::Abort;
+
+/// A file.
+fn file(rt: &impl Abort, alloc: Global, text: &str) -> ModuleText {
+    ModuleText {
+        file: Text::from_text(alloc, "m.yang").expect(rt, "memory"),
+        bytes: Bytes::from_slice(alloc, text.as_bytes()).expect(rt, "memory"),
+    }
+}
+
+/// The files of texts.
+fn files(rt: &impl Abort, alloc: Global, texts: &[&str]) -> Many<ModuleText> {
+    let mut files = Many::new(alloc);
+    for text in texts {
+        files.push(file(rt, alloc, text)).expect(rt, "memory");
+    }
+    files
+}
+
+/// The feature `a:on` alone.
+fn features(rt: &impl Abort, alloc: Global) -> Many<Text> {
+    let mut lines = Many::new(alloc);
+    lines
+        .push(Text::from_text(alloc, "a:on").expect(rt, "memory"))
+        .expect(rt, "memory");
+    lines
+}
+
+/// Ranges after a word.
+fn show_ranges(rt: &impl Abort, shown: &mut String, word: &str, among: &[Between]) {
+    shown.push_str(word).expect(rt, "memory");
+    for part in among {
+        let least = part.least;
+        let most = part.most;
+        write!(shown, " {least}..{most}").expect(rt, "memory");
+    }
+}
+
+/// Names after a word.
+fn show_names(rt: &impl Abort, shown: &mut String, word: &str, names: &[Text]) {
+    shown.push_str(word).expect(rt, "memory");
+    for name in names {
+        let name = name.as_str();
+        write!(shown, " {name}").expect(rt, "memory");
+    }
+}
+
+/// Identities, each with its namespace.
+fn show_identities(rt: &impl Abort, shown: &mut String, among: &[QName]) {
+    shown.push_str("identity").expect(rt, "memory");
+    for name in among {
+        let space = name.space.as_str();
+        let word = name.name.as_str();
+        write!(shown, " {space}:{word}").expect(rt, "memory");
+    }
+}
+
+/// A number, or nothing.
+fn show_number(rt: &impl Abort, shown: &mut String, number: Option<u32>) {
+    match number {
+        Some(number) => write!(shown, " {number}").expect(rt, "memory"),
+        None => shown.push_str(" -").expect(rt, "memory"),
+    }
+}
+
+/// A word, and a mark where something is not required.
+fn show_required(rt: &impl Abort, shown: &mut String, word: &str, required: bool) {
+    shown.push_str(word).expect(rt, "memory");
+    if !required {
+        shown.push_str("?").expect(rt, "memory");
+    }
+}
+
+/// A leafref: the number of the node to which it leads, and of the one at which its path turns down.
+fn show_leafref(
+    rt: &impl Abort,
+    shown: &mut String,
+    target: u32,
+    above: Option<u32>,
+    required: bool,
+) {
+    show_required(rt, shown, "leafref", required);
+    show_number(rt, shown, Some(target));
+    show_number(rt, shown, above);
+}
+
+/// A string, with a mark where it may not begin with a star.
+fn show_string(rt: &impl Abort, shown: &mut String, lengths: &[Between], starless: bool) {
+    let word = if starless { "starless" } else { "string" };
+    show_ranges(rt, shown, word, lengths);
+}
+
+/// A type without members.
+fn show_plain(rt: &impl Abort, shown: &mut String, entry: &ValueType) {
+    match entry {
+        ValueType::Whole { among } => show_ranges(rt, shown, "whole", among.as_slice()),
+        ValueType::Decimal { digits, among } => {
+            write!(shown, "{digits} ").expect(rt, "memory");
+            show_ranges(rt, shown, "decimal", among.as_slice());
+        }
+        ValueType::Chars { lengths, starless } => {
+            show_string(rt, shown, lengths.as_slice(), *starless)
+        }
+        ValueType::Boolean => shown.push_str("boolean").expect(rt, "memory"),
+        ValueType::Enumeration { names } => show_names(rt, shown, "enum", names.as_slice()),
+        ValueType::Bits { names } => show_names(rt, shown, "bits", names.as_slice()),
+        ValueType::Binary { lengths } => show_ranges(rt, shown, "binary", lengths.as_slice()),
+        ValueType::Empty => shown.push_str("empty").expect(rt, "memory"),
+        ValueType::Union { .. } => shown.push_str("union").expect(rt, "memory"),
+        ValueType::Identity { among } => show_identities(rt, shown, among.as_slice()),
+        ValueType::Leafref {
+            target,
+            above,
+            required,
+        } => show_leafref(rt, shown, *target, *above, *required),
+        ValueType::Instance { required } => show_required(rt, shown, "instance", *required),
+        ValueType::NodeInstance => shown.push_str("node-instance").expect(rt, "memory"),
+    }
+}
+
+/// The type of a number, if it is there.
+fn type_at<'s>(rt: &impl Abort, schema: &'s Schema, number: u32) -> &'s ValueType {
+    schema.types().get(number as usize).expect(rt, "a type")
+}
+
+/// Types without members, one after another.
+fn show_plains(rt: &impl Abort, shown: &mut String, schema: &Schema, numbers: &[u32]) {
+    shown.push_str("(").expect(rt, "memory");
+    for number in numbers {
+        show_plain(rt, shown, type_at(rt, schema, *number));
+        shown.push_str("; ").expect(rt, "memory");
+    }
+    shown.push_str(")").expect(rt, "memory");
+}
+
+/// A type that is one of a union's members.
+fn show_member(rt: &impl Abort, shown: &mut String, schema: &Schema, entry: &ValueType) {
+    show_plain(rt, shown, entry);
+    if let ValueType::Union { members } = entry {
+        show_plains(rt, shown, schema, members.as_slice());
+    }
+}
+
+/// Types, one after another.
+fn show_members(rt: &impl Abort, shown: &mut String, schema: &Schema, numbers: &[u32]) {
+    shown.push_str("(").expect(rt, "memory");
+    for number in numbers {
+        show_member(rt, shown, schema, type_at(rt, schema, *number));
+        shown.push_str("; ").expect(rt, "memory");
+    }
+    shown.push_str(")").expect(rt, "memory");
+}
+
+/// A type.
+fn show_type(rt: &impl Abort, shown: &mut String, schema: &Schema, entry: &ValueType) {
+    show_plain(rt, shown, entry);
+    if let ValueType::Union { members } = entry {
+        show_members(rt, shown, schema, members.as_slice());
+    }
+}
+
+/// The name of a leaf or leaf-list, and its type.
+fn show_leaf(rt: &impl Abort, shown: &mut String, schema: &Schema, node: &Node) {
+    let word = node.name.name.as_str();
+    write!(shown, "{word}: ").expect(rt, "memory");
+    show_type(rt, shown, schema, type_at(rt, schema, node.kind_of_value));
+    shown.push_str("; ").expect(rt, "memory");
+}
+
+/// The same of a data node, if it is one.
+fn show_node(rt: &impl Abort, shown: &mut String, schema: &Schema, node: &Node) {
+    if matches!(node.kind, Kind::Leaf | Kind::LeafList) {
+        show_leaf(rt, shown, schema, node);
+    }
+}
+
+/// All leafs and leaf-lists with their types.
+fn show(rt: &impl Abort, shown: &mut String, schema: &Schema) {
+    for number in 0..schema.nodes() {
+        show_node(rt, shown, schema, schema.node(number).expect(rt, "a node"));
+    }
+}
+
+/// Why there is no schema.
+fn show_fault(rt: &impl Abort, shown: &mut String, fault: CompileFault) {
+    match fault {
+        CompileFault::Module { file, line, why } => {
+            write!(shown, "{file}:{line} {why:?}").expect(rt, "memory")
+        }
+        CompileFault::Memory => shown.push_str("no memory").expect(rt, "memory"),
+    }
+}
+
+/// The types of the leafs of modules.
+fn shown_of(rt: &impl Abort, alloc: Global, texts: &[&str]) -> String {
+    let modules = files(rt, alloc, texts);
+    let lines = features(rt, alloc);
+    let mut shown = String::new(alloc);
+    match compile(alloc, modules.as_slice(), lines.as_slice()) {
+        Ok(schema) => show(rt, &mut shown, &schema),
+        Err(fault) => show_fault(rt, &mut shown, fault),
+    }
+    shown
+}
+
+/// The body of a module `a`, from its second line on, and the types of its leafs.
+const BODIES: &[(&str, &str)] = &[
+    // built-in types (RFC 7950 9.2 to 9.8, 9.11, 9.13)
+    (
+        "leaf x { type int16; } leaf-list y { type uint8 { range \"1..4 | 9\"; } } leaf z { type boolean; } leaf w { type empty; }",
+        "x: whole -32768..32767; y: whole 1..4 9..9; z: boolean; w: empty; ",
+    ),
+    (
+        "leaf x { type decimal64 { fraction-digits 2; } } leaf y { type decimal64 { fraction-digits 1; range \"0 .. 2.5 | 10\"; } }",
+        "x: 2 decimal -9223372036854775808..9223372036854775807; y: 1 decimal 0..25 100..100; ",
+    ),
+    (
+        "leaf x { type string { length 1..8; } } leaf y { type binary { length \"2 | 4\"; } } leaf z { type instance-identifier; } leaf w { type instance-identifier { require-instance false; } }",
+        "x: string 1..8; y: binary 2..2 4..4; z: instance; w: instance?; ",
+    ),
+    // names, of which some have a feature that is off, and bits in the order of their positions (RFC 7950 7.20.2, 9.6, 9.7)
+    (
+        "feature on; feature off; leaf x { type enumeration { enum one; enum two { if-feature off; } enum three { if-feature p:on; } } } leaf y { type bits { bit b { position 4; } bit a { position 0; } bit c { if-feature off; position 2; } bit d; } }",
+        "x: enum one three; y: bits a b d; ",
+    ),
+    // typedefs, and types over them
+    (
+        "typedef t { type u { range 2..8; } } typedef u { type int8 { range 0..9; } } leaf x { type t; } leaf y { type p:t { range \"min..3 | 7\"; } } leaf z { type u; }",
+        "x: whole 2..8; y: whole 2..3 7..7; z: whole 0..9; ",
+    ),
+    // unions down to their members (RFC 7950 9.12)
+    (
+        "typedef u { type union { type int8; type enumeration { enum no; } } } leaf x { type u; } leaf-list y { type union { type u; type empty; type union { type boolean; type string; } } }",
+        "x: union(whole -128..127; enum no; ); y: union(union(whole -128..127; enum no; ); empty; union(boolean; string 0..18446744073709551615; ); ); ",
+    ),
+    // identities that are derived from a base, or from each of two (RFC 7950 9.10.2)
+    (
+        "feature off; identity top; identity one { base top; } identity two { base one; } identity gone { if-feature off; base top; } identity other; identity both { base other; base p:top; } typedef t { type identityref { base top; } } leaf x { type t; } leaf y { type identityref { base top; base other; } } leaf z { type identityref { base two; } }",
+        "x: identity urn:a:one urn:a:two urn:a:both; y: identity urn:a:both; z: identity; ",
+    ),
+    // leafrefs: where they lead, and where the path turns down (RFC 7950 9.9)
+    (
+        "leaf x { type int8; } leaf y { type leafref { path /p:x; } } leaf z { type leafref { path ../x; require-instance false; } }",
+        "x: whole -128..127; y: leafref 0 -; z: leafref? 0 -; ",
+    ),
+    (
+        "container c { leaf x { type int8; } container d { leaf y { type leafref { path ../../x; } } leaf z { type leafref { path ../y; } } leaf w { type leafref { path /c/x; } } leaf v { type leafref { path ../../../c/x; } } } }",
+        "x: whole -128..127; y: leafref 1 0; z: leafref 3 2; w: leafref 1 -; v: leafref 1 -; ",
+    ),
+    // one typedef that leads each leaf elsewhere, by itself and within unions
+    (
+        "typedef t { type leafref { path ../x; } } container c { leaf x { type int8; } leaf y { type t; } } container d { leaf x { type int16; } leaf y { type t { require-instance false; } } }",
+        "x: whole -128..127; y: leafref 1 0; x: whole -32768..32767; y: leafref? 4 3; ",
+    ),
+    (
+        "typedef u { type union { type empty; type union { type leafref { path ../x; } type boolean; } } } grouping g { leaf x { type int8; } leaf y { type u; } } container c { uses g; } container d { uses g; }",
+        "x: whole -128..127; y: union(empty; union(leafref 1 0; boolean; ); ); x: whole -128..127; y: union(empty; union(leafref 4 3; boolean; ); ); ",
+    ),
+    // a leafref to no leaf, from the second use of a type alone
+    (
+        "typedef t { type union { type int8; type leafref {\npath ../x; } } } container c { leaf x { type int8; } leaf y { type t; } }\ncontainer d { leaf y { type t; } }",
+        "0:3 UnknownName",
+    ),
+    (
+        "container c; leaf x { type leafref {\npath ../c; } }",
+        "0:3 UnknownName",
+    ),
+];
+
+#[test]
+fn leafs_have_the_types_that_statements_mean(rt: HostRuntime) {
+    for (body, wanted) in BODIES {
+        let text = format!(in rt.alloc();
+            "module a {{ namespace urn:a; prefix p;\n{body} }}"
+        ).expect(&rt, "memory");
+        let found = shown_of(&rt, rt.alloc(), &[text.as_str()]);
+        assert_eq!(rt; found.as_str(), *wanted, "of {body}");
+    }
+}
+
+#[test]
+fn types_of_other_modules_are_known(rt: HostRuntime) {
+    let texts = [
+        "module a { namespace urn:a; prefix p; import b { prefix q; } leaf x { type int8; } leaf y { type q:t; } leaf z { type q:u; } identity one { base q:top; } }",
+        "module b { namespace urn:b; prefix p; leaf x { type boolean; } typedef t { type leafref { path ../x; } } typedef u { type union { type identityref { base top; } type leafref { path /p:x; } } } identity top; identity two { base top; } }",
+    ];
+    let found = shown_of(&rt, rt.alloc(), &texts);
+    assert_eq!(rt;
+        found.as_str(),
+        "x: whole -128..127; y: leafref 0 -; z: union(identity urn:a:one urn:b:two; leafref 3 -; ); x: boolean; "
+    );
+}
+
+/// A module with a union of many members, which as many leafs use.
+fn wide(rt: &impl Abort, alloc: Global) -> String {
+    let mut text = String::new(alloc);
+    text.push_str("module a { namespace urn:a; prefix p; typedef u { type union { ")
+        .expect(rt, "memory");
+    for _ in 0..1_000u32 {
+        text.push_str("type int8; ").expect(rt, "memory");
+    }
+    text.push_str("} } ").expect(rt, "memory");
+    for number in 0..1_000u32 {
+        write!(text, "leaf l{number} {{ type u; }} ").expect(rt, "memory");
+    }
+    text.push_str("}").expect(rt, "memory");
+    text
+}
+
+/// How many types the schema of a module has; none where there is no schema.
+fn count_of(rt: &impl Abort, alloc: Global, text: &str) -> Option<usize> {
+    let modules = files(rt, alloc, &[text]);
+    match compile(alloc, modules.as_slice(), &[]) {
+        Ok(schema) => Some(schema.types().len()),
+        Err(_) => None,
+    }
+}
+
+#[test]
+fn a_union_without_a_leafref_is_shared(rt: HostRuntime) {
+    let text = wide(&rt, rt.alloc());
+    let count = count_of(&rt, rt.alloc(), text.as_str()).expect(&rt, "a schema");
+    // the union and its members, each once
+    assert!(rt; count <= 1_001);
+}

@@ -18,3 +18,4 @@ mod rows;
 pub use named::Named;
 pub use own::reply;
 pub use replies::reply_naming;
+pub use rows::tag_of;

@@ -59,8 +59,8 @@ pub(crate) fn layer_of(kind: CauseKind) -> &'static str
     }
 }
 
-/// The error-tag of a cause.
-pub(crate) fn tag_of(kind: CauseKind) -> &'static str
+/// The error-tag of a cause (RFC 6241 appendix A).
+pub fn tag_of(kind: CauseKind) -> &'static str
     ensures { result.now ≡ (rows.error_row kind).tag }
 {
     match kind {

@@ -31,3 +31,4 @@ mod validate;
 pub use laws::unopposed_is_granted;
 pub use machine::Machine;
 pub use solo::Solo;
+pub use validate::violation_in;

@@ -35,8 +35,9 @@ fn first_violation(
     }
 }
 
-/// It as a cause.
-pub(crate) fn violation_in(
+/// The first constraint that a configuration breaks (RFC 7950 8.1), as the cause of a refusal. `None` means that it is
+/// valid.
+pub fn violation_in(
     alloc: Global,
     schema: &Schema,
     config: &Config,

@@ -1,5 +1,6 @@
-mod Lists
-mod Fronts
 mod Arguments
-mod Statements
-mod Setups
+mod Keeping
+mod Noting
+mod Preparing
+mod Running
+mod Serving

@@ -1,5 +1,5 @@
-pub mod NarrowModule
+pub mod Ends
+pub mod Notes
 pub mod Run
-pub mod Setup
 pub mod Words
 pub mod inner

@@ -1,52 +1,101 @@
 -- What the program does, from its words to its exit status.
-use Rattle.std.specs.Prelude.{◌≡◌, ℕ, List, Option, IfSome}
-use Rattle.nc_names.specs.declared.name.Module.{Module}
+use Rattle.std.specs.Prelude.{◌≡◌, ◌≢◌, ◌≤◌, ◌+◌, ◌-◌, ◌^◌, ℕ, min, true, List, [], length, Option, IfSome}
 use Rattle.nc_names.specs.Counts.{Rose}
+use Rattle.nc_names.specs.Limits.{most_requests}
+use Rattle.nc_machine.specs.Seats.{TellsReadings}
+use Rattle.nc_model.specs.Desks.{Home, own_of}
+use Rattle.nc_model.specs.History.{IsLegal, after}
+use Rattle.nc_model.specs.State.{State, opening}
+use Rattle.nc_model.specs.declared.entry.Entry.{Entry}
+use Rattle.nc_model.specs.declared.peer.Peer.{Peer}
 use Rattle.nc_outside.specs.Streams.{Streams}
 use Rattle.nc_outside.specs.declared.files.NamedFile.{NamedFile}
-use Rattle.nc_plain.specs.Served.{Served}
-use Rattle.nc_plain.specs.declared.end.SessionEnd.{SessionEnd}
-use Rattle.nc_plain.specs.declared.end.SessionEnd.TheVariants.{Closed, InputEnded, BadHello, BadFrame, Malformed, TooBig, Killed, ReadFault, WriteFault, Full, Spent, Memory}
-use Rattle.netconfd.specs.Words.{IsStdio}
-use Rattle.netconfd.specs.Setup.{IsSetup}
+use Rattle.nc_session.specs.Serves.{Serves, called}
+use Rattle.nc_session.specs.declared.end.SessionEnd.{SessionEnd}
+use Rattle.nc_session.specs.declared.end.SessionEnd.TheVariants.{Full, Killed}
+use Rattle.nc_setup.specs.Folder.{Holds}
+use Rattle.nc_setup.specs.Setup.{IsRefused, IsSetup}
+use Rattle.nc_setup.specs.declared.fault.SetupFault.{SetupFault}
+use Rattle.nc_setup.specs.declared.folder.Contents.{Contents}
+use Rattle.nc_setup.specs.declared.setup.Setup.{Setup as Server}
+use Rattle.netconfd.specs.Ends.{status_of}
+use Rattle.netconfd.specs.Notes.{Noted, Told, line_of}
+use Rattle.netconfd.specs.Words.{HasNoReading, IsStdio}
+use Rattle.netconfd.specs.declared.end.RunEnd.{RunEnd}
+use Rattle.netconfd.specs.declared.end.RunEnd.TheVariants.{Words, Files, Setup, Session, Memory}
 
--- the exit status of a session's end
-abbrev pub status_of : SessionEnd → ℕ
-status_of Closed = 0
-status_of InputEnded = 0
-status_of Killed = 0
-status_of (Full live last) = 0
-status_of ReadFault = 6
-status_of WriteFault = 7
-status_of Memory = 9
-status_of (BadHello why) = 10
-status_of (BadFrame at) = 10
-status_of (Malformed at why) = 10
-status_of (TooBig at) = 10
-status_of (Spent ticket) = 14
+-- all answers of the clock, where it tells them, and how many there were
+pub record Times : Type 0 where
+  pub given : Option (List ℕ)
+  pub answers : ℕ
 
--- what the files, the source and the sink tell, at one moment, and how often the files have failed
+abbrev pub times : Option (List ℕ) → ℕ → Times
+times given answers = record { given = given; answers = answers }
+
+-- what the files, the source, the sink and the clock tell, at one moment, and how often the files have failed
 pub record Outside : Type 0 where
   pub files : Option (List NamedFile)
   pub files_failed : ℕ
   pub streams : Streams
+  pub times : Times
 
-abbrev pub outside : Option (List NamedFile) → ℕ → Streams → Outside
-outside files files_failed streams = record { files = files; files_failed = files_failed; streams = streams }
+abbrev pub outside : Option (List NamedFile) → ℕ → Streams → Times → Outside
+outside files files_failed streams times =
+    record { files = files; files_failed = files_failed; streams = streams; times = times }
 
-abbrev pub HasNoReading : List (List ℕ) → Type 0
-HasNoReading words = (folder user : List ℕ) → ¬ IsStdio words folder user
+-- The server has made this history, and these of its entries are no readings of the clock: it is legal from the opening
+-- state, no commit of it met a disk fault, and its readings are the answers of the clock since then, one for each entry
+-- and in order.
+pub record HasMade (opening : State) (before now : Times) (seen mine : List Entry) : Type 0 where
+  pub legal : IsLegal 0 opening seen
+  pub sure : (after opening seen).faults ≡ 0
+  pub own : mine ≡ own_of seen
+  pub few : length seen ≤ most_requests
+  pub answers : now.answers ≡ min (before.answers + length seen) (2 ^ 64 - 1)
+  pub readings : IfSome now.given (TellsReadings seen)
 
--- The one of these that the exit status tells: the words have no valid reading; the folder is no setup; no
--- memory was found before the session began; the files failed, and their count of faults rose; or a session
--- was served, with the folder's module. Nothing is read or written but by a session.
-pub data Runs (words : List (List ℕ)) (before now : Outside) : ℕ → Type 0 where
-  FaultyWords : HasNoReading words → now ≡ before → Runs words before now 2
-  NoModule : (folder user : List ℕ) → IsStdio words folder user
-      → IfSome before.files (λ fs. (m : Module) → ¬ IsSetup fs folder m) → now ≡ before → Runs words before now 3
-  NoMemory : (folder user : List ℕ) → IsStdio words folder user → now ≡ before → Runs words before now 9
-  FilesFailed : (folder user : List ℕ) → IsStdio words folder user → Rose before.files_failed now.files_failed
-      → now.files ≡ before.files → now.streams ≡ before.streams → Runs words before now 13
-  Serves : (folder user : List ℕ) (m : Module) (end : SessionEnd) → IsStdio words folder user
-      → IfSome before.files (λ fs. IsSetup fs folder m) → Served m before.streams now.streams end
-      → now.files ≡ before.files → now.files_failed ≡ before.files_failed → Runs words before now (status_of end)
+-- a server without another desk, before its first event
+abbrev pub home_of : Server → Times → Home
+home_of server before =
+    record { opening = opening server.schema server.running 0; answers = before.answers; alone = true }
+
+-- The session of that peer was served whole, at a server of its own: no other session can end it, and there is a place
+-- for it.
+pub record IsServed (server : Server) (peer : Peer) (streams_before streams_now : Streams) (before now : Times)
+    (end : SessionEnd) : Type 0 where
+  pub serves : Serves server.schema (called peer (home_of server before) [] [] streams_before)
+      (HasMade (home_of server before).opening before now) (λ ticket. ticket ≡ most_requests) streams_now end
+  pub lives : end ≢ Killed
+  pub has_place : (live last : ℕ) → end ≢ Full live last
+
+-- where the files are told, the folder holds this
+abbrev pub HoldsIn : Option (List NamedFile) → List ℕ → Contents → Type 0
+HoldsIn files folder contents = IfSome files (λ fs. Holds fs folder contents)
+
+-- What a run came to: the words have no valid reading; the files failed, and their count of faults rose; no memory
+-- was found before there was a server; what the folder holds makes none; or it makes one, and the session was
+-- served. Nothing is read or written but by a session.
+pub data Runs (words : List (List ℕ)) (before now : Outside) : RunEnd → Type 0 where
+  AreFaulty : HasNoReading words → now ≡ before → Runs words before now Words
+  HasFailed : (folder : List ℕ) (peer : Peer) → IsStdio words folder peer
+      → Rose before.files_failed now.files_failed → now ≡ record before { files_failed = now.files_failed }
+      → Runs words before now Files
+  HasNoMemory : (folder : List ℕ) (peer : Peer) → IsStdio words folder peer → now ≡ before
+      → Runs words before now Memory
+  MakesNone : (folder : List ℕ) (peer : Peer) (contents : Contents) (fault : SetupFault) → IsStdio words folder peer
+      → HoldsIn before.files folder contents → IsRefused contents fault → now ≡ before
+      → Runs words before now (Setup fault)
+  IsOver : (folder : List ℕ) (peer : Peer) (contents : Contents) (server : Server) (end : SessionEnd)
+      → IsStdio words folder peer → HoldsIn before.files folder contents → IsSetup contents server
+      → now.files ≡ before.files → now.files_failed ≡ before.files_failed
+      → IsServed server peer before.streams now.streams before.times now.times end
+      → Runs words before now (Session end)
+
+-- a run came to this end: the status is its, and standard error took its line, or a beginning of it where a write
+-- failed
+pub record HasRun (words : List (List ℕ)) (before now : Outside) (notes_before notes_now : Told) (status : ℕ) :
+    Type 0 where
+  pub end : RunEnd
+  pub runs : Runs words before now end
+  pub status_is : status ≡ status_of end
+  pub noted : Noted (line_of end) notes_before notes_now

@@ -1,1 +1,2 @@
-pub mod Readings
+pub mod Preparing
+pub mod Writings

@@ -3,9 +3,9 @@
 ghost use Rattle.std.specs.Prelude.{◌≡◌, ◌≢◌, ◌≤◌};
 ghost use Rattle.nc_names.specs.Counts.{Rose};
 
-use crate::setup::is_module_name;
 use nc_names::{Bytes, Many, Memory, Text};
 use nc_outside::{FileFault, Files};
+use nc_setup::is_module_name;
 use std::alloc::Global;
 use std::fs::{self, DirEntry};
 use std::io::{self, ErrorKind};

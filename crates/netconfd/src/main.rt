@@ -1,46 +1,59 @@
 //! The server `netconfd`: a NETCONF server (RFC 6241, 6242) on standard input and standard output.
 //!
-//! `netconfd stdio DIR USER` serves one session. All that it does is the call of `run`, over the
-//! world that `main` hands in.
+//! `netconfd stdio [--recovery] DIR USER [GROUP]...` serves one session. All that it does is the call of
+//! `run`, over the world that `main` hands in.
 #![tactic(auto)]
 
 mod adapters;
-mod narrow;
-mod reader;
+mod end;
+mod keeper;
+mod line_words;
+mod note;
 mod run;
+mod server;
+mod session;
 #[cfg(test)]
 mod session_tests;
-mod setup;
-#[cfg(test)]
-mod tests;
 mod words;
 
 use adapters::SetupFiles;
-use nc_outside::{ReaderSource, WriterSink};
+use end::RunEnd;
+use nc_names::Memory;
+use nc_outside::{MonotonicClock, ReaderSource, WriterSink};
+use note::note_end;
 use run::{World, run};
 use std::env;
 use std::io::ErrorKind;
 use std::process::ExitCode;
 
-/// The words after the program's name. An error is the exit status: 9 where no memory was found for
-/// them, and 2 where one is not UTF-8.
-fn command_words(rt: HostRuntime) -> Result<Vec<String>, u8> {
+/// The words after the program's name. Where one is not UTF-8 there are none, which is a faulty command line
+/// too.
+fn command_words(rt: HostRuntime) -> Result<Vec<String>, Memory> {
     match env::args(&rt) {
-        Ok(all) => all.skip(1).collect(rt.alloc()).map_err(|_| 9),
-        Err(error) if error.kind() == ErrorKind::OutOfMemory => Err(9),
-        Err(_) => Err(2),
+        Ok(all) => all.skip(1).collect(rt.alloc()).map_err(|_| Memory),
+        Err(error) if error.kind() == ErrorKind::OutOfMemory => Err(Memory),
+        Err(_) => Ok(Vec::new(rt.alloc())),
     }
 }
 
+/// Ends a run that found no memory for its words.
+fn without_words(rt: HostRuntime) -> ExitCode {
+    let mut notes = WriterSink::new(rt.stderr());
+    let end = RunEnd::Memory;
+    note_end(&mut notes, &end);
+    ExitCode::from(end.status())
+}
+
 fn main(rt: HostRuntime) -> ExitCode {
-    let words = match command_words(rt) {
-        Ok(words) => words,
-        Err(status) => return ExitCode::from(status),
+    let Ok(words) = command_words(rt) else {
+        return without_words(rt);
     };
     let world = World {
         files: SetupFiles::new(rt),
         source: ReaderSource::new(rt.stdin()),
         sink: WriterSink::new(rt.stdout()),
+        notes: WriterSink::new(rt.stderr()),
+        clock: MonotonicClock::new(rt),
     };
     ExitCode::from(run(rt.alloc(), words.as_slice(), world).status)
 }

@@ -2,107 +2,142 @@
 ghost use Rattle.std.specs.Prelude.{◌≡◌, ◌↔◌, map, string_bytes};
 ghost use Rattle.nc_names.specs.Counts.{Rose};
 ghost use Rattle.nc_outside.specs.Streams.{streams};
-ghost use Rattle.netconfd.specs.Run.{HasNoReading, Runs, outside, status_of};
+ghost use Rattle.netconfd.specs.Notes.{told};
+ghost use Rattle.netconfd.specs.Run.{HasRun, Runs, outside, times};
+ghost use Rattle.netconfd.specs.Words.{HasNoReading};
+ghost use Rattle.netconfd.specs.declared.end.RunEnd.TheVariants.{Session};
 
-use crate::setup::{SetupFault, read_setup};
+use crate::end::RunEnd;
+use crate::note::note_end;
+use crate::server::server_of;
+use crate::session::{Over, serve};
 use crate::words::read_words;
-use nc_outside::{Files, Sink, Source};
-use nc_plain::{SessionEnd, serve_plain};
+use nc_outside::{Clock, Files, Sink, Source};
 use std::alloc::Global;
 
-/// The outside of the program: the files of the setup folder, and the session's input and output.
+/// The outside of the program: the files of the device's folder, the session's input and output, standard
+/// error and the clock.
 #[derive(Drop)]
-pub struct World<F, S, K> {
+pub struct World<F, S, K, N, C> {
     pub files: F,
     pub source: S,
     pub sink: K,
+    pub notes: N,
+    pub clock: C,
 }
 
 /// What a run gives back: its exit status, and the world.
 #[derive(Drop)]
-pub struct Ran<F, S, K> {
+pub struct Ran<F, S, K, N, C> {
     pub status: u8,
-    pub world: World<F, S, K>,
+    pub world: World<F, S, K, N, C>,
 }
 
-/// The exit status of a session's end.
-fn session_status(end: SessionEnd) -> u8
-    ensures { result ≡ status_of end }
+// What a run came to, and the clock.
+#[derive(Drop)]
+struct Done<C> {
+    end: RunEnd,
+    clock: C,
+}
+
+// That a session is over.
+fn over<C>(over: Over<C>) -> Done<C>
+    ensures end { result.end ≡ Session over.end }
+    ensures clock { result.clock ≡ over.clock }
 {
-    match end {
-        SessionEnd::Closed | SessionEnd::InputEnded | SessionEnd::Killed => 0,
-        SessionEnd::Full { .. } => 0,
-        SessionEnd::ReadFault => 6,
-        SessionEnd::WriteFault => 7,
-        SessionEnd::Memory => 9,
-        SessionEnd::BadHello { .. } | SessionEnd::BadFrame { .. } => 10,
-        SessionEnd::Malformed { .. } | SessionEnd::TooBig { .. } => 10,
-        SessionEnd::Spent { .. } => 14,
+    Done {
+        end: RunEnd::Session(over.end),
+        clock: over.clock,
     }
 }
 
-/// Does what the words ask for, and gives the exit status and the world back. The words `stdio DIR
-/// USER` serve one session on the source and the sink, with the module of the setup folder DIR.
+// Does what the words ask for.
+fn served<F: Files, S: Source, K: Sink, C: Clock>(
+    alloc: Global,
+    words: &[String],
+    files: &mut F,
+    source: &mut S,
+    sink: &mut K,
+    clock: C,
+) -> Done<C>
+    ensures { Runs (map string_bytes words.now)
+        (outside (F.files files.old) (F.faults files.old)
+        (streams (S.left source.old) (S.ends source.old) (S.faults source.old)
+        (K.taken sink.old) (K.faults sink.old))
+        (times (C.given clock) (C.count clock)))
+        (outside (F.files files.new) (F.faults files.new)
+        (streams (S.left source.new) (S.ends source.new) (S.faults source.new)
+        (K.taken sink.new) (K.faults sink.new))
+        (times (C.given result.clock) (C.count result.clock)))
+        result.end }
+{
+    let Some(stdio) = read_words(words) else {
+        let end = RunEnd::Words;
+        return Done { end, clock };
+    };
+    let Ok(peer) = stdio.peer(alloc) else {
+        let end = RunEnd::Memory;
+        return Done { end, clock };
+    };
+    match server_of(alloc, files, stdio.folder) {
+        Ok(setup) => over(serve(alloc, setup, peer, source, sink, clock)),
+        Err(end) => Done { end, clock },
+    }
+}
+
+/// Does what the words ask for, and gives the exit status and the world back. The words `stdio [--recovery]
+/// DIR USER [GROUP]...` serve one session on the source and the sink, over the modules, features and initial
+/// configuration of the folder DIR. Where the status is not 0, the notes get one line that tells why.
 ///
 /// | Status | Comes |
 /// |---|---|
 /// | 0 | where the session was closed, or its input ended |
 /// | 2 | exactly where the words have no valid reading |
-/// | 3 | where the setup folder does not hold exactly one narrow module |
+/// | 3 | where the modules break a rule, or a line of `features.txt` names no feature of them |
+/// | 4 | where the initial configuration has no reading, or is not valid |
 /// | 6, 7, 13 | only where the count of faults of the source, the sink or the files rose |
 /// | 9 | where no memory was found |
-/// | 10 | where the session's messages are no session that goes on: see [`SessionEnd`] |
+/// | 10 | where the session's bytes are no session that goes on: see [`nc_session::SessionEnd`] |
 /// | 14 | where as many requests were answered as ever are |
-pub fn run<F: Files, S: Source, K: Sink>(
+pub fn run<F: Files, S: Source, K: Sink, N: Sink, C: Clock>(
     alloc: Global,
     words: &[String],
-    world: World<F, S, K>,
-) -> Ran<F, S, K>
-    ensures runs { Runs (map string_bytes words.now)
+    world: World<F, S, K, N, C>,
+) -> Ran<F, S, K, N, C>
+    ensures runs { HasRun (map string_bytes words.now)
         (outside (F.files world.files) (F.faults world.files)
         (streams (S.left world.source) (S.ends world.source) (S.faults world.source)
-        (K.taken world.sink) (K.faults world.sink)))
+        (K.taken world.sink) (K.faults world.sink))
+        (times (C.given world.clock) (C.count world.clock)))
         (outside (F.files result.world.files) (F.faults result.world.files)
         (streams (S.left result.world.source) (S.ends result.world.source) (S.faults result.world.source)
-        (K.taken result.world.sink) (K.faults result.world.sink)))
+        (K.taken result.world.sink) (K.faults result.world.sink))
+        (times (C.given result.world.clock) (C.count result.world.clock)))
+        (told (N.taken world.notes) (N.faults world.notes))
+        (told (N.taken result.world.notes) (N.faults result.world.notes))
         result.status }
     ensures words { result.status ≡ 2 ↔ HasNoReading (map string_bytes words.now) }
     ensures read_fault { result.status ≡ 6 → Rose (S.faults world.source) (S.faults result.world.source) }
     ensures write_fault { result.status ≡ 7 → Rose (K.faults world.sink) (K.faults result.world.sink) }
     ensures files_fault { result.status ≡ 13 → Rose (F.faults world.files) (F.faults result.world.files) }
 {
-    let mut world = world;
-    let status = run_in(alloc, words, &mut world);
-    Ran { status, world }
-}
-
-fn run_in<F: Files, S: Source, K: Sink>(
-    alloc: Global,
-    words: &[String],
-    world: &mut World<F, S, K>,
-) -> u8
-    ensures runs { Runs (map string_bytes words.now)
-        (outside (F.files world.old.files) (F.faults world.old.files)
-        (streams (S.left world.old.source) (S.ends world.old.source) (S.faults world.old.source)
-        (K.taken world.old.sink) (K.faults world.old.sink)))
-        (outside (F.files world.new.files) (F.faults world.new.files)
-        (streams (S.left world.new.source) (S.ends world.new.source) (S.faults world.new.source)
-        (K.taken world.new.sink) (K.faults world.new.sink)))
-        result }
-    ensures words { result ≡ 2 ↔ HasNoReading (map string_bytes words.now) }
-    ensures read_fault { result ≡ 6 → Rose (S.faults world.old.source) (S.faults world.new.source) }
-    ensures write_fault { result ≡ 7 → Rose (K.faults world.old.sink) (K.faults world.new.sink) }
-    ensures files_fault { result ≡ 13 → Rose (F.faults world.old.files) (F.faults world.new.files) }
-{
-    let Some(stdio) = read_words(words) else {
-        return 2;
-    };
-    let module = match read_setup(alloc, &mut world.files, stdio.folder) {
-        Ok(module) => module,
-        Err(SetupFault::Modules) => return 3,
-        Err(SetupFault::Memory) => return 9,
-        Err(SetupFault::Failed) => return 13,
-    };
-    let end = serve_plain(alloc, &module, &mut world.source, &mut world.sink);
-    session_status(end)
+    let World {
+        mut files,
+        mut source,
+        mut sink,
+        mut notes,
+        clock,
+    } = world;
+    let done = served(alloc, words, &mut files, &mut source, &mut sink, clock);
+    note_end(&mut notes, &done.end);
+    Ran {
+        status: done.end.status(),
+        world: World {
+            files,
+            source,
+            sink,
+            notes,
+            clock: done.clock,
+        },
+    }
 }

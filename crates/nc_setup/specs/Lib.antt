@@ -1,0 +1,4 @@
+pub mod Folder
+pub mod Initial
+pub mod Setup
+pub mod inner

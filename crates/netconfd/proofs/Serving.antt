@@ -1,0 +1,213 @@
+-- A session at a server of its own.
+use Rattle.std.proofs.Common.{◌≡◌, ◌≢◌, ◌<◌, ◌+◌, ◌-◌, ◌^◌, ℕ, true, List, [], ◌∷◌, ◌++◌, length, Option, None, Some, refl, sym, subst, ap, ◌∙◌, append-nil, arith}
+use Rattle.std.specs.Prelude.{IfSome, min}
+use Rattle.nc_names.specs.Limits.{most_requests}
+use Rattle.nc_machine.specs.Seats.{IsSpent, Seat, SoloStands, TellsReadings}
+use Rattle.nc_names.specs.Counts.{Rose}
+use Rattle.nc_names.specs.declared.path.Row.{Row}
+use Rattle.nc_model.specs.declared.entry.Entry.{Entry}
+use Rattle.nc_model.specs.Desks.{Home}
+use Rattle.nc_model.specs.History.{IsLegal}
+use Rattle.nc_model.specs.State.{State, expired, opening}
+use Rattle.nc_model.specs.Step.{has_failed, outcome_of}
+use Rattle.nc_model.specs.declared.event.Event.TheVariants.{Start}
+use Rattle.nc_model.specs.declared.event.Outcome.TheVariants.{Full as IsFull, Started}
+use Rattle.nc_model.specs.declared.peer.Peer.{Peer}
+use Rattle.nc_model.specs.declared.request.Request.{Request}
+use Rattle.nc_outside.specs.Streams.{Streams}
+use Rattle.nc_schema.specs.Tables.{Tables}
+use Rattle.nc_session.specs.Asks.{AsksAll, Spurned, Stopped}
+use Rattle.nc_session.specs.Serves.{Call, Concludes, CountedBy, Ends, IsDead, IsOver, Met, NoPlace, NoStart, Served, Serves, Unstarted, WasSpent, called}
+use Rattle.nc_session.specs.declared.base.Base.{Base}
+use Rattle.nc_session.specs.declared.end.SessionEnd.{SessionEnd}
+use Rattle.nc_session.specs.declared.end.SessionEnd.TheVariants.{Closed, InputEnded, BadHello, BadFrame, Malformed, TooBig, Killed, ReadFault, WriteFault, Full, Spent, Memory}
+use Rattle.nc_setup.specs.declared.setup.Setup.{Setup as Server}
+use Rattle.netconfd.specs.Run.{HasMade, IsServed, Times, home_of}
+
+-- what a desk stands for, and when it is spent, may be said by wider words
+module _ (schema : Tables) (call : Call) (S T : List Entry → List Entry → Type 0) (P Q : ℕ → Type 0)
+    (stands : (seen mine : List Entry) → S seen mine → T seen mine) (spent : (ticket : ℕ) → P ticket → Q ticket) where
+  unstarted : (more : List Entry) (end : SessionEnd) → Unstarted call.home call.seen P more end
+      → Unstarted call.home call.seen Q more end
+  unstarted more (Spent ticket) (last, is, none) = (last, spent ticket is, none)
+  unstarted more Memory is = is
+  unstarted more Closed is = is
+  unstarted more InputEnded is = is
+  unstarted more (BadHello why) is = is
+  unstarted more (BadFrame at) is = is
+  unstarted more (Malformed at why) is = is
+  unstarted more (TooBig at) is = is
+  unstarted more Killed is = is
+  unstarted more ReadFault is = is
+  unstarted more WriteFault is = is
+  unstarted more (Full live last) is = is
+
+  concludes : (seen : List Entry) (session : ℕ) (standing : _) (met : SessionEnd) (later ended : List Entry)
+      (end : SessionEnd) → Concludes call.home seen P session standing met later ended end
+      → Concludes call.home seen Q session standing met later ended end
+  concludes seen session standing met later ended end (IsOver other) = IsOver other
+  concludes seen session standing met later ended end (WasSpent ticket last is) = WasSpent ticket last (spent ticket is)
+  concludes seen session standing met later ended end (Ends others e alone live fresh event outcome) =
+      Ends others e alone live fresh event outcome
+  concludes seen session standing met later ended end (IsDead others e alone live fresh event outcome) =
+      IsDead others e alone live fresh event outcome
+
+  pub widened : (now : Streams) (end : SessionEnd) → Serves schema call S P now end → Serves schema call T Q now end
+  widened now end (NoStart end2 more is same stood) = NoStart end2 more (unstarted more end2 is) same (stands _ _ stood)
+  widened now end (NoPlace live last more start is same stood) = NoPlace live last more start is same (stands _ _ stood)
+  widened now end (Served session more later ended course standing met end2 has over killed stood) =
+      Served session more later ended course standing met end2 has
+      (concludes (call.seen ++ more) session standing met later ended end2 over) killed (stands _ _ stood)
+
+-- no other session ends one of a desk that is alone
+killed_by : (schema : Tables) (call : Call) (S : List Entry → List Entry → Type 0) (P : ℕ → Type 0) (now : Streams) (end : SessionEnd)
+    → call.home.alone ≡ true → Serves schema call S P now end → end ≡ Killed → ⊥
+killed_by schema call S P now end alone (NoStart end2 more is same stood) killed =
+    subst (λ e. Unstarted call.home call.seen P more e) killed is
+killed_by schema call S P now end alone (NoPlace live last more start is same stood) killed = cc killed
+killed_by schema call S P now end alone (Served session more later ended course standing met end2 has over by stood) killed =
+    cc (alone, (by killed).shared)
+
+never_killed : (schema : Tables) (call : Call) (S : List Entry → List Entry → Type 0) (P : ℕ → Type 0) (now : Streams) (end : SessionEnd)
+    → call.home.alone ≡ true → Serves schema call S P now end → end ≢ Killed
+never_killed schema call S P now end alone serves = λ killed. killed_by schema call S P now end alone serves killed
+
+nothing_legal : (opening : State) → IsLegal 0 opening []
+nothing_legal opening [] behind e is = cc is
+nothing_legal opening (x ∷ before) behind e is = cc is
+
+nothing_read : (given : Option (List ℕ)) → IfSome given (TellsReadings [])
+nothing_read None = tt
+nothing_read (Some all) = (all, sym (append-nil all))
+
+-- a machine before its first event, and its clock
+stands_first : {K : Type 0} (seat : Seat K) (home : Home) → home.alone ≡ true → home.answers ≡ seat.from
+    → seat.answers ≡ home.answers → home.answers < 2 ^ 64 → seat.machine.state ≡ home.opening → seat.machine.count ≡ 0
+    → SoloStands seat home [] []
+stands_first seat home alone from answers few state count = record {
+  alone = alone;
+  from_is = from;
+  machine_stands = record { legal = nothing_legal home.opening; state_is = state; count_is = count };
+  mine_is = refl;
+  few = omega arith;
+  answers_is = omega (arith, few, from, answers);
+  readings = nothing_read seat.given;
+}
+
+-- no server was made
+made_nothing : (opening : State) (before : Times) → opening.faults ≡ 0 → before.answers < 2 ^ 64 → HasMade opening before before [] []
+made_nothing opening before sure few = record {
+  legal = nothing_legal opening;
+  sure = sure;
+  own = refl;
+  few = omega arith;
+  answers = omega (arith, few);
+  readings = nothing_read before.given;
+}
+
+-- what a machine and its clock stand for is what the server has made
+has_made : {K : Type 0} (seat : Seat K) (home : Home) (before now : Times) → before.answers ≡ home.answers
+    → now.given ≡ seat.given → now.answers ≡ seat.answers → seat.machine.state.faults ≡ 0
+    → (seen mine : List Entry) → SoloStands seat home seen mine → HasMade home.opening before now seen mine
+has_made seat home before now from given answers sure seen mine stood = record {
+  legal = stood.machine_stands.legal;
+  sure = subst (λ s. s.faults ≡ 0) stood.machine_stands.state_is sure;
+  own = stood.mine_is;
+  few = stood.few;
+  answers = answers ∙ stood.answers_is ∙ ap (λ n. min (n + length seen) (2 ^ 64 - 1)) (sym (from ∙ stood.from_is));
+  readings = subst (λ g. IfSome g (TellsReadings seen)) (sym given) stood.readings;
+}
+
+-- the end that a session met is its end, unless it was found dead
+met_is : (schema : Tables) (home : Home) (seen : List Entry) (P : ℕ → Type 0) (session : ℕ) (standing : _)
+    (met : SessionEnd) (later ended : List Entry) (end : SessionEnd) → Concludes home seen P session standing met later ended end
+    → end ≢ Killed → met ≡ end
+met_is schema home seen P session standing met later ended end (IsOver other) lives = refl
+met_is schema home seen P session standing met later ended end (WasSpent ticket last is) lives = refl
+met_is schema home seen P session standing met later ended end (Ends others e alone live fresh event outcome) lives = refl
+met_is schema home seen P session standing met later ended end (IsDead others e alone live fresh event outcome) lives =
+    absurd (lives refl)
+
+-- the count of failed reads rose where a session ends by one, and that of failed writes
+pub read_failed : (schema : Tables) (call : Call) (S : List Entry → List Entry → Type 0) (P : ℕ → Type 0) (now : Streams)
+    (end : SessionEnd) → Serves schema call S P now end → end ≡ ReadFault → Rose call.before.reads_failed now.reads_failed
+read_failed schema call S P now end (NoStart end2 more is same stood) e =
+    absurd (subst (λ x. Unstarted call.home call.seen P more x) e is)
+read_failed schema call S P now end (NoPlace live last more start is same stood) e = absurd (cc e)
+read_failed schema call S P now end (Served session more later ended course standing met end2 has over by stood) e =
+    let same = met_is schema call.home (call.seen ++ more) P session standing met later ended end over (λ k. cc (k, e)) in
+    (subst (λ x. CountedBy call.before now x) (same ∙ e) has.counted).1
+
+pub write_failed : (schema : Tables) (call : Call) (S : List Entry → List Entry → Type 0) (P : ℕ → Type 0) (now : Streams)
+    (end : SessionEnd) → Serves schema call S P now end → end ≡ WriteFault → Rose call.before.writes_failed now.writes_failed
+write_failed schema call S P now end (NoStart end2 more is same stood) e =
+    absurd (subst (λ x. Unstarted call.home call.seen P more x) e is)
+write_failed schema call S P now end (NoPlace live last more start is same stood) e = absurd (cc e)
+write_failed schema call S P now end (Served session more later ended course standing met end2 has over by stood) e =
+    let same = met_is schema call.home (call.seen ++ more) P session standing met later ended end over (λ k. cc (k, e)) in
+    (subst (λ x. CountedBy call.before now x) (same ∙ e) has.counted).2
+
+-- no message says that there is no place
+no_stop : (base : Base) (bytes : List ℕ) (requests : List Request) (live last : ℕ)
+    → AsksAll base bytes requests (Some (Full live last)) → ⊥
+no_stop base bytes requests live last (Spurned end none stops) = stops
+no_stop base bytes requests live last (Stopped first end stops) = stops
+
+-- a server before its first event has a place
+has_place : (schema : Tables) (running : List Row) (peer : Peer) (start : Entry) (live last : ℕ)
+    → IsLegal 0 (opening schema running 0) (start ∷ []) → start.event ≡ Start peer → start.outcome ≡ IsFull live last → ⊥
+has_place schema running peer start live last legal event outcome =
+    let fits = (legal [] [] start refl).1 in
+    let s = expired (opening schema running 0) start.at in
+    let made = subst (λ x. start.outcome ≡ outcome_of s x (has_failed start.outcome)) event fits.outcome in
+    let clash : IsFull live last ≡ Started 1 = sym outcome ∙ made in
+    cc clash
+
+-- there is a place for the only session of a server
+pub never_full : (schema : Tables) (call : Call) (running : List Row) (S : List Entry → List Entry → Type 0) (P : ℕ → Type 0)
+    (now : Streams) (end : SessionEnd) → call.home.alone ≡ true → call.seen ≡ [] → call.home.opening ≡ opening schema running 0
+    → ((seen mine : List Entry) → S seen mine → IsLegal 0 call.home.opening seen)
+    → Serves schema call S P now end → (live last : ℕ) → end ≢ Full live last
+never_full schema call running S P now end alone none first legal (NoStart end2 more is same stood) live last =
+    λ e. subst (λ x. Unstarted call.home call.seen P more x) e is
+never_full schema call running S P now end alone none first legal (NoPlace at given more start is same stood) live last =
+    λ e. has_place schema running call.peer start at given
+    (subst (λ s. IsLegal 0 s (start ∷ [])) first
+    (subst (λ h. IsLegal 0 call.home.opening h) (ap (λ l. l ++ more) none ∙ is.alone alone) (legal _ _ stood)))
+    is.event is.outcome_is
+never_full schema call running S P now end alone none first legal (Served session more later ended course standing met end2 has over by stood) live last =
+    λ e. let same = met_is schema call.home (call.seen ++ more) P session standing met later ended end over (λ k. cc (k, e)) in
+    no_stop course.base course.bytes course.requests live last
+    (subst (λ x. Met schema call course (call.seen ++ more) now standing x) (same ∙ e) has.met).1
+
+-- no memory was found for a server
+pub unserved : (server : Server) (peer : Peer) (streams : Streams) (before : Times) → before.answers < 2 ^ 64
+    → IsServed server peer streams streams before before Memory
+unserved server peer streams before few = record {
+  serves = NoStart Memory [] (λ alone. refl) refl (made_nothing _ before refl few);
+  lives = λ e. cc e;
+  has_place = λ live last e. cc e;
+}
+
+-- A session was served at a machine before its first event.
+pub is_served : {K : Type 0} (server : Server) (peer : Peer) (schema : Tables) (first last : Seat K) (s0 s1 : Streams)
+    (t0 t1 : Times) (end : SessionEnd) → schema ≡ server.schema
+    → first.machine.state ≡ opening server.schema server.running 0 → first.machine.count ≡ 0
+    → first.answers ≡ t0.answers → first.from ≡ t0.answers → t0.answers < 2 ^ 64
+    → t1.given ≡ last.given → t1.answers ≡ last.answers → last.machine.state.faults ≡ 0
+    → ((home : Home) (seen mine : List Entry) → SoloStands first home seen mine
+    → Serves schema (called peer home seen mine s0) (SoloStands last home) (IsSpent last.machine) s1 end)
+    → IsServed server peer s0 s1 t0 t1 end
+is_served server peer schema first last s0 s1 t0 t1 end same state count answers from few given_is answers_is sure serves =
+    let home = home_of server t0 in
+    let call = called peer home [] [] s0 in
+    let begun = stands_first first home refl (sym from) answers few state count in
+    let narrow = subst (λ s. Serves s call (SoloStands last home) (IsSpent last.machine) s1 end) same (serves home [] [] begun) in
+    let wide = widened server.schema call (SoloStands last home) (HasMade home.opening t0 t1) (IsSpent last.machine)
+    (λ ticket. ticket ≡ most_requests) (has_made last home t0 t1 refl given_is answers_is sure) (λ ticket is. is.0) s1 end narrow in
+    record {
+      serves = wide;
+      lives = never_killed server.schema call (HasMade home.opening t0 t1) (λ ticket. ticket ≡ most_requests) s1 end refl wide;
+      has_place = never_full server.schema call server.running (HasMade home.opening t0 t1) (λ ticket. ticket ≡ most_requests) s1 end
+          refl refl refl (λ seen mine made. made.legal) wide;
+    }

@@ -27,7 +27,8 @@ use Rattle.nc_yang_leafs.proofs.ProperLemmas.{types_are_proper}
 use Rattle.nc_yang_defaults.specs.Defaults.{HasDefaults, HasItsDefault}
 use Rattle.nc_yang_defaults.specs.Typed.{IsTyped as IsReady}
 use Rattle.nc_yang_defaults.proofs.LawLemmas.{has_one}
-use Rattle.nc_yang.specs.Laws.{AreModules, SchemasAreProper}
+use Rattle.nc_yang_defaults.proofs.OutcomeLemmas.{outcome_canonical}
+use Rattle.nc_yang.specs.Laws.{AreModules, DefaultsAreCanonical, HasCanonicalDefaults, SchemasAreProper}
 use Rattle.nc_yang.specs.Schemas.{AreNames, Breaks, Defines, IsSchemaOf, basis}
 use Rattle.nc_yang.proofs.Carried.{AreAlike, IsAlike, back, some_and, still_in_place, still_proper_types, still_turn, still_typed}
 use Rattle.nc_yang.proofs.DataTypes.{data_types_mean}
@@ -135,12 +136,33 @@ module _ (scoping : Scoping) (on : FeatureTest) (plan : Plan) (tables : Tables) 
       (still_in_place is.typed tables second (still_in_place given is.typed first (in_place scoping on plan planned is.keeps)))
       (types_proper scoping on plan is.typed is.types keeps whole)
 
+  pub defaults_are_canonical_in : HasCanonicalDefaults tables
+  defaults_are_canonical_in = outcome_canonical scoping plan is.typed tables ready is.defaults
+
 pub schemas_are_proper : SchemasAreProper
 schemas_are_proper modules lines tables d =
     schema_is_proper d.scoping d.on d.gives.plan tables d.begun.keeps d.gives.types d.gives.planned d.gives.is
 
--- what is compiled
-pub proper : (modules : List ModuleText) (lines : List (List ℕ)) (result : Result Tables CompileFault) → MatchResult result (Defines modules lines) (OnModule (Breaks modules lines)) →
-    IfOk result IsProperSchema
-proper modules lines (Ok tables) d = schemas_are_proper modules lines tables d
-proper modules lines (Err fault) d = tt
+pub defaults_are_canonical : DefaultsAreCanonical
+defaults_are_canonical modules lines tables d =
+    defaults_are_canonical_in d.scoping d.on d.gives.plan tables d.begun.keeps d.gives.types d.gives.planned d.gives.is
+
+-- what is so of each schema that modules define is so of the one that is compiled
+if_given : (D P : Tables → Type 0) (B : CompileFault → Type 0) (result : Result Tables CompileFault)
+    → ((tables : Tables) → D tables → P tables) → MatchResult result D B → IfOk result P
+if_given D P B (Ok tables) law d = law tables d
+if_given D P B (Err fault) law b = tt
+
+abbrev pub IsCompiled : List ModuleText → List (List ℕ) → Result Tables CompileFault → Type 0
+IsCompiled modules lines result = MatchResult result (Defines modules lines) (OnModule (Breaks modules lines))
+
+pub proper : (modules : List ModuleText) (lines : List (List ℕ)) (result : Result Tables CompileFault)
+    → IsCompiled modules lines result → IfOk result IsProperSchema
+proper modules lines result =
+    if_given (Defines modules lines) IsProperSchema (OnModule (Breaks modules lines)) result (schemas_are_proper modules lines)
+
+pub canonical : (modules : List ModuleText) (lines : List (List ℕ)) (result : Result Tables CompileFault)
+    → IsCompiled modules lines result → IfOk result HasCanonicalDefaults
+canonical modules lines result =
+    if_given (Defines modules lines) HasCanonicalDefaults (OnModule (Breaks modules lines)) result
+    (defaults_are_canonical modules lines)

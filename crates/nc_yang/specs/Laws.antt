@@ -5,7 +5,7 @@ use Rattle.nc_names.specs.declared.name.Bound.{Bound}
 use Rattle.nc_schema.specs.Kinds.{has_value}
 use Rattle.nc_schema.specs.Proper.{EachNode, IsProperModule, IsProperSchema}
 use Rattle.nc_schema.specs.Tables.{Tables}
-use Rattle.nc_schema.specs.Values.{canonical}
+use Rattle.nc_schema.specs.Values.{IsCanonical, canonical}
 use Rattle.nc_schema.specs.declared.node.Node.{Node}
 use Rattle.nc_yang_words.specs.declared.statement.Statement.{Statement}
 use Rattle.nc_yang_statements.specs.declared.fault.Fault.{Fault}
@@ -75,6 +75,16 @@ abbrev pub SchemasAreProper : Type 0
 SchemasAreProper =
     (modules : List ModuleText) (lines : List (List ℕ)) (tables : Tables) → Defines modules lines tables
     → IsProperSchema tables
+
+-- each default of a leaf or leaf-list is the canonical text of one of its values (RFC 7950 7.6.4, 7.7.4, 9.1)
+abbrev pub HasCanonicalDefaults : Tables → Type 0
+HasCanonicalDefaults tables = EachNode tables (λ number node. All (IsCanonical tables number) node.defaults)
+
+-- so it is in the schema that modules define
+abbrev pub DefaultsAreCanonical : Type 0
+DefaultsAreCanonical =
+    (modules : List ModuleText) (lines : List (List ℕ)) (tables : Tables) → Defines modules lines tables
+    → HasCanonicalDefaults tables
 
 -- modules that break a rule have no schema
 abbrev pub NeverBoth : Type 0

@@ -1,5 +1,5 @@
 //! Laws: what follows of the definitions that the contracts cite.
-ghost use Rattle.nc_yang.specs.Laws.{DataTypesMean, ModulesAreProper, NeverBoth, OneSchema};
+ghost use Rattle.nc_yang.specs.Laws.{DataTypesMean, DefaultsAreCanonical, ModulesAreProper, NeverBoth, OneSchema};
 ghost use Rattle.nc_yang.specs.Laws.{PlannedTypesMean, SchemasAreProper, TypesMean};
 
 /// In modules that keep all rules each `type` statement that is looked at means something, and so does each
@@ -29,6 +29,12 @@ pub fn modules_are_proper()
 /// types and defaults are as those of a schema have to be (RFC 7950 5.1, 5.3, 6.2, 7.5 to 7.9, 9).
 pub fn schemas_are_proper()
     ensures { SchemasAreProper }
+{}
+
+/// Each default in the schema that modules define is the canonical text of a value of its leaf or leaf-list
+/// (RFC 7950 7.6.4, 7.7.4, 9.1).
+pub fn defaults_are_canonical()
+    ensures { DefaultsAreCanonical }
 {}
 
 /// Modules that break a rule have no schema.

@@ -5,14 +5,14 @@
 //! their keys, cases and `unique` leafs, nc_yang_circles leafrefs in circles, nc_yang_leafs the table of types,
 //! nc_yang_identities the identities in it, and nc_yang_defaults the defaults.
 //!
-//! `compile` promises the schema that modules define, which is a proper one, or a rule that a file breaks.
-//! `first_unknown_feature` promises the first line that names no feature of the modules. By the law `types_mean`, in
-//! modules that keep all rules each `type` statement means something, and so does each member of a union, down to the
-//! last. By the law `planned_types_mean` each leaf and leaf-list of a plan has such a type, and by
-//! `data_types_mean` each one of a schema. By `modules_are_proper` the modules of a schema have names and
-//! namespaces of their own, and by `schemas_are_proper` the whole schema that modules define is a proper one.
-//! By `never_both` modules that break a rule have no schema, and by `one_schema` the others have one, but for the
-//! numbers of its types.
+//! `compile` promises the schema that modules define, a proper one with canonical defaults, or a rule that a
+//! file breaks; `first_unknown_feature` the first line that names no feature of the modules. By the law
+//! `types_mean`, in modules that keep all rules each `type` statement means something, and so does each
+//! member of a union, down to the last; by `planned_types_mean` each leaf and leaf-list of a plan has such a
+//! type, and by `data_types_mean` each one of a schema. By `modules_are_proper` the modules of a schema have
+//! names and namespaces of their own; the whole schema is proper by `schemas_are_proper`, and each default in
+//! it is a canonical text by `defaults_are_canonical`. By `never_both` modules that break a rule have no
+//! schema, and by `one_schema` the others have one, but for the numbers of its types.
 #![tactic(auto)]
 
 mod features;
@@ -26,7 +26,7 @@ mod texts;
 
 pub use features::first_unknown_feature;
 pub use laws::{
-    data_types_mean, modules_are_proper, never_both, one_schema, planned_types_mean,
-    schemas_are_proper, types_mean,
+    data_types_mean, defaults_are_canonical, modules_are_proper, never_both, one_schema,
+    planned_types_mean, schemas_are_proper, types_mean,
 };
 pub use texts::compile;

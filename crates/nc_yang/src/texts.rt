@@ -7,6 +7,7 @@ ghost use Rattle.nc_yang_texts.specs.Rules.{BreaksText, KeepsTexts};
 ghost use Rattle.nc_yang_texts.specs.Texts.{AreRead, OnModule};
 ghost use Rattle.nc_yang_texts.specs.declared.text.ModuleText.{ModuleText as TheModuleText};
 ghost use Rattle.nc_yang.specs.Features.{is_given};
+ghost use Rattle.nc_yang.specs.Laws.{HasCanonicalDefaults};
 ghost use Rattle.nc_yang.specs.Schemas as schemas;
 ghost use Rattle.nc_yang.specs.inner.Stops.{IsInFile, OnFound};
 
@@ -103,7 +104,7 @@ fn of_modules(alloc: Global, modules: &[ModuleText], lines: &[Text]) -> Result<S
 /// nodes and choices in document order, module after module, with groupings in place, their types and defaults; or a
 /// rule that is broken, or a limit that is passed, at its file and line. A line that names no feature of the modules
 /// counts for nothing.
-#[tactic(auto, using(crate::proofs::ProperSchema::proper))]
+#[tactic(auto, using(crate::proofs::ProperSchema::proper, crate::proofs::ProperSchema::canonical))]
 pub fn compile(
     alloc: Global,
     modules: &[ModuleText],
@@ -111,6 +112,7 @@ pub fn compile(
 ) -> Result<Schema, CompileFault>
     ensures defined { MatchResult result (schemas.Defines modules.now lines.now) (OnModule (schemas.Breaks modules.now lines.now)) }
     ensures proper { IfOk result IsProperSchema }
+    ensures canonical { IfOk result HasCanonicalDefaults }
 {
     of_modules(alloc, modules, lines)
 }

@@ -8,4 +8,5 @@ pub mod NameLemmas
 pub mod BookLemmas
 pub mod Misnaming
 pub mod Sharing
+pub mod StateLemmas
 pub mod PartLemmas

@@ -1,6 +1,7 @@
 pub mod Scopes
 pub mod Parts
 pub mod Spaces
+pub mod States
 pub mod Modules
 pub mod Names
 pub mod Tables

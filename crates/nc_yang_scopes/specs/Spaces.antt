@@ -1,5 +1,5 @@
 -- Spaces of names, in which no two statements of a block have one name (RFC 7950 6.2.1, 7.1.4, 7.1.9).
-use Rattle.std.specs.Prelude.{◌≡◌, ℕ, ◌&&◌, ◌||◌, Bool, false, if◌then◌else◌, List, [], ◌∷◌, ◌++◌, Option, Some, None, option_map, slice_get, Contains}
+use Rattle.std.specs.Prelude.{◌≡◌, ℕ, ◌&&◌, ◌||◌, not, Bool, true, false, if◌then◌else◌, List, [], ◌∷◌, ◌++◌, Option, Some, None, option_map, slice_get, Contains}
 use Rattle.std.specs.List.{flat_map, list_any}
 use Rattle.std.specs.Option.{option_map_or}
 use Rattle.nc_names.specs.Same.{is_same_text}
@@ -7,23 +7,36 @@ use Rattle.nc_yang_words.specs.declared.statement.Statement.{Statement}
 use Rattle.nc_yang_statements.specs.declared.fault.Fault.{Fault}
 use Rattle.nc_yang_statements.specs.declared.fault.ModuleWhy.TheVariants.{Twice}
 use Rattle.nc_yang_statements.specs.declared.keyword.Keyword.{Keyword}
-use Rattle.nc_yang_statements.specs.declared.keyword.Keyword.TheVariants.{Choice, Feature, Grouping, Identity, Import, Module, Prefix, Revision, Typedef}
+use Rattle.nc_yang_statements.specs.declared.keyword.Keyword.TheVariants.{Action, Choice, Container, Feature, Grouping, Identity, Import, Leaf, LeafList, List as ListWord, Module, Notification, Prefix, Revision, Rpc, Typedef}
 use Rattle.nc_yang_statements.specs.Keywords.{is_closed, is_same_keyword}
 use Rattle.nc_yang_statements.specs.Statements.{below, kind, name, part}
 use Rattle.nc_yang_statements.specs.Rules.{at_if, is_case}
 use Rattle.nc_yang_scopes.specs.declared.space.Space.{Space}
-use Rattle.nc_yang_scopes.specs.declared.space.Space.TheVariants.{Cases, Features, Groupings, Identities, Prefixes, Revisions, Typedefs}
+use Rattle.nc_yang_scopes.specs.declared.space.Space.TheVariants.{Cases, Features, Groupings, Identities, Nodes, Prefixes, Revisions, Typedefs}
 
 unfoldable pub spaces : List Space
-spaces = Typedefs ∷ Groupings ∷ Identities ∷ Features ∷ Cases ∷ Prefixes ∷ Revisions ∷ []
+spaces = Typedefs ∷ Groupings ∷ Identities ∷ Features ∷ Nodes ∷ Cases ∷ Prefixes ∷ Revisions ∷ []
 
--- a statement has a name in that space where it stands directly below another: a module's prefixes are its own and those
--- of its imports
+-- a data node, a choice or an operation (RFC 7950 6.2.1)
+abbrev pub is_node : Keyword → Bool
+is_node Container = true
+is_node Leaf = true
+is_node LeafList = true
+is_node ListWord = true
+is_node Choice = true
+is_node Rpc = true
+is_node Action = true
+is_node Notification = true
+is_node keyword = false
+
+-- a statement has a name in that space where it stands directly below another: nodes in a choice are its cases, and a
+-- module's prefixes are its own and those of its imports
 abbrev pub is_in_space : Space → Keyword → Keyword → Bool
 is_in_space Typedefs above keyword = is_same_keyword Typedef keyword
 is_in_space Groupings above keyword = is_same_keyword Grouping keyword
 is_in_space Identities above keyword = is_same_keyword Identity keyword
 is_in_space Features above keyword = is_same_keyword Feature keyword
+is_in_space Nodes above keyword = not (is_same_keyword Choice above) && is_node keyword
 is_in_space Cases above keyword = is_same_keyword Choice above && is_case keyword
 is_in_space Prefixes above keyword = is_same_keyword Module above && (is_same_keyword Prefix keyword || is_same_keyword Import keyword)
 is_in_space Revisions above keyword = is_same_keyword Revision keyword

@@ -23,7 +23,7 @@ pub struct TextFault {
 }
 
 // A fault of the statement, if the test is passed.
-fn fault_if(test: bool, statement: &Statement, why: ModuleWhy) -> Option<Fault>
+pub(crate) fn fault_if(test: bool, statement: &Statement, why: ModuleWhy) -> Option<Fault>
     ensures { result ≡ rules.first (rules.at_if test statement.now why) }
 {
     if test {

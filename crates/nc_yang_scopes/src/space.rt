@@ -23,6 +23,8 @@ pub enum Space {
     Identities,
     /// The features of a module.
     Features,
+    /// The data nodes, choices, rpcs, actions and notifications of a block that is no choice.
+    Nodes,
     /// The cases of a choice, a node that stands for one among them.
     Cases,
     /// The prefixes of a module: its own and those of its imports.
@@ -41,10 +43,28 @@ fn spaces() -> &'static [Space]
         Space::Groupings,
         Space::Identities,
         Space::Features,
+        Space::Nodes,
         Space::Cases,
         Space::Prefixes,
         Space::Revisions,
     ]
+}
+
+// Whether it is a data node, a choice or an operation.
+fn is_node(keyword: Keyword) -> bool
+    ensures { result ≡ words.is_node keyword }
+{
+    match keyword {
+        Keyword::Container
+        | Keyword::Leaf
+        | Keyword::LeafList
+        | Keyword::List
+        | Keyword::Choice
+        | Keyword::Rpc
+        | Keyword::Action
+        | Keyword::Notification => true,
+        _ => false,
+    }
 }
 
 // Whether it is a case, or a node that is one by itself.
@@ -71,6 +91,7 @@ fn is_in_space(space: Space, above: Keyword, keyword: Keyword) -> bool
         Space::Groupings => is_same_keyword(Keyword::Grouping, keyword),
         Space::Identities => is_same_keyword(Keyword::Identity, keyword),
         Space::Features => is_same_keyword(Keyword::Feature, keyword),
+        Space::Nodes => !is_same_keyword(Keyword::Choice, above) && is_node(keyword),
         Space::Cases => is_same_keyword(Keyword::Choice, above) && is_case(keyword),
         Space::Prefixes => {
             is_same_keyword(Keyword::Module, above)

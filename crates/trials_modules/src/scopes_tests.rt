@@ -3,7 +3,9 @@ ghost use Rattle.std.specs.Prelude.{IfSome, IsTrue};
 ghost use Rattle.nc_yang_scopes.specs.Scopes.{is_defining};
 
 use nc_names::Many;
-use nc_yang_scopes::{Scopes, TextFault, first_misnamed, first_renamed, first_twin};
+use nc_yang_scopes::{
+    Scopes, TextFault, first_configured, first_misnamed, first_renamed, first_twin,
+};
 use nc_yang_statements::{Fault, Keyword, kind, name};
 use nc_yang_words::{Statement, statements};
 use std::alloc::Global;
@@ -200,6 +202,78 @@ fn what_is_named_has_to_be_there(rt: HostRuntime) {
     }
 }
 
+/// That is what is wanted.
+fn is_same(rt: &impl Abort, text: &str, found: &str, wanted: &str) {
+    assert_eq!(rt; found, wanted, "in {text}");
+}
+
+/// What a text breaks by `config` within state.
+fn configured(rt: &impl Abort, alloc: Global, text: &str) -> String {
+    let root = statements(alloc, text).expect(rt, "statements");
+    match first_configured(&root) {
+        Some(Fault { line, why }) => format!(in alloc; "{line} {why:?}").expect(rt, "memory"),
+        None => String::new(alloc),
+    }
+}
+
+/// Texts with `config` statements in one another, and the one that may not be there (RFC 7950 7.21.1).
+const STATE: &[(&str, &str)] = &[
+    (
+        "module b { prefix q;\n container c { config false;\n leaf x {\n config true; } }\n}",
+        "4 BadArgument",
+    ),
+    (
+        "module b { prefix q;\n list l {\n choice d { case e { leaf x { config true; } } } config false; }\n}",
+        "3 BadArgument",
+    ),
+    (
+        "module b { prefix q;\n choice d { config false;\n leaf x { config true; } }\n}",
+        "3 BadArgument",
+    ),
+    (
+        "module b { prefix q;\n container c { config true; container d { config false; list l {\n config true; } } }\n}",
+        "3 BadArgument",
+    ),
+    (
+        "module b { prefix q;\n container c { config false; } leaf x { config true; }\n}",
+        "",
+    ),
+    (
+        "module b { prefix q;\n container c { config true; leaf x { config true; } leaf y { config false; } }\n}",
+        "",
+    ),
+    (
+        "module b { prefix q;\n container c { config false; leaf x { config false; } leaf y; }\n}",
+        "",
+    ),
+    // the nodes of a grouping stand where it is used
+    (
+        "module b { prefix q;\n grouping g { leaf x { config true; } } container c { config false; uses g; }\n}",
+        "",
+    ),
+    (
+        "module b { prefix q;\n container c { config false; grouping g { leaf x { config true; } } }\n}",
+        "",
+    ),
+    (
+        "module b { prefix q;\n grouping g { container c { config false;\n leaf x { config true; } } }\n}",
+        "3 BadArgument",
+    ),
+    // nothing is asked below a statement that is passed over
+    (
+        "module b { prefix q;\n container c { config false; action a { leaf x { config true; } } q:note { config true; } }\n}",
+        "",
+    ),
+];
+
+#[test]
+fn no_configuration_stands_in_state(rt: HostRuntime) {
+    for (text, wanted) in STATE {
+        let got = configured(&rt, rt.alloc(), text);
+        is_same(&rt, text, got.as_str(), wanted);
+    }
+}
+
 /// What a text breaks by names that two of its statements share.
 fn renamed(rt: &impl Abort, alloc: Global, text: &str) -> String {
     let root = statements(alloc, text).expect(rt, "statements");
@@ -209,57 +283,96 @@ fn renamed(rt: &impl Abort, alloc: Global, text: &str) -> String {
     }
 }
 
+/// Texts with names that two statements of a block share, or that each has in a space of its own.
+const SHARED: &[(&str, &str)] = &[
+    (
+        "module a { prefix p;\n typedef t; typedef u;\n grouping t;\n typedef t;\n}",
+        "4 Twice",
+    ),
+    (
+        "module a { prefix p;\n container c { grouping g; }\n grouping g;\n}",
+        "",
+    ),
+    (
+        "module a { prefix p;\n container c { grouping g;\n grouping g; }\n}",
+        "3 Twice",
+    ),
+    (
+        "module a { prefix p;\n identity i; feature i; identity j;\n feature i;\n}",
+        "3 Twice",
+    ),
+    (
+        "module a { prefix p;\n import b { prefix q; } import c {\n prefix q; }\n}",
+        "2 Twice",
+    ),
+    (
+        "module a { prefix p;\n import b {\n prefix p; }\n}",
+        "2 Twice",
+    ),
+    (
+        "module a { prefix p;\n import b { prefix q; } import b { prefix r; }\n}",
+        "",
+    ),
+    (
+        "module a { prefix p;\n revision 2024-01-01; revision 2023-01-01;\n revision 2024-01-01;\n}",
+        "3 Twice",
+    ),
+    (
+        "module a { prefix p;\n choice c { case x; leaf y;\n container x; }\n}",
+        "3 Twice",
+    ),
+    (
+        "module a { prefix p;\n choice c { case x; case y; }\n container x { leaf c; leaf x; }\n}",
+        "",
+    ),
+    (
+        "module a { prefix p;\n rpc r { grouping g; grouping g; }\n}",
+        "",
+    ),
+    // data nodes, whether they are part of a configuration or not (RFC 7950 6.2.1)
+    (
+        "module a { prefix p;\n leaf x { if-feature f; } container c { leaf x; }\n leaf-list x;\n}",
+        "3 Twice",
+    ),
+    (
+        "module a { prefix p;\n container c { config false; leaf x;\n list x; }\n}",
+        "3 Twice",
+    ),
+    (
+        "module a { prefix p;\n grouping g { leaf x;\n container x { config false; } }\n}",
+        "3 Twice",
+    ),
+    // choices and operations are among them
+    ("module a { prefix p;\n leaf c;\n choice c;\n}", "3 Twice"),
+    (
+        "module a { prefix p;\n rpc r; notification n; container n;\n}",
+        "2 Twice",
+    ),
+    (
+        "module a { prefix p;\n list l { action r;\n leaf r; }\n}",
+        "3 Twice",
+    ),
+    // nodes of a case, and not those of a choice, which are its cases
+    (
+        "module a { prefix p;\n choice c { case d { leaf x;\n leaf x; } }\n}",
+        "3 Twice",
+    ),
+    (
+        "module a { prefix p;\n leaf x; choice c { leaf x; case d { leaf x; } }\n}",
+        "",
+    ),
+    // other definitions have spaces of their own
+    (
+        "module a { prefix p;\n typedef n; grouping n; identity n; feature n; leaf n;\n}",
+        "",
+    ),
+];
+
 #[test]
 fn no_two_statements_of_a_block_have_one_name(rt: HostRuntime) {
-    let cases = [
-        (
-            "module a { prefix p;\n typedef t; typedef u;\n grouping t;\n typedef t;\n}",
-            "4 Twice",
-        ),
-        (
-            "module a { prefix p;\n container c { grouping g; }\n grouping g;\n}",
-            "",
-        ),
-        (
-            "module a { prefix p;\n container c { grouping g;\n grouping g; }\n}",
-            "3 Twice",
-        ),
-        (
-            "module a { prefix p;\n identity i; feature i; identity j;\n feature i;\n}",
-            "3 Twice",
-        ),
-        (
-            "module a { prefix p;\n import b { prefix q; } import c {\n prefix q; }\n}",
-            "2 Twice",
-        ),
-        (
-            "module a { prefix p;\n import b {\n prefix p; }\n}",
-            "2 Twice",
-        ),
-        (
-            "module a { prefix p;\n import b { prefix q; } import b { prefix r; }\n}",
-            "",
-        ),
-        (
-            "module a { prefix p;\n revision 2024-01-01; revision 2023-01-01;\n revision 2024-01-01;\n}",
-            "3 Twice",
-        ),
-        (
-            "module a { prefix p;\n choice c { case x; leaf y;\n container x; }\n}",
-            "3 Twice",
-        ),
-        (
-            "module a { prefix p;\n choice c { case x; case y; }\n container c { leaf x; leaf x; }\n}",
-            "",
-        ),
-        (
-            "module a { prefix p;\n rpc r { grouping g; grouping g; }\n}",
-            "",
-        ),
-    ];
-    for (text, wanted) in cases {
+    for (text, wanted) in SHARED {
         let got = renamed(&rt, rt.alloc(), text);
-        assert_eq!(rt; got.as_str(), wanted, "in {text}");
+        is_same(&rt, text, got.as_str(), wanted);
     }
 }
 

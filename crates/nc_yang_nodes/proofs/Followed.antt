@@ -7,6 +7,7 @@ use Rattle.nc_yang_statements.specs.declared.keyword.Keyword.TheVariants.{Case a
 use Rattle.nc_yang_statements.specs.Keywords.{is_closed}
 use Rattle.nc_yang_statements.specs.Statements.{kind, name}
 use Rattle.nc_yang_scopes.specs.Scopes.{Located, Scoping, resolved, root}
+use Rattle.nc_yang_scopes.specs.States.{is_state}
 use Rattle.nc_yang_nodes.specs.declared.context.Context.{Context}
 use Rattle.nc_yang_nodes.specs.declared.planned.Plan.{Plan}
 use Rattle.nc_yang_nodes.specs.declared.planned.Planned.{Planned}
@@ -14,7 +15,7 @@ use Rattle.nc_yang_nodes.specs.declared.role.Role.{Role}
 use Rattle.nc_yang_nodes.specs.declared.role.Role.TheVariants.{Node, Choice, Case, Uses}
 use Rattle.nc_yang_nodes.specs.Expansion.{Gives, added, after, at_top, given, inner, node_of, none, passed}
 use Rattle.nc_yang_nodes.specs.Plans.{GivesTexts, IsPlan, no_text, one_more, statement_of}
-use Rattle.nc_yang_nodes.specs.Roles.{FeatureTest, block, children, is_state, is_supported, role, role_of}
+use Rattle.nc_yang_nodes.specs.Roles.{FeatureTest, block, children, is_supported, role, role_of}
 use Rattle.nc_yang_nodes.proofs.ListLemmas.{get_push}
 
 -- so it is with each of these statements

@@ -5,11 +5,11 @@ use Rattle.std.specs.List.{list_all}
 use Rattle.std.specs.Option.{option_map_or}
 use Rattle.nc_yang_words.specs.declared.statement.Statement.{Statement}
 use Rattle.nc_yang_statements.specs.declared.keyword.Keyword.{Keyword}
-use Rattle.nc_yang_statements.specs.declared.keyword.Keyword.TheVariants.{Container, Leaf, LeafList, List as ListWord, Choice as ChoiceWord, Case as CaseWord, Uses as UsesWord, Config, Feature, Grouping, IfFeature}
-use Rattle.nc_yang_statements.specs.Arguments.{is_false_text}
+use Rattle.nc_yang_statements.specs.declared.keyword.Keyword.TheVariants.{Container, Leaf, LeafList, List as ListWord, Choice as ChoiceWord, Case as CaseWord, Uses as UsesWord, Feature, Grouping, IfFeature}
 use Rattle.nc_yang_statements.specs.Keywords.{is_same_keyword}
-use Rattle.nc_yang_statements.specs.Statements.{below, kind, name, part}
+use Rattle.nc_yang_statements.specs.Statements.{below, kind, name}
 use Rattle.nc_yang_scopes.specs.Scopes.{Located, inside, resolved}
+use Rattle.nc_yang_scopes.specs.States.{is_state}
 use Rattle.nc_yang_nodes.specs.declared.role.Role.{Role}
 use Rattle.nc_yang_nodes.specs.declared.role.Role.TheVariants.{Node, Choice, Case, Uses}
 
@@ -42,11 +42,7 @@ abbrev pub is_supported : List Statement → FeatureTest → Located → Bool
 is_supported texts on l =
     list_all (λ t. not (is_same_keyword IfFeature (kind t.statement)) || is_met texts on t) (children l)
 
--- `config false`: its nodes are state and no part of a configuration (RFC 7950 7.21.1)
-abbrev pub is_state : Statement → Bool
-is_state s = option_map_or (λ t. is_false_text (name t)) (part Config (below s)) false
-
--- what a statement gives to a configuration, if anything
+-- what a statement gives to a configuration, if anything: state is no part of it (RFC 7950 7.21.1)
 abbrev pub role : List Statement → FeatureTest → Located → Option Role
 role texts on l =
     if is_supported texts on l && not (is_state l.statement) then role_of (kind l.statement) else None

@@ -9,8 +9,8 @@ use crate::features::Features;
 use crate::role::{Role, role_of};
 use crate::table::{Entry, child_of};
 use nc_names::{Many, Memory};
-use nc_yang_scopes::Scopes;
-use nc_yang_statements::{Keyword, is_same_keyword, kind, name, part};
+use nc_yang_scopes::{Scopes, is_state};
+use nc_yang_statements::{Keyword, is_same_keyword, kind, name};
 use nc_yang_words::Statement;
 use std::alloc::Global;
 
@@ -93,17 +93,6 @@ pub fn is_supported_at<'a>(scopes: &Scopes<'a>, features: &Features<'a>, number:
 {
     match scopes.statement(number) {
         Some(statement) => is_supported(scopes, features, number, statement),
-        None => false,
-    }
-}
-
-// Whether a statement says that its nodes are state.
-#[tactic(auto, unfolding(nc_yang_statements::specs::Arguments::is_false_text))]
-fn is_state(statement: &Statement) -> bool
-    ensures { result ≡ roles.is_state statement.now }
-{
-    match part(statement.below.as_slice(), Keyword::Config) {
-        Some(found) => name(found) == "false",
         None => false,
     }
 }

@@ -1,5 +1,5 @@
 -- Rules that all texts keep, or one breaks.
-use Rattle.std.proofs.Common.{◌≡◌, ◌<◌, ℕ, List, [], ◌∷◌, Option, Some, None, length, slice_get, get_or, refl, subst, sym, ◌∙◌}
+use Rattle.std.proofs.Common.{◌≡◌, ◌<◌, ℕ, false, List, [], ◌∷◌, Option, Some, None, length, slice_get, get_or, refl, subst, sym, ◌∙◌}
 use Rattle.std.specs.List.{All}
 use Rattle.std.specs.Option.{MatchOption}
 use Rattle.std.specs.Result.{IfOk}
@@ -12,10 +12,11 @@ use Rattle.nc_yang_statements.specs.Rules.{KeepsRules, first}
 use Rattle.nc_yang_scopes.specs.Modules.{twins}
 use Rattle.nc_yang_scopes.specs.Names.{BreaksNames, KeepsNames}
 use Rattle.nc_yang_scopes.specs.Spaces.{KeepsSpaces}
+use Rattle.nc_yang_scopes.specs.States.{KeepsState}
 use Rattle.nc_yang_scopes.specs.declared.naming.TextFault.{TextFault}
 use Rattle.nc_yang_loops.specs.Loops.{BreaksLoops, KeepsLoops}
 use Rattle.nc_yang_loops.specs.Revisions.{unrevised}
-use Rattle.nc_yang_texts.specs.Rules.{BreaksText, KeepsTexts, alone, looping, misnamed, renamed, twin, unrevised_import}
+use Rattle.nc_yang_texts.specs.Rules.{BreaksText, KeepsTexts, alone, configured, looping, misnamed, renamed, twin, unrevised_import}
 use Rattle.nc_yang_texts.specs.inner.Named.{KeepsNamed}
 
 pub twin_found : (texts : List Statement) (o : Option TextFault) (found : TextFault) → o ≡ Some found →
@@ -33,14 +34,15 @@ misnamed_found texts found broken = misnamed found.text found.fault broken
 pub unrevised_found : (texts : List Statement) (found : TextFault) → Some found ≡ first (unrevised texts) → BreaksText texts found
 unrevised_found texts found e = unrevised_import found (first_contains (unrevised texts) found (sym e))
 
-kept : (texts : List Statement) → All KeepsRules texts → first (twins texts) ≡ None → All KeepsSpaces texts → KeepsNamed texts →
-    KeepsTexts texts
-kept texts rules apart spaces named _ (alone text root fault e broken) = at_each KeepsRules texts text root rules e fault broken
-kept texts rules apart spaces named _ (renamed text root fault e broken) = at_each KeepsSpaces texts text root spaces e fault broken
-kept texts rules apart spaces named _ (twin found broken) = first_lacks (twins texts) found apart broken
-kept texts rules apart spaces named _ (misnamed text fault broken) = named.names text fault broken
-kept texts rules apart spaces named _ (looping text fault broken) = named.loops text fault broken
-kept texts rules apart spaces named _ (unrevised_import found broken) = first_lacks (unrevised texts) found named.revisions broken
+kept : (texts : List Statement) → All KeepsRules texts → first (twins texts) ≡ None → All KeepsSpaces texts →
+    All (KeepsState false) texts → KeepsNamed texts → KeepsTexts texts
+kept texts rules apart spaces states named _ (alone text root fault e broken) = at_each KeepsRules texts text root rules e fault broken
+kept texts rules apart spaces states named _ (renamed text root fault e broken) = at_each KeepsSpaces texts text root spaces e fault broken
+kept texts rules apart spaces states named _ (configured text root fault e broken) = at_each (KeepsState false) texts text root states e fault broken
+kept texts rules apart spaces states named _ (twin found broken) = first_lacks (twins texts) found apart broken
+kept texts rules apart spaces states named _ (misnamed text fault broken) = named.names text fault broken
+kept texts rules apart spaces states named _ (looping text fault broken) = named.loops text fault broken
+kept texts rules apart spaces states named _ (unrevised_import found broken) = first_lacks (unrevised texts) found named.revisions broken
 
 -- what is left where the other names are kept
 by_loops : (texts : List Statement) (o : Option TextFault) → KeepsNames texts → first (unrevised texts) ≡ None →
@@ -51,10 +53,10 @@ by_loops texts None names revisions loops = record { names = names; revisions = 
 
 -- what is left where the other rules are kept
 by_names : (texts seen : List Statement) (o : Option TextFault) → seen ≡ texts → All KeepsRules texts →
-    first (twins texts) ≡ None → All KeepsSpaces texts → MatchOption o (KeepsNamed seen) (BreaksText seen) →
+    first (twins texts) ≡ None → All KeepsSpaces texts → All (KeepsState false) texts → MatchOption o (KeepsNamed seen) (BreaksText seen) →
     MatchOption o (KeepsTexts texts) (BreaksText texts)
-by_names texts seen (Some found) e rules apart spaces named = subst (λ ts. BreaksText ts found) e named
-by_names texts seen None e rules apart spaces named = kept texts rules apart spaces (subst KeepsNamed e named)
+by_names texts seen (Some found) e rules apart spaces states named = subst (λ ts. BreaksText ts found) e named
+by_names texts seen None e rules apart spaces states named = kept texts rules apart spaces states (subst KeepsNamed e named)
 
 pub by_loops_in : (texts : List Statement) (r : Result (Option TextFault) Memory) → KeepsNames texts → first (unrevised texts) ≡ None →
     IfOk r (λ o. MatchOption o (KeepsLoops texts) (λ found. BreaksLoops texts found.text found.fault)) →
@@ -63,7 +65,7 @@ by_loops_in texts (Ok o) names revisions loops = by_loops texts o names revision
 by_loops_in texts (Err memory) names revisions loops = tt
 
 pub by_names_in : (texts seen : List Statement) (r : Result (Option TextFault) Memory) → seen ≡ texts → All KeepsRules texts →
-    first (twins texts) ≡ None → All KeepsSpaces texts → IfOk r (λ o. MatchOption o (KeepsNamed seen) (BreaksText seen)) →
+    first (twins texts) ≡ None → All KeepsSpaces texts → All (KeepsState false) texts → IfOk r (λ o. MatchOption o (KeepsNamed seen) (BreaksText seen)) →
     IfOk r (λ o. MatchOption o (KeepsTexts texts) (BreaksText texts))
-by_names_in texts seen (Ok o) e rules apart spaces named = by_names texts seen o e rules apart spaces named
-by_names_in texts seen (Err memory) e rules apart spaces named = tt
+by_names_in texts seen (Ok o) e rules apart spaces states named = by_names texts seen o e rules apart spaces states named
+by_names_in texts seen (Err memory) e rules apart spaces states named = tt

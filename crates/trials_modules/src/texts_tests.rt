@@ -100,6 +100,19 @@ const CASES: &[(&[&[u8]], &str)] = &[
         &[b"module a { namespace u; prefix a; grouping t;\n typedef t { type string; } }"],
         "kept",
     ),
+    (
+        &[
+            b"module a { namespace u; prefix a; grouping g { leaf x { type string; }\n leaf x { type string; config false; } } }",
+        ],
+        "breaks 0:2 Twice",
+    ),
+    // RFC 7950 7.21.1: no configuration stands in state
+    (
+        &[
+            b"module a { namespace u; prefix a; list l { config false; leaf x { type string;\n config true; } } }",
+        ],
+        "breaks 0:2 BadArgument",
+    ),
     // RFC 7950 5.5, 7.1.5: what is named is there
     (&[B], "breaks 0:1 UnknownName"),
     (

@@ -15,4 +15,5 @@ returns c =
     (sym c.in_ok-found.ensures ∙ c.in_default-2.is)
     (subst (λ o. MatchOption o (All KeepsSpaces c.args.texts.now) (BreaksText c.args.texts.now)) c.in_default-3.is
     c.in_ok-found-2.ensures)
+    c.in_default-first_in_state.ensures
     c.first_by_names.ensures

@@ -1,6 +1,7 @@
 -- Plans that are alike give the same data nodes, and break the same rules.
 use Rattle.std.proofs.Common.{◌≡◌, ◌+◌, ℕ, zero, suc, false, cond, List, [], ◌∷◌, ◌++◌, map, refl, sym, ap, ◌∙◌}
 use Rattle.std.specs.Prelude.{Option, Some, None, slice_get}
+use Rattle.std.specs.List.{flat_map}
 use Rattle.std.specs.Option.{option_map_or}
 use Rattle.nc_schema.specs.Tables.{Tables}
 use Rattle.nc_schema.specs.declared.node.Choice.{Choice}
@@ -16,6 +17,7 @@ use Rattle.nc_yang_nodes.specs.Roles.{FeatureTest}
 use Rattle.nc_yang_nodes.specs.declared.planned.Plan.{Plan}
 use Rattle.nc_yang_nodes.specs.declared.planned.Planned.{Planned}
 use Rattle.nc_yang_nodes.specs.declared.planned.PlannedChoice.{PlannedChoice}
+use Rattle.nc_yang_data.specs.Conditions.{all_conditions, conditions}
 use Rattle.nc_yang_data.specs.Data.{data_faults, data_tables, drafts, nodes_from, with_leafs}
 use Rattle.nc_yang_data.specs.Defaults.{asks, carrier, choices_from, default_faults, is_by_default, outermost, nodes_from as asking_from}
 use Rattle.nc_yang_data.specs.Drafts.{choice_at, choice_in, draft_at, draft_in, unknown_choice, unknown_in}
@@ -131,6 +133,25 @@ module _ (scoping : Scoping) (on : FeatureTest) where
         ∙ (λ i. asking_of (λ number. blame_is plan.nodes number i) tables 0 (map (seen_node scoping) plan.nodes)
         ++ choices_of (λ number. blame_is plan.nodes number i) tables 0 (map (seen_choice scoping) plan.choices))
 
+  -- ---- conditions of keys
+  abbrev condition_of : Option Located → List TextFault
+  condition_of o = option_map_or (λ (l : Located). conditions l.place.text l.statement) o []
+
+  abbrev keyed : List SeenNode → ℕ → List TextFault
+  keyed ss key = option_map_or (λ (s : SeenNode). condition_of s.statement) (slice_get ss key) []
+
+  keyed_is : (ps : List Planned) (key : ℕ) →
+      option_map_or (λ (p : Planned). condition_of (slice_get scoping.located p.statement)) (slice_get ps key) [] ≡ keyed (map (seen_node scoping) ps) key
+  keyed_is [] key = refl
+  keyed_is (p ∷ ps) zero = refl
+  keyed_is (p ∷ ps) (suc key) = keyed_is ps key
+
+  abbrev conditions_of : (ℕ → List TextFault) → List Node → List TextFault
+  conditions_of asked nodes = flat_map (λ (node : Node). flat_map asked node.keys) nodes
+
+  conditions_are : (plan : Plan) (nodes : List Node) → all_conditions scoping plan nodes ≡ conditions_of (keyed (map (seen_node scoping) plan.nodes)) nodes
+  conditions_are plan nodes = λ i. conditions_of (λ key. keyed_is plan.nodes key i) nodes
+
   -- ---- plans
   abbrev tables_of : List SeenNode → List SeenChoice → Tables
   tables_of ss cs = record {
@@ -158,7 +179,8 @@ module _ (scoping : Scoping) (on : FeatureTest) where
   abbrev all_faults_of : List SeenNode → List SeenChoice → List TextFault
   all_faults_of ss cs =
       faults_of (record { nodes = map draft_of ss; choices = []; types = []; modules = [] }) 0 ss
-      ++ (asking_of (blame ss) (tables_of ss cs) 0 ss ++ choices_of (blame ss) (tables_of ss cs) 0 cs)
+      ++ ((asking_of (blame ss) (tables_of ss cs) 0 ss ++ choices_of (blame ss) (tables_of ss cs) 0 cs)
+      ++ conditions_of (keyed ss) (tables_of ss cs).nodes)
 
   all_faults_are : (plan : Plan) → data_faults scoping on plan ≡ all_faults_of (map (seen_node scoping) plan.nodes) (map (seen_choice scoping) plan.choices)
   all_faults_are plan =
@@ -166,7 +188,9 @@ module _ (scoping : Scoping) (on : FeatureTest) where
       ∙ faults_are (record { nodes = map draft_of (map (seen_node scoping) plan.nodes); choices = []; types = []; modules = [] }) 0 plan.nodes in
       let by_default = ap (λ t. default_faults scoping t plan) (tables_are plan)
       ∙ defaults_are plan (tables_of (map (seen_node scoping) plan.nodes) (map (seen_choice scoping) plan.choices)) in
-      λ i. own i ++ by_default i
+      let by_keys = ap (λ (t : Tables). all_conditions scoping plan t.nodes) (tables_are plan)
+      ∙ conditions_are plan (tables_of (map (seen_node scoping) plan.nodes) (map (seen_choice scoping) plan.choices)).nodes in
+      λ i. own i ++ (by_default i ++ by_keys i)
 
   pub faults_alike : (p q : Plan) → AreAlike scoping p q → data_faults scoping on p ≡ data_faults scoping on q
   faults_alike p q h = all_faults_are p ∙ (λ i. all_faults_of (h.nodes i) (h.choices i)) ∙ sym (all_faults_are q)

@@ -1,10 +1,11 @@
 -- Where no rule is broken, data nodes and choices are in place.
-use Rattle.std.proofs.Common.{◌≡◌, []}
+use Rattle.std.proofs.Common.{◌≡◌, ◌++◌, []}
 use Rattle.nc_yang_scopes.specs.Scopes.{Scoping}
 use Rattle.nc_yang_nodes.proofs.Sound.{plan_is_sound}
 use Rattle.nc_yang_nodes.specs.Plans.{IsPlan}
 use Rattle.nc_yang_nodes.specs.Roles.{FeatureTest}
 use Rattle.nc_yang_nodes.specs.declared.planned.Plan.{Plan}
+use Rattle.nc_yang_data.specs.Conditions.{all_conditions}
 use Rattle.nc_yang_data.specs.Data.{data_faults, data_tables, drafts}
 use Rattle.nc_yang_data.specs.Defaults.{default_faults}
 use Rattle.nc_yang_data.specs.Laws.{AreInPlace}
@@ -19,7 +20,9 @@ pub in_place : (scoping : Scoping) (on : FeatureTest) (plan : Plan) → IsPlan s
     AreInPlace (data_tables scoping on plan)
 in_place scoping on plan planned off =
     let sound = plan_is_sound scoping on plan planned in
-    let none = (append_nothing (faults_from scoping (drafts scoping plan) 0 plan.nodes) (default_faults scoping (data_tables scoping on plan) plan) off).0 in
+    let none =
+    (append_nothing (faults_from scoping (drafts scoping plan) 0 plan.nodes)
+    (default_faults scoping (data_tables scoping on plan) plan ++ all_conditions scoping plan (data_tables scoping on plan).nodes) off).0 in
     record {
       parents = λ number node is. stands scoping on plan number node (known scoping on plan number node sound none is) sound;
       names = λ number node is. is_named scoping on plan number node (known scoping on plan number node sound none is) sound;

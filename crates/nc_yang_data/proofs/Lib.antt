@@ -5,6 +5,7 @@ mod PlaceLemmas
 mod DraftLemmas
 mod TextLemmas
 mod DefaultLemmas
+mod ConditionLemmas
 mod NodeLemmas
 mod Kept
 mod KeptKeys

@@ -7,6 +7,7 @@ use Rattle.nc_yang_scopes.specs.declared.naming.TextFault.{TextFault}
 use Rattle.nc_yang_nodes.specs.Roles.{FeatureTest}
 use Rattle.nc_yang_nodes.specs.declared.planned.Plan.{Plan}
 use Rattle.nc_yang_nodes.specs.declared.planned.Planned.{Planned}
+use Rattle.nc_yang_data.specs.Conditions.{all_conditions}
 use Rattle.nc_yang_data.specs.Defaults.{default_faults}
 use Rattle.nc_yang_data.specs.Drafts.{choice_in, draft_at}
 use Rattle.nc_yang_data.specs.Modules.{modules_from}
@@ -41,7 +42,9 @@ data_tables scoping on plan = record {
 }
 
 -- the rules that data nodes and choices break in their places: names, keys and unique leafs of the nodes, then what has
--- to be there and stands in a default case
+-- to be there and stands in a default case, then conditions of keys
 abbrev pub data_faults : Scoping → FeatureTest → Plan → List TextFault
 data_faults scoping on plan =
-    faults_from scoping (drafts scoping plan) 0 plan.nodes ++ default_faults scoping (data_tables scoping on plan) plan
+    faults_from scoping (drafts scoping plan) 0 plan.nodes
+    ++ (default_faults scoping (data_tables scoping on plan) plan
+    ++ all_conditions scoping plan (data_tables scoping on plan).nodes)

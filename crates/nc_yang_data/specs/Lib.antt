@@ -4,6 +4,7 @@ pub mod Leafs
 pub mod Lists
 pub mod Places
 pub mod Defaults
+pub mod Conditions
 pub mod Data
 pub mod Faults
 pub mod Laws

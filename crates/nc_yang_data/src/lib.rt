@@ -15,6 +15,7 @@
 mod again;
 mod bounds;
 mod choice;
+mod conditions;
 mod defaults;
 mod draft;
 mod drafts;

@@ -6,13 +6,16 @@ ghost use Rattle.nc_yang_statements.specs.Rules as rules;
 ghost use Rattle.nc_yang_scopes.specs.Prefixes.{namespace_in};
 ghost use Rattle.nc_yang_nodes.specs.FeaturesOn.{is_on};
 ghost use Rattle.nc_yang_nodes.specs.Plans.{IsPlan, IsSoundPlan};
+ghost use Rattle.nc_yang_data.specs.Conditions.{all_conditions};
 ghost use Rattle.nc_yang_data.specs.Data as tables;
+ghost use Rattle.nc_yang_data.specs.Defaults.{default_faults};
 ghost use Rattle.nc_yang_data.specs.Drafts as words;
 ghost use Rattle.nc_yang_data.specs.Faults.{OnFault};
 ghost use Rattle.nc_yang_data.specs.Modules.{modules_from};
 ghost use Rattle.nc_yang_data.specs.Places as places;
 
 use crate::choice::add_choices;
+use crate::conditions::first_conditional;
 use crate::defaults::first_in_default;
 use crate::draft::draft_at;
 use crate::drafts::add_drafts;
@@ -156,6 +159,21 @@ fn refuse(found: Option<TextFault>) -> Result<(), DataFault>
     }
 }
 
+// The first rule that data nodes and choices break besides their names, keys and unique leafs.
+#[tactic(auto, using(nc_yang_statements::proofs::Firsts::first_some, nc_yang_statements::proofs::Firsts::first_none))]
+fn first_besides<'a>(scopes: &Scopes<'a>, schema: &Schema, plan: &Plan) -> Option<TextFault>
+    requires nodes { length plan.now.nodes < 2 ^ 32 }
+    requires choices { length plan.now.choices < 2 ^ 32 }
+    ensures { result ≡ rules.first (default_faults scopes.now schema.now plan.now
+        ++ all_conditions scopes.now plan.now schema.now.nodes) }
+{
+    let found = first_in_default(scopes, schema, plan);
+    if found.is_some() {
+        return found;
+    }
+    first_conditional(scopes, schema, plan)
+}
+
 // Adds all of a plan, or gives the first rule that it breaks.
 #[tactic(auto, using(nc_yang_statements::proofs::Firsts::first_some, nc_yang_statements::proofs::Firsts::first_none))]
 fn fill<'a>(
@@ -177,7 +195,7 @@ fn fill<'a>(
 {
     add_placed(alloc, scopes, plan, drafts, schema)?;
     add_rest(alloc, scopes, features, plan, schema)?;
-    refuse(first_in_default(scopes, schema, plan))
+    refuse(first_besides(scopes, schema, plan))
 }
 
 /// The data nodes and choices that modules define, with their names, kinds, cases, counts, keys and `unique`
@@ -185,7 +203,7 @@ fn fill<'a>(
 /// control's statements. The plan is that of `plan_of` for these texts and features. Instead comes the first
 /// rule that a data node breaks in its place: its name is there already (RFC 7950 6.2.1), a list has no keys,
 /// or its `key` or `unique` statement names no such leaf (RFC 7950 7.8.2, 7.8.3); or a mandatory node stands
-/// directly in a default case (RFC 7950 7.9.3).
+/// directly in a default case (RFC 7950 7.9.3), or a key has a condition (RFC 7950 7.20.2).
 #[tactic(auto, using(nc_yang_nodes::proofs::Sound::plan_is_sound, crate::proofs::TextLemmas::none_first))]
 pub fn data_nodes<'a>(
     alloc: Global,

@@ -257,6 +257,13 @@ const NODES: &[(&[&str], &str)] = &[
         ],
         "l@urn:a list key 1; k@urn:a leaf in 0; l@urn:b list key 3; k@urn:b leaf in 2; m@urn:b leaf; ",
     ),
+    // a condition at a list, and at a leaf that is no key (RFC 7950 7.20.2)
+    (
+        &[
+            "module a { feature f; list l { if-feature f; key k; leaf k; leaf x { if-feature f; } } }",
+        ],
+        "l@ list key 1; k@ leaf in 0; x@ leaf in 0; ",
+    ),
     // two modules have two nodes of one name
     (
         &[
@@ -379,6 +386,19 @@ const FAULTS: &[(&[&str], &str)] = &[
     (
         &[
             "module a { choice k { default c;\n container c { choice m { mandatory true; leaf x; } } } }",
+        ],
+        "BadArgument 0:2",
+    ),
+    // a condition at a key (RFC 7950 7.20.2)
+    (
+        &[
+            "module a { feature f; list l { key \"j k\"; leaf j; leaf k { mandatory true;\n if-feature f; } } }",
+        ],
+        "BadArgument 0:2",
+    ),
+    (
+        &[
+            "module a { feature f; grouping g { leaf k {\n if-feature f; } } list l { key k; uses g; } }",
         ],
         "BadArgument 0:2",
     ),

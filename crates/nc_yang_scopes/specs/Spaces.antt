@@ -17,7 +17,7 @@ use Rattle.nc_yang_scopes.specs.declared.space.Space.TheVariants.{Cases, Feature
 unfoldable pub spaces : List Space
 spaces = Typedefs ∷ Groupings ∷ Identities ∷ Features ∷ Nodes ∷ Cases ∷ Prefixes ∷ Revisions ∷ []
 
--- a data node, a choice or an operation (RFC 7950 6.2.1)
+-- a data node, a choice, an rpc, an action or a notification (RFC 7950 6.2.1)
 abbrev pub is_node : Keyword → Bool
 is_node Container = true
 is_node Leaf = true

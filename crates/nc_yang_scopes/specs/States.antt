@@ -14,20 +14,22 @@ use Rattle.nc_yang_statements.specs.Rules.{at_if}
 abbrev pub is_state : Statement → Bool
 is_state s = option_map_or (λ c. is_false_text (name c)) (part Config (below s)) false
 
--- what stands directly in a statement is state: the statement says so, or is state itself. Of the nodes of a grouping it
--- is known where the grouping is used
+-- what stands directly in a statement stands in state: the statement is state, or stands in state itself. The nodes of
+-- a grouping stand where it is used
 abbrev pub is_state_in : (state : Bool) → Statement → Bool
 is_state_in state s = is_state s || (state && not (is_same_keyword Grouping (kind s)))
 
 -- the `config true` of a statement that stands in state
 abbrev pub configured : (state : Bool) → Statement → List Fault
-configured state s = option_map_or (λ c. at_if (state && is_true_text (name c)) c BadArgument) (part Config (below s)) []
+configured state s =
+    option_map_or (λ c. at_if (state && is_true_text (name c)) c BadArgument) (part Config (below s)) []
 
 -- a statement, or one that stands in it and in none that is passed over, stands in state and says `config true`
 pub data BreaksState : (state : Bool) → Statement → Fault → Type 0 where
-  itself : (state : Bool) (s : Statement) (fault : Fault) → is_closed (kind s) ≡ false → Contains (configured state s) fault → BreaksState state s fault
-  inside : (state : Bool) (s t : Statement) (place : ℕ) (fault : Fault) → is_closed (kind s) ≡ false → slice_get (below s) place ≡ Some t →
-      BreaksState (is_state_in state s) t fault → BreaksState state s fault
+  itself : (state : Bool) (s : Statement) (fault : Fault) → is_closed (kind s) ≡ false
+      → Contains (configured state s) fault → BreaksState state s fault
+  inside : (state : Bool) (s t : Statement) (place : ℕ) (fault : Fault) → is_closed (kind s) ≡ false
+      → slice_get (below s) place ≡ Some t → BreaksState (is_state_in state s) t fault → BreaksState state s fault
 
 abbrev pub KeepsState : (state : Bool) → Statement → Type 0
 KeepsState state s = (fault : Fault) → BreaksState state s fault → ⊥

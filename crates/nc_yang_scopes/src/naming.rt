@@ -22,7 +22,7 @@ pub struct TextFault {
     pub fault: Fault,
 }
 
-// A fault of the statement, if the test is passed.
+/// A fault of the statement, if the test is passed.
 pub(crate) fn fault_if(test: bool, statement: &Statement, why: ModuleWhy) -> Option<Fault>
     ensures { result ≡ rules.first (rules.at_if test statement.now why) }
 {

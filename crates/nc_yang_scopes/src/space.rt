@@ -50,7 +50,7 @@ fn spaces() -> &'static [Space]
     ]
 }
 
-// Whether it is a data node, a choice or an operation.
+// Whether it is a data node, a choice, an rpc, an action or a notification.
 fn is_node(keyword: Keyword) -> bool
     ensures { result ≡ words.is_node keyword }
 {

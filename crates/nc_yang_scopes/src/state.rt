@@ -10,7 +10,8 @@ use crate::naming::fault_if;
 use nc_yang_statements::{Fault, Keyword, ModuleWhy, is_closed, is_same_keyword, kind, name, part};
 use nc_yang_words::Statement;
 
-/// Whether a statement says `config false`: its nodes are state and no part of a configuration (RFC 7950 7.21.1).
+/// Whether a statement says `config false`: its nodes are state and no part of a configuration
+/// (RFC 7950 7.21.1).
 #[tactic(auto, unfolding(nc_yang_statements::specs::Arguments::is_false_text))]
 pub fn is_state(statement: &Statement) -> bool
     ensures { result ≡ words.is_state statement.now }
@@ -21,7 +22,7 @@ pub fn is_state(statement: &Statement) -> bool
     }
 }
 
-// Whether what stands directly in a statement is state.
+// Whether what stands directly in a statement stands in state.
 fn is_state_in(state: bool, statement: &Statement) -> bool
     ensures { result ≡ words.is_state_in state statement.now }
 {
@@ -66,8 +67,8 @@ fn check(state: bool, statement: &Statement) -> Option<Fault>
     None
 }
 
-/// A `config true` of a text that stands within `config false`, or `None` where there is none (RFC 7950 7.21.1): the
-/// first in the order of the text. It takes no memory.
+/// A `config true` of a text that stands within `config false`, or `None` where there is none (RFC 7950
+/// 7.21.1). Of several it is the first that is met. It takes no memory.
 pub fn first_configured(root: &Statement) -> Option<Fault>
     ensures { MatchOption result (KeepsState false root.now) (BreaksState false root.now) }
 {

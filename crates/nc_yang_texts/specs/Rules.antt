@@ -12,15 +12,16 @@ use Rattle.nc_yang_loops.specs.Loops.{BreaksLoops}
 use Rattle.nc_yang_loops.specs.Revisions.{unrevised}
 
 -- the text of a number breaks a rule: one of its statements by itself, or with those directly below it; two statements
--- of a block have one name; `config true` stands within `config false`; two modules share their name or their namespace;
--- what is named is not there; a definition leads back to itself; an import asks for a revision that is not there
+-- of a block have one name; `config true` stands within `config false`; two modules share their name or their
+-- namespace; what is named is not there; a definition leads back to itself; an import asks for a revision that is not
+-- there
 pub data BreaksText (texts : List Statement) : TextFault → Type 0 where
   alone : (text : ℕ) (root : Statement) (fault : Fault) → slice_get texts text ≡ Some root → BreaksRule root fault →
       BreaksText texts (record { text = text; fault = fault })
   renamed : (text : ℕ) (root : Statement) (fault : Fault) → slice_get texts text ≡ Some root → BreaksSpaces root fault →
       BreaksText texts (record { text = text; fault = fault })
-  configured : (text : ℕ) (root : Statement) (fault : Fault) → slice_get texts text ≡ Some root → BreaksState false root fault →
-      BreaksText texts (record { text = text; fault = fault })
+  configured : (text : ℕ) (root : Statement) (fault : Fault) → slice_get texts text ≡ Some root →
+      BreaksState false root fault → BreaksText texts (record { text = text; fault = fault })
   twin : (found : TextFault) → Contains (twins texts) found → BreaksText texts found
   misnamed : (text : ℕ) (fault : Fault) → BreaksNames texts text fault →
       BreaksText texts (record { text = text; fault = fault })

@@ -75,18 +75,22 @@ module _ (scoping : Scoping) (on : FeatureTest) where
   choice_is : (p : PlannedChoice) → choice_in scoping on p ≡ choice_of (seen_choice scoping p)
   choice_is p = refl
 
+  -- ---- what is read of the statement of a data node, by its number
+  abbrev read_at : (Option Located → List TextFault) → List SeenNode → ℕ → List TextFault
+  read_at read ss number = option_map_or (λ (s : SeenNode). read s.statement) (slice_get ss number) []
+
+  read_at_is : (read : Option Located → List TextFault) (ps : List Planned) (number : ℕ) →
+      option_map_or (λ (p : Planned). read (slice_get scoping.located p.statement)) (slice_get ps number) [] ≡ read_at read (map (seen_node scoping) ps) number
+  read_at_is read [] number = refl
+  read_at_is read (p ∷ ps) zero = refl
+  read_at_is read (p ∷ ps) (suc number) = read_at_is read ps number
+
   -- ---- what has to be there in a default case
   abbrev fault_of : Option Located → List TextFault
   fault_of o = option_map_or (λ (l : Located). record { text = l.place.text; fault = record { line = line l.statement; why = BadArgument } } ∷ []) o []
 
   abbrev blame : List SeenNode → ℕ → List TextFault
-  blame ss number = option_map_or (λ (s : SeenNode). fault_of s.statement) (slice_get ss number) []
-
-  blame_is : (ps : List Planned) (number : ℕ) →
-      option_map_or (λ (p : Planned). fault_of (slice_get scoping.located p.statement)) (slice_get ps number) [] ≡ blame (map (seen_node scoping) ps) number
-  blame_is [] number = refl
-  blame_is (p ∷ ps) zero = refl
-  blame_is (p ∷ ps) (suc number) = blame_is ps number
+  blame ss number = read_at fault_of ss number
 
   abbrev forbidden_of : (ℕ → List TextFault) → Tables → ℕ → List TextFault
   forbidden_of blamed tables number =
@@ -130,27 +134,21 @@ module _ (scoping : Scoping) (on : FeatureTest) where
         ++ choices_of (blame (map (seen_node scoping) plan.nodes)) tables 0 (map (seen_choice scoping) plan.choices)
     defaults_are =
         (λ i. asking_are 0 plan.nodes i ++ choices_are 0 plan.choices i)
-        ∙ (λ i. asking_of (λ number. blame_is plan.nodes number i) tables 0 (map (seen_node scoping) plan.nodes)
-        ++ choices_of (λ number. blame_is plan.nodes number i) tables 0 (map (seen_choice scoping) plan.choices))
+        ∙ (λ i. asking_of (λ number. read_at_is fault_of plan.nodes number i) tables 0 (map (seen_node scoping) plan.nodes)
+        ++ choices_of (λ number. read_at_is fault_of plan.nodes number i) tables 0 (map (seen_choice scoping) plan.choices))
 
   -- ---- conditions of keys
   abbrev condition_of : Option Located → List TextFault
   condition_of o = option_map_or (λ (l : Located). conditions l.place.text l.statement) o []
 
   abbrev keyed : List SeenNode → ℕ → List TextFault
-  keyed ss key = option_map_or (λ (s : SeenNode). condition_of s.statement) (slice_get ss key) []
-
-  keyed_is : (ps : List Planned) (key : ℕ) →
-      option_map_or (λ (p : Planned). condition_of (slice_get scoping.located p.statement)) (slice_get ps key) [] ≡ keyed (map (seen_node scoping) ps) key
-  keyed_is [] key = refl
-  keyed_is (p ∷ ps) zero = refl
-  keyed_is (p ∷ ps) (suc key) = keyed_is ps key
+  keyed ss key = read_at condition_of ss key
 
   abbrev conditions_of : (ℕ → List TextFault) → List Node → List TextFault
   conditions_of asked nodes = flat_map (λ (node : Node). flat_map asked node.keys) nodes
 
   conditions_are : (plan : Plan) (nodes : List Node) → all_conditions scoping plan nodes ≡ conditions_of (keyed (map (seen_node scoping) plan.nodes)) nodes
-  conditions_are plan nodes = λ i. conditions_of (λ key. keyed_is plan.nodes key i) nodes
+  conditions_are plan nodes = λ i. conditions_of (λ key. read_at_is condition_of plan.nodes key i) nodes
 
   -- ---- plans
   abbrev tables_of : List SeenNode → List SeenChoice → Tables

@@ -30,11 +30,11 @@ use Rattle.nc_yang_meanings.specs.Faults.{BreaksTypes, KeepsTypes}
 use Rattle.nc_yang_meanings.specs.Stops.{OnBrokenType}
 use Rattle.nc_yang_meanings.specs.declared.planned.MeaningStop.{MeaningStop}
 use Rattle.nc_yang_meanings.specs.declared.planned.MeaningStop.TheVariants.{Broken as MeaningBroken, Memory as MeaningMemory}
-use Rattle.nc_yang_leafs.specs.Bases.{AllMeanWhole}
+use Rattle.nc_yang_leafs.specs.Bases.{AllMeanWhole, basis_on}
 use Rattle.nc_yang_leafs.specs.Conditions.{holds}
 use Rattle.nc_yang_leafs.specs.Faults.{BreaksLeafref, OnBroken as OnLeaf}
 use Rattle.nc_yang_leafs.specs.Typings.{IsTyped}
-use Rattle.nc_yang_circles.specs.Circles.{BreaksCircle, HasNoCircle, JudgesCircles, basis_on}
+use Rattle.nc_yang_circles.specs.Circles.{BreaksCircle, HasNoCircle, JudgesCircles}
 use Rattle.nc_yang_leafs.specs.declared.stop.LeafFault.{LeafFault}
 use Rattle.nc_yang_leafs.specs.declared.stop.LeafFault.TheVariants.{Broken as LeafBroken, Memory as LeafMemory}
 use Rattle.nc_yang_defaults.specs.Defaults.{BreaksDefault, HasDefaults}

@@ -19,7 +19,7 @@ use Rattle.nc_yang_nodes.specs.declared.planned.Plan.{Plan}
 use Rattle.nc_yang_identities.specs.Values.{AreDerived}
 use Rattle.nc_yang_data.specs.Data.{data_faults, data_tables}
 use Rattle.nc_yang_meanings.specs.Faults.{BreaksTypes, KeepsTypes}
-use Rattle.nc_yang_leafs.specs.Bases.{Basis}
+use Rattle.nc_yang_leafs.specs.Bases.{Basis, basis_on}
 use Rattle.nc_yang_leafs.specs.Conditions.{holds}
 use Rattle.nc_yang_leafs.specs.Faults.{BreaksLeafref}
 use Rattle.nc_yang_leafs.specs.Typings.{IsTyped}
@@ -46,8 +46,7 @@ AreNames scoping on bases names =
 
 -- what the types of leafs and leaf-lists stand on
 abbrev pub basis : Scoping → FeatureTest → Plan → Basis
-basis scoping on plan =
-    record { on = holds scoping.texts on; scoping = scoping; plan = plan; given = data_tables scoping on plan }
+basis scoping on plan = basis_on (holds scoping.texts on) scoping plan (data_tables scoping on plan)
 
 -- the schema of a plan of data nodes, which keep their rules: leafs and leaf-lists have their types, and then their defaults
 pub record IsSchemaOf (scoping : Scoping) (on : FeatureTest) (plan : Plan) (tables : Tables) : Type 0 where

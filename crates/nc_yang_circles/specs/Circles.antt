@@ -1,14 +1,12 @@
 -- Leafrefs that lead in a circle (RFC 7950 9.9.2).
-use Rattle.std.specs.Prelude.{◌≡◌, ℕ, Bool, List, Option, Some, IsTrue, slice_get, MatchOption}
+use Rattle.std.specs.Prelude.{◌≡◌, ℕ, Option, Some, IsTrue, slice_get, MatchOption}
 use Rattle.nc_schema.specs.declared.node.Node.{Node}
 use Rattle.nc_schema.specs.declared.pattern.LeafrefEnd.{LeafrefEnd}
 use Rattle.nc_schema.specs.Kinds.{has_value}
-use Rattle.nc_schema.specs.Tables.{Tables}
 use Rattle.nc_yang_statements.specs.declared.fault.ModuleWhy.TheVariants.{Loop}
 use Rattle.nc_yang_statements.specs.Statements.{line}
 use Rattle.nc_yang_scopes.specs.declared.naming.TextFault.{TextFault}
-use Rattle.nc_yang_scopes.specs.Scopes.{Located, Scoping}
-use Rattle.nc_yang_nodes.specs.declared.planned.Plan.{Plan}
+use Rattle.nc_yang_scopes.specs.Scopes.{Located}
 use Rattle.nc_yang_meanings.specs.Wholes.{UsesPath}
 use Rattle.nc_yang_leafs.specs.Bases.{Basis, leads, type_of}
 
@@ -53,7 +51,3 @@ HasNoCircle b = (fault : TextFault) → BreaksCircle b fault → ⊥
 -- whether one does
 abbrev pub JudgesCircles : Basis → Option TextFault → Type 0
 JudgesCircles b result = MatchOption result (HasNoCircle b) (BreaksCircle b)
-
--- the texts and the schema, with those `if-feature` statements that hold
-abbrev pub basis_on : (on : ℕ → List ℕ → Bool) → Scoping → Plan → Tables → Basis
-basis_on on scoping plan given = record { on = on; scoping = scoping; plan = plan; given = given }

@@ -1,7 +1,7 @@
 //! The first leafref that leads in a circle.
 ghost use Rattle.std.specs.Prelude.{◌≡◌, Some, slice_get, option_map, IfOk, ℕ, Bool, List};
 ghost use Rattle.nc_yang_meanings.specs.Plans.{AreMeanings};
-ghost use Rattle.nc_yang_leafs.specs.Bases.{ArePrefixes};
+ghost use Rattle.nc_yang_leafs.specs.Bases.{ArePrefixes, basis_on};
 ghost use Rattle.nc_yang_circles.specs.Circles as circles;
 ghost use Rattle.nc_yang_circles.specs.inner.Links as words;
 
@@ -90,7 +90,7 @@ pub fn first_circle(
 ) -> Result<Option<TextFault>, Memory>
     requires { ArePrefixes scopes.now.texts prefixes.now }
     ensures { IfOk result (λ it. (on : ℕ → List ℕ → Bool) → AreMeanings on scopes.now meanings.now
-        → circles.JudgesCircles (circles.basis_on on scopes.now plan.now schema.now) it) }
+        → circles.JudgesCircles (basis_on on scopes.now plan.now schema.now) it) }
 {
     let marks = marks_of(alloc, meanings)?;
     let site = Site {

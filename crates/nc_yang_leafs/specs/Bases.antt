@@ -26,10 +26,13 @@ pub record Basis : Type 0 where
   pub plan : Plan
   pub given : Tables
 
+-- the basis of these four
+abbrev pub basis_on : (on : ℕ → List ℕ → Bool) → Scoping → Plan → Tables → Basis
+basis_on on scoping plan given = record { on = on; scoping = scoping; plan = plan; given = given }
+
 -- with the features that are on
 abbrev pub basis : Features → Scoping → Plan → Tables → Basis
-basis features scoping plan given =
-    record { on = holds scoping.texts (is_on features); scoping = scoping; plan = plan; given = given }
+basis features scoping plan given = basis_on (holds scoping.texts (is_on features)) scoping plan given
 
 -- the `type` statement of a data node
 abbrev pub type_of : Scoping → Plan → ℕ → Option Located

@@ -78,13 +78,13 @@ fn types_of<D: Derives>(
     requires prefixes { bases.ArePrefixes scopes.now.texts prefixes.now }
     requires located { D.located identities.now ≡ scopes.now.located }
     ensures ok { IfOk result (λ it. (on : ℕ → List ℕ → Bool) → AreMeanings on scopes.now meanings.now
-        → bases.AllMeanWhole (assembly.basis_on on scopes.now plan.now schema.now)
-        → HaveKinds (D.derived identities.now) (assembly.basis_on on scopes.now plan.now schema.now) it.types
+        → bases.AllMeanWhole (bases.basis_on on scopes.now plan.now schema.now)
+        → HaveKinds (D.derived identities.now) (bases.basis_on on scopes.now plan.now schema.now) it.types
         (length schema.now.nodes) it.kinds) }
     ensures fault { IfErr result (λ stop. OnBroken stop (λ fault. (on : ℕ → List ℕ → Bool)
         → AreMeanings on scopes.now meanings.now
-        → bases.AllMeanWhole (assembly.basis_on on scopes.now plan.now schema.now)
-        → BreaksLeafref (assembly.basis_on on scopes.now plan.now schema.now) fault)) }
+        → bases.AllMeanWhole (bases.basis_on on scopes.now plan.now schema.now)
+        → BreaksLeafref (bases.basis_on on scopes.now plan.now schema.now) fault)) }
 {
     let marks = marks_of(alloc, meanings)?;
     let site = Site {

@@ -1,13 +1,7 @@
 -- The schema put together.
-use Rattle.std.specs.Prelude.{◌≡◌, ◌<◌, ◌≤◌, ℕ, Bool, List, length, Option, Some, None, slice_get, slice_set}
+use Rattle.std.specs.Prelude.{◌≡◌, ◌<◌, ◌≤◌, ℕ, List, length, Option, Some, None, slice_get, slice_set}
 use Rattle.nc_schema.specs.declared.node.Node.{Node}
 use Rattle.nc_schema.specs.Tables.{Tables}
-use Rattle.nc_yang_nodes.specs.declared.planned.Plan.{Plan}
-use Rattle.nc_yang_scopes.specs.Scopes.{Scoping}
-use Rattle.nc_yang_leafs.specs.Bases.{Basis}
-
-abbrev pub basis_on : (on : ℕ → List ℕ → Bool) → Scoping → Plan → Tables → Basis
-basis_on on scoping plan given = record { on = on; scoping = scoping; plan = plan; given = given }
 
 -- the data nodes, that of a number with that type
 abbrev pub node_with : List Node → ℕ → ℕ → Option Node → List Node

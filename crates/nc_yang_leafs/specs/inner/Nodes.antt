@@ -14,14 +14,14 @@ use Rattle.nc_yang_meanings.specs.Plans.{AreMeanings}
 use Rattle.nc_yang_meanings.specs.Wholes.{MeansWhole}
 use Rattle.nc_yang_leafs.specs.declared.table.Table.{Table}
 use Rattle.nc_yang_leafs.specs.declared.site.Site.{Site}
-use Rattle.nc_yang_leafs.specs.Bases.{AllMeanWhole, Basis, leads, type_of}
+use Rattle.nc_yang_leafs.specs.Bases.{AllMeanWhole, Basis, basis_on, leads, type_of}
 use Rattle.nc_yang_leafs.specs.Typings.{HasItsType, HasTypes, IsAmong, IsEntry, IsInUse, IsOfType}
 use Rattle.nc_yang_leafs.specs.Marks.{AreMarks}
 use Rattle.nc_yang_leafs.specs.inner.Sites.{work}
 use Rattle.nc_yang_leafs.specs.inner.Tables.{AddsTypes, IsReady, IsSettled, LosesPath, Work}
 
 abbrev pub basis_of : (on : ℕ → List ℕ → Bool) → Site → Plan → Basis
-basis_of on site plan = record { on = on; scoping = site.scopes.now; plan = plan; given = site.schema.now }
+basis_of on site plan = basis_on on site.scopes.now plan site.schema.now
 
 -- the type of a `type` statement got a number, and entries
 pub record GivesNumber (derived : List Located → List QName → Type 0) (on : ℕ → List ℕ → Bool) (w : Work) (top : Located) (old new : Table) (number : ℕ) : Type 0 where

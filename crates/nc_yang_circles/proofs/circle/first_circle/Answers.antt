@@ -1,6 +1,6 @@
 use Rattle.std.proofs.Common.{sym, subst}
 use Rattle.std.proofs.lemmas.Result.{IfOk-weaker}
-use Rattle.nc_yang_circles.specs.Circles.{basis_on}
+use Rattle.nc_yang_leafs.specs.Bases.{basis_on}
 use Rattle.nc_yang_circles.specs.inner.Links.{AreAllLinks}
 use Rattle.nc_yang_circles.proofs.circle.first_circle.Goals as goal
 

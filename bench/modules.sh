@@ -103,7 +103,7 @@ INPUTS = [
     ("doubled", doubled, [10, 20]),
     ("imports", imports, [10, 100, 1000]),
     ("unions", unions, [500, 5000]),
-    ("identityrefs", identityrefs, [100, 1000]),
+    ("identityrefs", identityrefs, [100, 1000, 10000]),
     ("containers", containers, [1000, 10000]),
     ("leafrefs", leafrefs, [1000, 10000]),
     ("long_text", long_text, [4 * 1000 * 1000]),

@@ -10,6 +10,7 @@ pub mod DataTypes
 pub mod Modules
 pub mod PrefixLemmas
 pub mod NamingLemmas
+pub mod AlikeNames
 pub mod ReadyLemmas
 pub mod Outcomes
 pub mod Carried

@@ -1,6 +1,8 @@
 //! The names of the identities that are derived from others.
-ghost use Rattle.std.specs.Prelude.{◌≡◌, List, Some, map, slice_get, option_map, IfOk};
+ghost use Rattle.std.specs.Prelude.{◌≡◌, true, List, Some, map, slice_get, option_map, IfOk};
+ghost use Rattle.nc_yang_leafs.specs.Named.{AreAlike};
 ghost use Rattle.nc_yang_nodes.specs.FeaturesOn.{is_on};
+ghost use Rattle.nc_yang_nodes.specs.Roles.{FeatureTest};
 ghost use Rattle.nc_yang_scopes.specs.Numbers.{AreNumbers};
 ghost use Rattle.nc_yang_scopes.specs.Prefixes.{namespace_in};
 ghost use Rattle.nc_yang_scopes.specs.Scopes.{Located};
@@ -9,7 +11,7 @@ ghost use Rattle.nc_yang.specs.inner.Names.{name_at};
 
 use nc_names::{Copies, Many, Memory, QName, Text};
 use nc_yang_identities::Identities;
-use nc_yang_leafs::Derives;
+use nc_yang_leafs::{Derives, name_same};
 use nc_yang_nodes::Features;
 use nc_yang_scopes::Scopes;
 use nc_yang_statements::name;
@@ -115,6 +117,15 @@ impl<'s, 'a> Names<'s, 'a> {
         let numbers = self.identities.derived(alloc, features, bases)?;
         names_of(alloc, self.scopes, self.spaces, numbers.as_slice())
     }
+
+    /// Whether the `base` statements of these numbers are known to name the same identities as the others: then
+    /// names that are derived from these are derived from those too, whichever features are on.
+    pub(crate) fn are_alike(&self, bases: &[usize], others: &[usize]) -> bool
+        ensures { result ≡ true → (on : FeatureTest)
+            → AreAlike (AreNames self.now on) self.now.located bases.now others.now }
+    {
+        name_same(self.scopes, bases, others)
+    }
 }
 
 /// The names of identities where these features are on.
@@ -139,5 +150,9 @@ impl<'b, 's, 'a> Derives for Derived<'b, 's, 'a> {
 
     fn names(&self, alloc: Global, bases: &[usize]) -> Result<Many<QName>, Memory> {
         self.names.derived(alloc, self.features, bases)
+    }
+
+    fn are_alike(&self, bases: &[usize], others: &[usize]) -> bool {
+        self.names.are_alike(bases, others)
     }
 }

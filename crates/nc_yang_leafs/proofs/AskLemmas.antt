@@ -9,7 +9,8 @@ use Rattle.nc_yang_order.proofs.Lists.{contains_none, contains_one, get_none, ge
 use Rattle.nc_yang_scopes.proofs.Lists.{get_left, get_right}
 use Rattle.nc_yang_leafs.specs.declared.table.Slot.{Slot}
 use Rattle.nc_yang_leafs.specs.declared.table.Table.{Table}
-use Rattle.nc_yang_leafs.specs.Marks.{is_marked, plan_at}
+use Rattle.nc_yang_leafs.specs.Marks.{is_marked}
+use Rattle.nc_yang_leafs.specs.inner.Firsts.{plan_for}
 use Rattle.nc_yang_leafs.specs.inner.Tables.{Asked, Asks, AsksMember, Work, number_at, number_in, number_of, slot_at, with_plan}
 
 pub and_then_kept : (f g : ℕ → Option ℕ) → ((plan number : ℕ) → f plan ≡ Some number → g plan ≡ Some number) → (o : Option ℕ) (number : ℕ) → option_and_then f o ≡ Some number → option_and_then g o ≡ Some number
@@ -26,7 +27,7 @@ map_kept w old new kept (member ∷ members) [] e = absurd (cc)
 map_kept w old new kept (member ∷ members) (number ∷ numbers) e =
     let head : number_at w old member ≡ Some number = cc in
     let tail : map (number_at w old) members ≡ map Some numbers = cc in
-    let one : number_at w new member ≡ Some number = and_then_kept (number_of w.marks old w.node) (number_of w.marks new w.node) kept (plan_at w.meanings.findings member) number head in
+    let one : number_at w new member ≡ Some number = and_then_kept (number_of w.marks old w.node) (number_of w.marks new w.node) kept (plan_for w.meanings.findings w.firsts member) number head in
     ap (λ z. z ∷ map (number_at w new) members) one ∙ ap (λ z. Some number ∷ z) (map_kept w old new kept members numbers tail)
 
 pub asked_none : (w : Work) (table : Table) → Asked w [] table table []
@@ -90,7 +91,7 @@ module _ (w : Work) (plan : ℕ) (mid : Table) (none : number_of w.marks mid.kno
     | inr apart ↦ inl (sym (slot_other q apart) ∙ e)
   ]
 
-module _ (w : Work) (members : List ℕ) (member : ℕ) (old mid : Table) (numbers : List ℕ) (before : Asked w members old mid numbers) (plan : ℕ) (is : plan_at w.meanings.findings member ≡ Some plan) (number : ℕ) where
+module _ (w : Work) (members : List ℕ) (member : ℕ) (old mid : Table) (numbers : List ℕ) (before : Asked w members old mid numbers) (plan : ℕ) (is : plan_for w.meanings.findings w.firsts member ≡ Some plan) (number : ℕ) where
   answered : (known : List (Option Slot)) → map (number_at w known) members ≡ map Some numbers → number_of w.marks known w.node plan ≡ Some number →
       map (number_at w known) (members ++ member ∷ []) ≡ map Some (numbers ++ number ∷ [])
   answered known earlier now =
@@ -124,7 +125,7 @@ module _ (w : Work) (members : List ℕ) (member : ℕ) (old mid : Table) (numbe
     answers = answered (with_plan mid w.node plan).known (map_kept w mid.known (with_plan mid w.node plan).known (new_kept w plan mid none within) members numbers before.answers) (new_same w plan mid none within ∙ ap Some (sym next));
   }
     where
-      from : (q : ℕ) → Contains (before.more ++ plan ∷ []) q → (m : ℕ) × Contains (members ++ member ∷ []) m × (plan_at w.meanings.findings m ≡ Some q)
+      from : (q : ℕ) → Contains (before.more ++ plan ∷ []) q → (m : ℕ) × Contains (members ++ member ∷ []) m × (plan_for w.meanings.findings w.firsts m ≡ Some q)
       from q h = elim (Contains-append_cases before.more (plan ∷ []) q h) [
         | inl earlier ↦ let f = before.from q earlier in (f.0, Contains-append_left members (member ∷ []) f.0 f.1, f.2)
         | inr now ↦ (member, Contains-push members member, is ∙ ap Some (contains_one plan q now))

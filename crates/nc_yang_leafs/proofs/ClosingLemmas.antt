@@ -18,8 +18,9 @@ use Rattle.nc_yang_meanings.proofs.MeaningLemmas.{means_one}
 use Rattle.nc_yang_leafs.specs.declared.table.Table.{Table}
 use Rattle.nc_yang_leafs.specs.Bases.{leads}
 use Rattle.nc_yang_leafs.specs.Typings.{HasTypes, IsEntry, none, numbers_of, one_more}
-use Rattle.nc_yang_leafs.specs.Marks.{plan_at}
+use Rattle.nc_yang_leafs.specs.inner.Firsts.{first_in, plan_for}
 use Rattle.nc_yang_leafs.specs.inner.Tables.{Fits, IsSettled, Work, number_at, number_of}
+use Rattle.nc_yang_leafs.proofs.FirstLemmas.{own_fits, own_of}
 use Rattle.nc_yang_leafs.proofs.StepLemmas.{has_plan_at}
 
 module _ (means : Located → Meaning → Type 0) (is : Meaning → ValueType → Type 0) where
@@ -50,7 +51,7 @@ module _ (derived : List Located → List QName → Type 0) (on : ℕ → List �
   Typed ls numbers = HasTypes (Means on w.scoping.texts) (IsEntry derived (leads w.scoping w.given w.node)) table.types ls numbers
 
   abbrev pub Closes : Located → Type 0
-  Closes l = (m plan number : ℕ) → slice_get w.scoping.located m ≡ Some l → plan_at w.meanings.findings m ≡ Some plan → number_of w.marks table.known w.node plan ≡ Some number → One l number
+  Closes l = (m plan number : ℕ) → slice_get w.scoping.located m ≡ Some l → plan_for w.meanings.findings w.firsts m ≡ Some plan → number_of w.marks table.known w.node plan ≡ Some number → One l number
 
   all_close : (numbers : List ℕ) (ls : List Located) (types : List ℕ) → map (slice_get w.scoping.located) numbers ≡ map Some ls → map (number_at w table.known) numbers ≡ map Some types →
       ((l : Located) → Contains ls l → Closes l) → Typed ls types
@@ -60,7 +61,7 @@ module _ (derived : List Located → List QName → Type 0) (on : ℕ → List �
   all_close (n ∷ numbers) [] types a b close = absurd (cc)
   all_close (n ∷ numbers) (l ∷ ls) [] a b close = absurd (cc)
   all_close (n ∷ numbers) (l ∷ ls) (t ∷ types) a b close =
-      one_and (Means on w.scoping.texts) (IsEntry derived (leads w.scoping w.given w.node)) table.types l ls t types (by (plan_at w.meanings.findings n) refl (cc))
+      one_and (Means on w.scoping.texts) (IsEntry derived (leads w.scoping w.given w.node)) table.types l ls t types (by (plan_for w.meanings.findings w.firsts n) refl (cc))
       (all_close numbers ls types (cc) (cc) (λ other c. close other (later other c)))
     where
       here : slice_get w.scoping.located n ≡ Some l
@@ -69,15 +70,15 @@ module _ (derived : List Located → List QName → Type 0) (on : ℕ → List �
       later : (other : Located) → Contains ls other → Contains (l ∷ ls) other
       later other c = contains_at (l ∷ ls) (suc c.0) other (slice_get-get_or ls c.0 other c.1 ∙ ap Some c.2)
 
-      by : (o : Option ℕ) → plan_at w.meanings.findings n ≡ o → option_and_then (number_of w.marks table.known w.node) o ≡ Some t → One l t
+      by : (o : Option ℕ) → plan_for w.meanings.findings w.firsts n ≡ o → option_and_then (number_of w.marks table.known w.node) o ≡ Some t → One l t
       by None e f = absurd (cc)
       by (Some plan) e f = close l (contains_at (l ∷ ls) 0 l refl) n plan t here e f
 
   close_plan : (l : Located) (m : Meaning) → Means on w.scoping.texts l m → ((member : Located) → Contains (members_of m) member → Closes member) →
-      (plan given : ℕ) → HasPlan on w.scoping w.meanings.plans l plan → number_of w.marks table.known w.node plan ≡ Some given → One l given
-  close_plan l m means members plan given h known =
+      (own plan given : ℕ) → HasPlan on w.scoping w.meanings.plans l own → first_in w.firsts own ≡ plan → number_of w.marks table.known w.node plan ≡ Some given → One l given
+  close_plan l m means members own plan given h first known =
       by h.plan m (subst (IsPlan w.scoping.located h.plan) (means_one on w.scoping.texts l h.meaning m h.means means) h.is) means members
-      (settled.right.fits plan given entry.0 h.plan known entry.1 h.there)
+      (own_fits derived w table.known settled.right.firsts own plan h.plan entry.0 first h.there (λ other there. settled.right.fits plan given entry.0 other known entry.1 there))
     where
       entry : (e : ValueType) × (slice_get table.types given ≡ Some e)
       entry = find (slice_get table.types given) refl
@@ -124,9 +125,10 @@ module _ (derived : List Located → List QName → Type 0) (on : ℕ → List �
 
   pub closes : (l : Located) → MeansWhole on w.scoping.texts l → Closes l
   closes _ (whole l m means rest) number plan given here at known =
-      close_plan l m means (λ member c. closes member (rest member c)) plan given (has_plan_at on w.scoping w.meanings are number l plan here at) known
+      let o = own_of w.meanings.findings w.firsts number plan at in
+      close_plan l m means (λ member c. closes member (rest member c)) o.0 plan given (has_plan_at on w.scoping w.meanings are number l o.0 here o.1) o.2 known
 
   -- so does one whose plan is known
-  pub closes_plan : (l : Located) → MeansWhole on w.scoping.texts l → (plan given : ℕ) → HasPlan on w.scoping w.meanings.plans l plan →
+  pub closes_plan : (l : Located) → MeansWhole on w.scoping.texts l → (own plan given : ℕ) → HasPlan on w.scoping w.meanings.plans l own → first_in w.firsts own ≡ plan →
       number_of w.marks table.known w.node plan ≡ Some given → One l given
-  closes_plan _ (whole l m means rest) plan given h known = close_plan l m means (λ member c. closes member (rest member c)) plan given h known
+  closes_plan _ (whole l m means rest) own plan given h first known = close_plan l m means (λ member c. closes member (rest member c)) own plan given h first known

@@ -17,7 +17,7 @@ use Rattle.nc_yang_scopes.specs.Scopes.{Located}
 use Rattle.nc_yang_nodes.specs.declared.planned.Plan.{Plan}
 use Rattle.nc_yang_meanings.specs.Meanings.{Means}
 use Rattle.nc_yang_scopes.specs.Numbers.{OnNumber}
-use Rattle.nc_yang_meanings.specs.Plans.{AreMeanings, HasPlan}
+use Rattle.nc_yang_meanings.specs.Plans.{AreMeanings}
 use Rattle.nc_yang_meanings.specs.Wholes.{MeansWhole}
 use Rattle.nc_yang_leafs.specs.declared.site.Site.{Site}
 use Rattle.nc_yang_leafs.specs.declared.stop.LeafFault.{LeafFault}
@@ -27,13 +27,14 @@ use Rattle.nc_yang_leafs.specs.Bases.{Basis, leads, type_of}
 use Rattle.nc_yang_leafs.specs.Faults.{BreaksLeafref, OnBroken}
 use Rattle.nc_yang_leafs.specs.Typings.{HasItsType, HasTypes, IsAmong, IsEntry, IsInUse, IsOfType, IsTyped, itself, none}
 use Rattle.nc_yang_leafs.specs.inner.Assembly.{HasKinds, HasSome, node_with, with_kind}
-use Rattle.nc_yang_leafs.specs.Marks.{plan_at}
-use Rattle.nc_yang_leafs.specs.inner.Nodes.{AreGiven, BreaksAt, Gives, GivesNumber, HaveKinds, IsKnown, MayGive, basis_of}
-use Rattle.nc_yang_leafs.specs.inner.Sites.{work}
+use Rattle.nc_yang_leafs.specs.inner.Firsts.{plan_for}
+use Rattle.nc_yang_leafs.specs.inner.Nodes.{AreGiven, BreaksAt, Gives, GivesNumber, HaveKinds, IsKnown, MayGive, basis_of, blank}
+use Rattle.nc_yang_leafs.specs.inner.Sites.{HasFirsts, work}
 use Rattle.nc_yang_leafs.specs.inner.Tables.{Asked, Asks, Fills, IsAtStart, IsReady, IsRight, LosesPath, Work, number_at, number_of}
 use Rattle.nc_yang_leafs.proofs.AskLemmas.{asked_more, asked_none}
 use Rattle.nc_yang_leafs.proofs.ClosingLemmas.{closes, closes_plan, one_and, types_kept}
-use Rattle.nc_yang_leafs.proofs.LaterLemmas.{ready_next}
+use Rattle.nc_yang_leafs.proofs.FirstLemmas.{own_of}
+use Rattle.nc_yang_leafs.proofs.LaterLemmas.{ready_first, ready_next}
 use Rattle.nc_yang_leafs.proofs.StepLemmas.{among_whole, fits_kept, has_plan_at}
 
 pub if_ok_on : {A E : Type 0} {P Q : A → Type 0} (r : Result A E) → ((x : A) → P x → Q x) → IfOk r P → IfOk r Q
@@ -48,7 +49,7 @@ pub on_broken : {P Q : TextFault → Type 0} (stop : LeafFault) → ((fault : Te
 on_broken (Broken fault) f h = f fault h
 on_broken Memory f h = tt
 
-module _ (derived : List Located → List QName → Type 0) (w : Work) (statement plan number : ℕ) (at : plan_at w.meanings.findings statement ≡ Some plan) (old new : Table) (asks : Asks w.marks w.node plan old new number) where
+module _ (derived : List Located → List QName → Type 0) (w : Work) (statement plan number : ℕ) (at : plan_for w.meanings.findings w.firsts statement ≡ Some plan) (old new : Table) (asks : Asks w.marks w.node plan old new number) where
   asked : Asked w (statement ∷ []) old new (number ∷ [])
   asked = asked_more w [] statement old old new [] number (asked_none w old) (record { plan = plan; is = at; asks = asks })
 
@@ -69,6 +70,7 @@ module _ (derived : List Located → List QName → Type 0) (w : Work) (statemen
             | inr (le, found) ↦ absurd (let less = slice_get_within old.types n entry before in let made = ready.settled.made in omega (arith, le, less, made))
           ]);
       stamped = λ q slot e. elim (asked.stamped q slot e) [ inl earlier ↦ ready.settled.right.stamped q slot earlier | inr now ↦ (omega (arith, now)) ];
+      firsts = ready.settled.right.firsts;
     }
 
     used : (q n : ℕ) → length new.types ≤ n → slice_get new.plans n ≡ Some q → plan ≡ q
@@ -79,17 +81,21 @@ module _ (derived : List Located → List QName → Type 0) (w : Work) (statemen
         sym (get_right old.plans asked.more (length old.plans) (n - length old.plans) refl) ∙ ap (slice_get (old.plans ++ asked.more)) (sym split) ∙ ap (λ y. slice_get y n) (sym asked.plans) ∙ found in
         let f = asked.from q (contains_at asked.more (n - length old.plans) q z) in
         let one : statement ≡ f.0 = contains_one statement f.0 f.1 in
-        let there : plan_at w.meanings.findings statement ≡ Some q = subst (λ y. plan_at w.meanings.findings y ≡ Some q) (sym one) f.2 in
+        let there : plan_for w.meanings.findings w.firsts statement ≡ Some q = subst (λ y. plan_for w.meanings.findings w.firsts y ≡ Some q) (sym one) f.2 in
         cc
 
     pub on_way : IsAtStart derived on w top new
     on_way = record {
       right = right;
-      used = λ q n le found. record {
-        statement = top;
-        has = subst (λ y. HasPlan on w.scoping w.meanings.plans top y) (used q n le found) (has_plan_at on w.scoping w.meanings are statement top plan here at);
-        among = itself;
-      };
+      used = λ q n le found. (
+          let o = own_of w.meanings.findings w.firsts statement plan at in
+          record {
+            statement = top;
+            own = o.0;
+            has = has_plan_at on w.scoping w.meanings are statement top o.0 here o.1;
+            first = o.2 ∙ used q n le found;
+            among = itself;
+          });
       given = λ q n le found. asked.given q n (let made = ready.settled.made in let same = ap length asked.types in omega (arith, le, made, same)) found;
       past = omega arith;
       few = (let made = ready.settled.made in let same = ap length asked.types in
@@ -107,7 +113,7 @@ module _ (derived : List Located → List QName → Type 0) (w : Work) (statemen
             u.1.statement,
             u.1.among,
             one_and (Means on w.scoping.texts) (IsEntry derived (leads w.scoping w.given w.node)) last.types u.1.statement [] other []
-                (closes_plan derived on w are last fills.settled u.1.statement (among_whole on w.scoping.texts top u.1.statement whole u.1.among) u.0 other u.1.has u.2) none,
+                (closes_plan derived on w are last fills.settled u.1.statement (among_whole on w.scoping.texts top u.1.statement whole u.1.among) u.1.own u.0 other u.1.has u.1.first u.2) none,
           ));
     }
 
@@ -202,10 +208,21 @@ module _ (derived : List Located → List QName → Type 0) (on : ℕ → List �
       MayGive derived (basis_of on site plan) (work site number) node.kind table
   may_give number node table kinds there given = record { are = known.are; ready = given.ready; whole = known.whole number node there }
 
+  pub given_first : HasFirsts derived site → (table : Table) (kinds : List ℕ) → table ≡ blank (length site.meanings.now.plans) → kinds ≡ [] → AreGiven derived (basis_of on site plan) site table kinds 0
+  given_first firsts table kinds table_is kinds_is = record {
+    ready = subst (IsReady derived (work site 0)) (sym table_is)
+        (ready_first site.scopes.now site.schema.now site.meanings.now site.marks.now site.firsts.now derived known.marked firsts (length site.meanings.now.plans) 0);
+    have = record {
+      counted = ap length kinds_is;
+      each = λ number kind node at. absurd (let e = ap (λ (z : List ℕ). slice_get z number) kinds_is in cc);
+      used = λ number less. absurd (let e = ap (λ (t : Table). length t.types) table_is in omega (arith, e, less));
+    };
+  }
+
   pub given_more : (number : ℕ) (node : Node) (old new : Table) (kinds next : List ℕ) (kind : ℕ) → slice_get site.schema.now.nodes number ≡ Some node → AreGiven derived (basis_of on site plan) site old kinds number →
       Gives derived (basis_of on site plan) (work site number) node.kind old new kind → next ≡ kinds ++ kind ∷ [] → AreGiven derived (basis_of on site plan) site new next (number + 1)
   given_more number node old new kinds next kind there given gives next_is = record {
-    ready = ready_next site.scopes.now site.schema.now site.meanings.now site.marks.now derived known.marked number new gives.settled;
+    ready = ready_next site.scopes.now site.schema.now site.meanings.now site.marks.now site.firsts.now derived known.marked number new gives.settled;
     have = subst (HaveKinds derived (basis_of on site plan) new.types (number + 1)) (sym next_is)
         (have_more derived (basis_of on site plan) old.types new.types number kinds kind node given.have gives.adds.0 gives.adds.1 there gives.has gives.fresh);
   }

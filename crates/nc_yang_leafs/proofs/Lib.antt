@@ -1,3 +1,5 @@
+pub mod FirstLemmas
+pub mod NamedLemmas
 pub mod AskLemmas
 pub mod StepLemmas
 pub mod ClosingLemmas

@@ -26,9 +26,11 @@ use Rattle.nc_yang_leafs.specs.declared.stop.LeafFault.TheVariants.{Broken, Memo
 use Rattle.nc_yang_leafs.specs.Faults.{OnBroken}
 use Rattle.nc_yang_leafs.specs.Typings.{IsAmong, itself as among_itself, member as among_member}
 use Rattle.nc_yang_leafs.specs.Marks.{plan_at, plan_in}
+use Rattle.nc_yang_leafs.specs.inner.Firsts.{AreFirsts, plan_for}
 use Rattle.nc_yang_leafs.specs.inner.Tables.{Adds, Enters, Fills, Fits, Goes, IsAtStart, IsOnWay, IsUsed, LosesPath, LosesPlan, Work, members_in, number_of, slot_at}
 use Rattle.nc_yang_meanings.proofs.MeaningLemmas.{means_one}
 use Rattle.nc_yang_leafs.proofs.AskLemmas.{Kept, map_kept}
+use Rattle.nc_yang_leafs.proofs.FirstLemmas.{own_of, own_or_bases}
 
 -- the plan of a `type` statement by its number
 pub has_plan_at : (on : ℕ → List ℕ → Bool) (scoping : Scoping) (meanings : Meanings) → AreMeanings on scoping meanings → (m : ℕ) (l : Located) (plan : ℕ) → slice_get scoping.located m ≡ Some l →
@@ -67,7 +69,7 @@ among_path on texts top _ path (among_member one l members a means c) uses = amo
 module _ (on : ℕ → List ℕ → Bool) (w : Work) (are : AreMeanings on w.scoping w.meanings) (top : Located) where
   -- a member of a union that is used is used
   member_used : (statement : Located) (planned : Planned) (meaning : Meaning) → IsPlan w.scoping.located planned meaning → Means on w.scoping.texts statement meaning →
-      IsAmong on w.scoping.texts top statement → (m q : ℕ) → Contains (members_in planned) m → plan_at w.meanings.findings m ≡ Some q → IsUsed on w top q
+      IsAmong on w.scoping.texts top statement → (m q : ℕ) → Contains (members_in planned) m → plan_for w.meanings.findings w.firsts m ≡ Some q → IsUsed on w top q
   member_used statement (Finished entry) meaning is means among m q c at = absurd (contains_none m c)
   member_used statement (Bases bases) meaning is means among m q c at = absurd (contains_none m c)
   member_used statement (Leafref path need) meaning is means among m q c at = absurd (contains_none m c)
@@ -76,33 +78,43 @@ module _ (on : ℕ → List ℕ → Bool) (w : Work) (are : AreMeanings on w.sco
   member_used statement (Members members) (Refers path need) is means among m q c at = absurd is
   member_used statement (Members members) (OneOf ls) is means among m q c at =
       let found = number_in_place (slice_get w.scoping.located) members ls is c.0 m (slice_get-get_or members c.0 m c.1 ∙ ap Some c.2) in
+      let o = own_of w.meanings.findings w.firsts m q at in
       record {
         statement = found.0;
-        has = has_plan_at on w.scoping w.meanings are m found.0 q found.2 at;
+        own = o.0;
+        has = has_plan_at on w.scoping w.meanings are m found.0 o.0 found.2 o.1;
+        first = o.2;
         among = among_member statement found.0 ls among means (contains_at ls c.0 found.0 found.1);
       }
 
-  pub used_member : (plan : ℕ) (planned : Planned) → IsUsed on w top plan → slice_get w.meanings.plans plan ≡ Some planned → (m q : ℕ) → Contains (members_in planned) m → plan_at w.meanings.findings m ≡ Some q → IsUsed on w top q
-  used_member plan planned u there m q c at =
-      let same : u.has.plan ≡ planned = (let e = u.has.there in cc) in
-      member_used u.statement planned u.has.meaning (subst (λ z. IsPlan w.scoping.located z u.has.meaning) same u.has.is) u.has.means u.among m q c at
+  module _ (derived : List Located → List QName → Type 0) (firsts : AreFirsts derived w.scoping.located w.meanings.plans w.marks w.firsts) where
+    pub used_member : (plan : ℕ) (planned : Planned) → IsUsed on w top plan → slice_get w.meanings.plans plan ≡ Some planned → (m q : ℕ) → Contains (members_in planned) m → plan_for w.meanings.findings w.firsts m ≡ Some q → IsUsed on w top q
+    used_member plan planned u there m q c at = elim (own_or_bases derived w.scoping.located w.meanings.plans w.marks w.firsts firsts u.own plan planned u.first there) [
+      | inl here ↦
+          let same : u.has.plan ≡ planned = (let e = u.has.there in cc) in
+          member_used u.statement planned u.has.meaning (subst (λ z. IsPlan w.scoping.located z u.has.meaning) same u.has.is) u.has.means u.among m q c at
+      | inr (bases, is) ↦ absurd (contains_none m (subst (λ z. Contains (members_in z) m) is c))
+    ]
 
-  -- a leafref that is used and leads nowhere
-  pub used_lost : (plan : ℕ) (fault : TextFault) → IsUsed on w top plan → LosesPlan w plan fault → LosesPath on w top fault
-  used_lost plan fault u loses =
-      let same : u.has.plan ≡ Leafref loses.lost.path loses.lost.need = (let e = u.has.there in let f = loses.there in let g = loses.lost.is in cc) in
-      by u.has.meaning (subst (λ z. IsPlan w.scoping.located z u.has.meaning) same u.has.is) u.has.means
-    where
-      by : (meaning : Meaning) → IsPlan w.scoping.located (Leafref loses.lost.path loses.lost.need) meaning → Means on w.scoping.texts u.statement meaning → LosesPath on w top fault
-      by (Entry entry) is means = absurd is
-      by (OneOf members) is means = absurd is
-      by (DerivedFrom bases) is means = absurd is
-      by (Refers path need) is means = record {
-        path = path;
-        uses = among_path on w.scoping.texts top u.statement path u.among (itself u.statement path need means);
-        lost = loses.lost.lost.nowhere path is.0;
-        at = loses.lost.lost.at path is.0;
-      }
+    -- a leafref that is used and leads nowhere
+    pub used_lost : (plan : ℕ) (fault : TextFault) → IsUsed on w top plan → LosesPlan w plan fault → LosesPath on w top fault
+    used_lost plan fault u loses = elim (own_or_bases derived w.scoping.located w.meanings.plans w.marks w.firsts firsts u.own plan loses.planned u.first loses.there) [
+      | inl here ↦
+          let same : u.has.plan ≡ Leafref loses.lost.path loses.lost.need = (let e = u.has.there in let g = loses.lost.is in cc) in
+          by u.has.meaning (subst (λ z. IsPlan w.scoping.located z u.has.meaning) same u.has.is) u.has.means
+      | inr (bases, is) ↦ absurd (let g = loses.lost.is in let e : Leafref loses.lost.path loses.lost.need ≡ Bases bases = sym g ∙ is in cc)
+    ]
+      where
+        by : (meaning : Meaning) → IsPlan w.scoping.located (Leafref loses.lost.path loses.lost.need) meaning → Means on w.scoping.texts u.statement meaning → LosesPath on w top fault
+        by (Entry entry) is means = absurd is
+        by (OneOf members) is means = absurd is
+        by (DerivedFrom bases) is means = absurd is
+        by (Refers path need) is means = record {
+          path = path;
+          uses = among_path on w.scoping.texts top u.statement path u.among (itself u.statement path need means);
+          lost = loses.lost.lost.nowhere path is.0;
+          at = loses.lost.lost.at path is.0;
+        }
 
 module _ (derived : List Located → List QName → Type 0) (w : Work) where
   pub fits_kept : (old new : List (Option Slot)) → Kept w old new → (planned : Planned) (entry : ValueType) → Fits derived w old planned entry → Fits derived w new planned entry
@@ -161,7 +173,7 @@ module _ (derived : List Located → List QName → Type 0) (w : Work) where
             let z : slice_get enters.asked.more (n - length old.plans) ≡ Some q =
             sym (get_right old.plans enters.asked.more (length old.plans) (n - length old.plans) refl) ∙ ap (slice_get (old.plans ++ enters.asked.more)) (sym split) ∙ ap (λ y. slice_get y n) (sym enters.asked.plans) ∙ at in
             let f = enters.asked.from q (contains_at enters.asked.more (n - length old.plans) q z) in
-            used_member on w are top plan planned (way.used plan (length old.types) way.past next) there f.0 q f.1 f.2
+            used_member on w are top derived way.right.firsts plan planned (way.used plan (length old.types) way.past next) there f.0 q f.1 f.2
 
     given : (q n : ℕ) → start ≤ n → slice_get between.plans n ≡ Some q → number_of w.marks between.known w.node q ≡ Some n
     given q n le at = by (slice_get old.plans n) refl
@@ -183,7 +195,7 @@ module _ (derived : List Located → List QName → Type 0) (w : Work) where
         omega (arith, c, l, e)
 
     pub entered : IsOnWay derived on w top start (record between { types = between.types ++ entry ∷ [] })
-    entered = record { right = record { numbered = numbered; fits = fits; stamped = stamped }; used = used; given = given; past = past; few = few }
+    entered = record { right = record { numbered = numbered; fits = fits; stamped = stamped; firsts = way.right.firsts }; used = used; given = given; past = past; few = few }
 
   pub step_on : (on : ℕ → List ℕ → Bool) → AreMeanings on w.scoping w.meanings → (top : Located) (plan : ℕ) (old mid new : Table) → Goes derived on w top old mid →
       slice_get mid.plans (length mid.types) ≡ Some plan → Adds derived w plan mid new → Goes derived on w top old new
@@ -207,7 +219,7 @@ module _ (derived : List Located → List QName → Type 0) (w : Work) where
   lost_on plan old cur Memory next goes h = tt
   lost_on plan old cur (Broken fault) next goes h = λ on are top way.
       let g = goes on are top way in
-      used_lost on w are top plan fault (g.on_way.used plan (length cur.types) g.on_way.past next) h
+      used_lost on w are top derived g.on_way.right.firsts plan fault (g.on_way.used plan (length cur.types) g.on_way.past next) h
 
   pub all_filled : (on : ℕ → List ℕ → Bool) (top : Located) (old new : Table) → Goes derived on w top old new → slice_get new.plans (length new.types) ≡ None → Fills derived on w top old new
   all_filled on top old new goes none = record {

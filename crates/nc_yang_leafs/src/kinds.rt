@@ -2,7 +2,7 @@
 ghost use Rattle.std.specs.Prelude.{◌≡◌, ℕ, Bool, List, length, IfOk, IfErr};
 ghost use Rattle.nc_yang_leafs.specs.Faults.{BreaksLeafref, OnBroken};
 ghost use Rattle.nc_yang_leafs.specs.inner.Nodes as nodes;
-ghost use Rattle.nc_yang_leafs.specs.inner.Sites.{HasPrefixes};
+ghost use Rattle.nc_yang_leafs.specs.inner.Sites.{HasFirsts, HasPrefixes};
 
 use crate::derives::Derives;
 use crate::site::Site;
@@ -46,6 +46,7 @@ impl Table {
     ) -> Result<Many<u32>, LeafFault>
         requires prefixes { HasPrefixes site.now }
         requires located { D.located identities.now ≡ site.now.scopes.now.located }
+        requires firsts { HasFirsts (D.derived identities.now) site.now }
         requires blank { self.old ≡ nodes.blank (length site.now.meanings.now.plans) }
         ensures ok { IfOk result (λ it. (on : ℕ → List ℕ → Bool)
             → nodes.IsKnown (nodes.basis_of on site.now plan.now) site.now.meanings.now site.now.marks.now
@@ -75,6 +76,7 @@ pub(crate) fn all_types<D: Derives>(
 ) -> Result<Found, LeafFault>
     requires prefixes { HasPrefixes site.now }
     requires located { D.located identities.now ≡ site.now.scopes.now.located }
+    requires firsts { HasFirsts (D.derived identities.now) site.now }
     ensures ok { IfOk result (λ it. (on : ℕ → List ℕ → Bool)
         → nodes.IsKnown (nodes.basis_of on site.now plan.now) site.now.meanings.now site.now.marks.now
         → nodes.HaveKinds (D.derived identities.now) (nodes.basis_of on site.now plan.now) it.types

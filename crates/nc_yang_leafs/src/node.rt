@@ -11,7 +11,7 @@ ghost use Rattle.nc_yang_scopes.specs.Numbers.{OnNumber};
 ghost use Rattle.nc_yang_meanings.specs.Plans.{AreMeanings};
 
 use crate::derives::Derives;
-use crate::marks::plan_at;
+use crate::firsts::plan_for;
 use crate::site::Site;
 use crate::stop::LeafFault;
 use crate::table::Table;
@@ -60,7 +60,7 @@ impl Table {
             → IsReady (D.derived identities.now) (work site.now node) self.old → OnNumber site.now.scopes.now statement
             (λ top. LosesPath on (work site.now node) top fault))) }
     {
-        let Some(plan) = plan_at(site.meanings, statement) else {
+        let Some(plan) = plan_for(site, statement) else {
             return Err(LeafFault::Memory);
         };
         let number = self.ask(site.marks, node, plan)?;

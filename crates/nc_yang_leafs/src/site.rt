@@ -13,6 +13,8 @@ pub(crate) struct Site<'b, 'a> {
     pub meanings: &'b Meanings,
     /// Of each plan, whether it may have a leafref in it.
     pub marks: &'b [bool],
+    /// Of each plan the one that has its entry.
+    pub firsts: &'b [usize],
     /// The prefixes of each text.
     pub prefixes: &'b [Many<Bound>],
     /// The schema without types.

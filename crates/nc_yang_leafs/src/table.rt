@@ -3,7 +3,8 @@ ghost use Rattle.std.specs.Prelude.{◌≡◌, ◌∷◌, ◌++◌, [], IfOk};
 ghost use Rattle.nc_yang_leafs.specs.inner.Sites.{work};
 ghost use Rattle.nc_yang_leafs.specs.inner.Tables as words;
 
-use crate::marks::{is_marked, plan_at};
+use crate::firsts::plan_for;
+use crate::marks::is_marked;
 use crate::site::Site;
 use nc_names::{Many, Memory};
 use nc_schema::ValueType;
@@ -70,7 +71,7 @@ impl Table {
     fn ask_member(&mut self, site: &Site, node: u32, member: usize) -> Result<u32, Memory>
         ensures { IfOk result (words.AsksMember (work site.now node) member self.old self.new) }
     {
-        let Some(plan) = plan_at(site.meanings, member) else {
+        let Some(plan) = plan_for(site, member) else {
             return Err(Memory);
         };
         self.ask(site.marks, node, plan)

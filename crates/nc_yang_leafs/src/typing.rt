@@ -11,6 +11,7 @@ ghost use Rattle.nc_yang_leafs.specs.inner.Nodes.{HaveKinds};
 
 use crate::copies::with_kind;
 use crate::derives::Derives;
+use crate::firsts::firsts_of;
 use crate::kinds::{Found, all_types};
 use crate::marks::marks_of;
 use crate::site::Site;
@@ -87,21 +88,27 @@ fn types_of<D: Derives>(
         → BreaksLeafref (bases.basis_on on scopes.now plan.now schema.now) fault)) }
 {
     let marks = marks_of(alloc, meanings)?;
+    let marked = marks.as_slice();
+    let firsts = firsts_of(alloc, scopes, meanings, marked, identities)?;
+    let shared = firsts.as_slice();
     let site = Site {
         scopes,
         meanings,
-        marks: marks.as_slice(),
+        marks: marked,
+        firsts: shared,
         prefixes,
         schema,
     };
     all_types(alloc, &site, identities, plan)
 }
 
-/// The schema that modules define with the types of its leafs and leaf-lists (RFC 7950 7.6.3, 7.7.3): the data nodes
-/// are those of the plan, by their numbers, and have no types yet. Types without a leafref in them have one entry for
-/// all data nodes; one with a leafref has an entry for each data node that uses it, since its path starts there
-/// (RFC 7950 9.9.2). It is a fault where such a path leads to no leaf or leaf-list. Time and memory grow with the
-/// data nodes and the entries of the table. More than 2^32 - 2 entries are answered as want of memory.
+/// The schema that modules define with the types of its leafs and leaf-lists (RFC 7950 7.6.3, 7.7.3): the data
+/// nodes are those of the plan, by their numbers, and have no types yet. Types without a leafref in them have one
+/// entry for all data nodes, and types identityref whose `base` statements name the same identities in the same
+/// order have one together; one with a leafref has an entry for each data node that uses it, since its path
+/// starts there (RFC 7950 9.9.2). It is a fault where such a path leads to no leaf or leaf-list. Time and memory
+/// grow with the data nodes and the entries of the table. More than 2^32 - 2 entries are answered as want of
+/// memory.
 pub fn typed<'a, D: Derives>(
     alloc: Global,
     scopes: &Scopes<'a>,

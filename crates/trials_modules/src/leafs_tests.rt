@@ -244,6 +244,11 @@ const BODIES: &[(&str, &str)] = &[
         "feature off; identity top; identity one { base top; } identity two { base one; } identity gone { if-feature off; base top; } identity other; identity both { base other; base p:top; } typedef t { type identityref { base top; } } leaf x { type t; } leaf y { type identityref { base top; base other; } } leaf z { type identityref { base two; } }",
         "x: identity urn:a:one urn:a:two urn:a:both; y: identity urn:a:both; z: identity; ",
     ),
+    // the same bases by other names, and others
+    (
+        "identity top; identity one { base top; } identity two { base one; } typedef t { type identityref { base top; } } leaf x { type t; } leaf y { type identityref { base p:top; } } leaf z { type identityref { base one; } } leaf w { type union { type empty; type identityref { base top; } } }",
+        "x: identity urn:a:one urn:a:two; y: identity urn:a:one urn:a:two; z: identity urn:a:two; w: union(empty; identity urn:a:one urn:a:two; ); ",
+    ),
     // leafrefs: where they lead, and where the path turns down (RFC 7950 9.9)
     (
         "leaf x { type int8; } leaf y { type leafref { path /p:x; } } leaf z { type leafref { path ../x; require-instance false; } }",
@@ -313,9 +318,9 @@ fn wide(rt: &impl Abort, alloc: Global) -> String {
     text
 }
 
-/// How many types the schema of a module has; none where there is no schema.
-fn count_of(rt: &impl Abort, alloc: Global, text: &str) -> Option<usize> {
-    let modules = files(rt, alloc, &[text]);
+/// How many types the schema of modules has; none where there is no schema.
+fn count_of(rt: &impl Abort, alloc: Global, texts: &[&str]) -> Option<usize> {
+    let modules = files(rt, alloc, texts);
     match compile(alloc, modules.as_slice(), &[]) {
         Ok(schema) => Some(schema.types().len()),
         Err(_) => None,
@@ -325,7 +330,67 @@ fn count_of(rt: &impl Abort, alloc: Global, text: &str) -> Option<usize> {
 #[test]
 fn a_union_without_a_leafref_is_shared(rt: HostRuntime) {
     let text = wide(&rt, rt.alloc());
-    let count = count_of(&rt, rt.alloc(), text.as_str()).expect(&rt, "a schema");
+    let count = count_of(&rt, rt.alloc(), &[text.as_str()]).expect(&rt, "a schema");
     // the union and its members, each once
     assert!(rt; count <= 1_001);
+}
+
+/// Bodies of a module `a` with an identity `top`, and how many types it has beside the module `OTHER`.
+const SHARED: &[(&str, usize)] = &[
+    // by typedefs and `type` statements, and of an identity under another
+    (
+        "identity top; identity one { base top; } typedef t { type identityref { base top; } } typedef u { type identityref { base p:top; } } leaf x { type t; } leaf y { type u; } leaf z { type identityref { base top; } } leaf w { type identityref { base one; } }",
+        2,
+    ),
+    // of several identities
+    (
+        "identity top; identity two; identity one { base top; base two; } leaf x { type identityref { base top; base two; } } leaf y { type identityref { base p:top; base p:two; } } leaf z { type identityref { base top; } } leaf w { type identityref { base two; } }",
+        3,
+    ),
+    // in unions: two unions and two strings
+    (
+        "identity top; identity one { base top; } leaf x { type union { type identityref { base top; } type string; } } leaf y { type union { type string; type identityref { base top; } } }",
+        5,
+    ),
+];
+
+/// A module with a leaf whose values are identities under `top` of the module `a`.
+const OTHER: &str =
+    "module b { namespace urn:b; prefix b; import a { prefix q; } leaf n { type identityref { base q:top; } } }";
+
+#[test]
+fn identityrefs_of_the_same_bases_are_shared(rt: HostRuntime) {
+    for (body, wanted) in SHARED {
+        let text = format!(in rt.alloc();
+            "module a {{ namespace urn:a; prefix p;\n{body} }}"
+        ).expect(&rt, "memory");
+        let count = count_of(&rt, rt.alloc(), &[text.as_str(), OTHER]).expect(&rt, "a schema");
+        assert_eq!(rt; count, *wanted, "of {body}");
+    }
+}
+
+/// A module with many identities under one, each a value of many leafs.
+fn many_values(rt: &impl Abort, alloc: Global) -> String {
+    let mut text = String::new(alloc);
+    text.push_str("module a { namespace urn:a; prefix p; identity top; ")
+        .expect(rt, "memory");
+    for number in 0..500u32 {
+        write!(text, "identity i{number} {{ base top; }} ").expect(rt, "memory");
+    }
+    for number in 0..1_000u32 {
+        write!(
+            text,
+            "leaf l{number} {{ type identityref {{ base top; }} }} "
+        )
+        .expect(rt, "memory");
+    }
+    text.push_str("}").expect(rt, "memory");
+    text
+}
+
+#[test]
+fn the_values_of_many_identityrefs_are_kept_once(rt: HostRuntime) {
+    let text = many_values(&rt, rt.alloc());
+    let count = count_of(&rt, rt.alloc(), &[text.as_str()]).expect(&rt, "a schema");
+    assert!(rt; count == 1);
 }

@@ -11,7 +11,7 @@ use Rattle.nc_yang_scopes.specs.Scopes.{Located, Scoping}
 use Rattle.nc_yang_meanings.specs.declared.planned.Meanings.{Meanings}
 use Rattle.nc_yang_meanings.specs.declared.planned.Planned.{Planned}
 use Rattle.nc_yang_meanings.specs.declared.planned.Planned.TheVariants.{Bases, Finished, Leafref, Members}
-use Rattle.nc_yang_scopes.specs.Numbers.{AreNumbers, OnNumber}
+use Rattle.nc_yang_scopes.specs.Numbers.{OnNumber}
 use Rattle.nc_yang_meanings.specs.Plans.{HasPlan}
 use Rattle.nc_yang_meanings.specs.Wholes.{UsesPath}
 use Rattle.nc_yang_leafs.specs.declared.table.Slot.{Slot}
@@ -19,7 +19,9 @@ use Rattle.nc_yang_leafs.specs.declared.table.Table.{Table}
 use Rattle.nc_yang_leafs.specs.Bases.{leads}
 use Rattle.nc_yang_leafs.specs.Faults.{fault_at}
 use Rattle.nc_yang_leafs.specs.Typings.{IsAmong}
-use Rattle.nc_yang_leafs.specs.Marks.{is_marked, plan_at}
+use Rattle.nc_yang_leafs.specs.Marks.{is_marked}
+use Rattle.nc_yang_leafs.specs.Named.{HaveNames}
+use Rattle.nc_yang_leafs.specs.inner.Firsts.{AreFirsts, first_in, plan_for}
 
 -- for which data node types are made, and from what
 pub record Work : Type 0 where
@@ -27,6 +29,7 @@ pub record Work : Type 0 where
   pub given : Tables
   pub meanings : Meanings
   pub marks : List Bool
+  pub firsts : List ℕ
   pub node : ℕ
 
 -- a number that was given for a data node: that of a plan with a leafref in it is for this one alone
@@ -40,10 +43,10 @@ slot_at known plan = unwrap_or (slice_get known plan) None
 abbrev pub number_of : List Bool → List (Option Slot) → (node : ℕ) → (plan : ℕ) → Option ℕ
 number_of marks known node plan = option_and_then (number_in (is_marked marks plan) node) (slot_at known plan)
 
--- that of the plan of a `type` statement
+-- that of the plan that has the entry of a `type` statement
 abbrev pub number_at : Work → List (Option Slot) → (member : ℕ) → Option ℕ
 number_at w known member =
-    option_and_then (number_of w.marks known w.node) (plan_at w.meanings.findings member)
+    option_and_then (number_of w.marks known w.node) (plan_for w.meanings.findings w.firsts member)
 
 -- with the next number for a plan
 abbrev pub with_plan : Table → (node : ℕ) → (plan : ℕ) → Table
@@ -59,10 +62,10 @@ Asks marks node plan old new number =
     ⊎ ((number_of marks old.known node plan ≡ None) × (plan < length old.known)
     × (number ≡ length old.plans) × (new ≡ with_plan old node plan))
 
--- so has the plan of a `type` statement
+-- so has the plan that has the entry of a `type` statement
 pub record AsksMember (w : Work) (member : ℕ) (old new : Table) (number : ℕ) : Type 0 where
   pub plan : ℕ
-  pub is : plan_at w.meanings.findings member ≡ Some plan
+  pub is : plan_for w.meanings.findings w.firsts member ≡ Some plan
   pub asks : Asks w.marks w.node plan old new number
 
 -- so have those of several
@@ -70,7 +73,7 @@ pub record Asked (w : Work) (members : List ℕ) (old new : Table) (numbers : Li
   pub types : new.types ≡ old.types
   pub more : List ℕ
   pub plans : new.plans ≡ old.plans ++ more
-  pub from : (plan : ℕ) → Contains more plan → (member : ℕ) × Contains members member × (plan_at w.meanings.findings member ≡ Some plan)
+  pub from : (plan : ℕ) → Contains more plan → (member : ℕ) × Contains members member × (plan_for w.meanings.findings w.firsts member ≡ Some plan)
   pub kept : (plan number : ℕ) → number_of w.marks old.known w.node plan ≡ Some number → number_of w.marks new.known w.node plan ≡ Some number
   pub fresh : (plan number : ℕ) → number_of w.marks new.known w.node plan ≡ Some number →
       (number_of w.marks old.known w.node plan ≡ Some number) ⊎ ((length old.plans ≤ number) × (slice_get new.plans number ≡ Some plan))
@@ -94,8 +97,7 @@ Fits derived w known (Finished entry) other = other ≡ entry
 Fits derived w known (Members members) other =
     (numbers : List ℕ) × (other ≡ UnionType numbers) × (map (number_at w known) members ≡ map Some numbers)
 Fits derived w known (Bases bases) other =
-    (names : List QName) × (other ≡ IdentityType names)
-    × ((ls : List Located) → AreNumbers w.scoping.located bases ls → derived ls names)
+    (names : List QName) × (other ≡ IdentityType names) × HaveNames derived w.scoping.located bases names
 Fits derived w known (Leafref path need) other = IsLeafref w path need other
 
 abbrev pub members_in : Planned → List ℕ
@@ -138,10 +140,12 @@ pub record LosesPlan (w : Work) (plan : ℕ) (fault : TextFault) : Type 0 where
   pub there : slice_get w.meanings.plans plan ≡ Some planned
   pub lost : IsLost w planned fault
 
--- a plan is of a `type` statement that another is, or that is among its members
+-- a plan has the entry of a `type` statement that another is, or that is among its members
 pub record IsUsed (on : ℕ → List ℕ → Bool) (w : Work) (top : Located) (plan : ℕ) : Type 0 where
   pub statement : Located
-  pub has : HasPlan on w.scoping w.meanings.plans statement plan
+  pub own : ℕ
+  pub has : HasPlan on w.scoping w.meanings.plans statement own
+  pub first : first_in w.firsts own ≡ plan
   pub among : IsAmong on w.scoping.texts top statement
 
 -- entries are right as far as they are made
@@ -150,6 +154,7 @@ pub record IsRight (derived : List Located → List QName → Type 0) (w : Work)
   pub fits : (plan number : ℕ) (entry : ValueType) (planned : Planned) → number_of w.marks table.known w.node plan ≡ Some number →
       slice_get table.types number ≡ Some entry → slice_get w.meanings.plans plan ≡ Some planned → Fits derived w table.known planned entry
   pub stamped : (plan : ℕ) (slot : Slot) → slot_at table.known plan ≡ Some slot → slot.node ≤ w.node
+  pub firsts : AreFirsts derived w.scoping.located w.meanings.plans w.marks w.firsts
 
 -- the numbers from that one on are for the type of the data node, and those that are yet to be made are among them
 pub record IsOnWay (derived : List Located → List QName → Type 0) (on : ℕ → List ℕ → Bool) (w : Work) (top : Located) (start : ℕ) (table : Table) : Type 0 where

@@ -2,7 +2,7 @@ use Rattle.std.proofs.Common.{◌≡◌, ◌∙◌, length, sym, ap, subst, arit
 use Rattle.std.specs.Option.{option_copied}
 use Rattle.std.proofs.lemmas.Result.{err_from_is_err_and}
 use Rattle.nc_yang_leafs.specs.inner.Nodes.{HaveKinds, basis_of}
-use Rattle.nc_yang_leafs.proofs.GiveLemmas.{breaks_leafref, given_more, may_give, on_broken}
+use Rattle.nc_yang_leafs.proofs.GiveLemmas.{breaks_leafref, given_first, given_more, may_give, on_broken}
 use Rattle.nc_yang_leafs.proofs.table.Table.kinds_of.Goals as goal
 
 pub returns-in_err-kind_of-clause-fault : goal.returns-in_err-kind_of-clause-fault
@@ -13,6 +13,10 @@ returns-in_err-kind_of-clause-fault g c =
     breaks_leafref (g.D.Derives.derived c.args.identities.now) on c.args.site.now c.args.plan.now known c.loop-number.number c.in-Some.node.now fault (sym c.node.ensures ∙ ap option_copied c.in-Some.is)
     (breaks on (may_give (g.D.Derives.derived c.args.identities.now) on c.args.site.now c.args.plan.now known c.loop-number.number c.in-Some.node.now c.loop-number.self c.loop-number.kinds
     (sym c.node.ensures ∙ ap option_copied c.in-Some.is) (c.loop-number.invariant on known)))) c.in_err-kind_of.ensures.fault)
+
+pub loop-number-init : goal.loop-number-init
+loop-number-init g c = λ on known.
+    given_first (g.D.Derives.derived c.args.identities.now) on c.args.site.now c.args.plan.now known c.requires.firsts c.args.self.now c.new-kinds.result c.requires.blank c.new-kinds.ensures
 
 pub loop-number-preserved : goal.loop-number-preserved
 loop-number-preserved g c = λ on known.

@@ -1,13 +1,13 @@
 -- What a `type` statement means by an entry has no other types.
-use Rattle.std.proofs.Common.{◌≡◌, ℕ, Bool, true, false, List, refl, sym, subst}
+use Rattle.std.proofs.Common.{◌≡◌, ℕ, Bool, true, false, List, refl, subst}
 use Rattle.std.specs.Prelude.{Option, Some, None, option_map}
 use Rattle.nc_schema.specs.declared.value_type.Between.{Between}
 use Rattle.nc_schema.specs.declared.value_type.ValueType.{ValueType}
-use Rattle.nc_schema.specs.declared.value_type.ValueType.TheVariants.{Whole, Decimal, Chars, Boolean as Truth, Enumeration as Names, Bits as Flags, Binary as Octets, Empty as Nothing, Union as UnionType, Identity as IdentityType, Leafref as LeafrefType, Instance, NodeInstance}
+use Rattle.nc_schema.specs.declared.value_type.ValueType.TheVariants.{Whole, Decimal, Chars, Binary as Octets, Union as UnionType, Leafref as LeafrefType, Instance}
 use Rattle.nc_yang_words.specs.declared.statement.Statement.{Statement}
 use Rattle.nc_yang_statements.specs.declared.built_in.BuiltIn.{BuiltIn}
 use Rattle.nc_yang_statements.specs.declared.built_in.BuiltIn.TheVariants.{Binary, Bits, Boolean, Decimal64, Empty, Enumeration, IdentityRef, InstanceIdentifier, LeafRef, Chars as StringType, Union}
-use Rattle.nc_yang_statements.specs.declared.keyword.Keyword.TheVariants.{Length, Path, Range, TypeName, Base}
+use Rattle.nc_yang_statements.specs.declared.keyword.Keyword.TheVariants.{Length, Path, Range}
 use Rattle.nc_yang_statements.specs.Statements.{below}
 use Rattle.nc_yang_scopes.specs.Scopes.{Located}
 use Rattle.nc_yang_types.specs.declared.bound.Counted.TheVariants.{Units, Lengths}

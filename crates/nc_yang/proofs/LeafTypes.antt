@@ -7,7 +7,6 @@ use Rattle.nc_schema.specs.Kinds.{has_value}
 use Rattle.nc_schema.specs.Tables.{Tables}
 use Rattle.nc_schema.specs.Values.{type_of as kind_at}
 use Rattle.nc_schema.specs.declared.node.Node.{Node}
-use Rattle.nc_schema.specs.declared.pattern.LeafrefEnd.{LeafrefEnd}
 use Rattle.nc_schema.specs.declared.value_type.ValueType.{ValueType}
 use Rattle.nc_schema.specs.declared.value_type.ValueType.TheVariants.{Union, Leafref}
 use Rattle.nc_yang_order.proofs.Lists.{contains_none, contains_one, get_none}

@@ -1,7 +1,6 @@
 -- Modules have one schema, but for the numbers of its types.
-use Rattle.std.proofs.Common.{◌≡◌, ℕ, List, map, refl, sym, ap, subst, ◌∙◌}
+use Rattle.std.proofs.Common.{◌≡◌, ℕ, List, sym, subst, ◌∙◌}
 use Rattle.nc_schema.specs.Tables.{Tables}
-use Rattle.nc_yang_words.specs.declared.statement.Statement.{Statement}
 use Rattle.nc_yang_scopes.specs.Scopes.{Scoping}
 use Rattle.nc_yang_scopes.proofs.Scopings.{one_scoping}
 use Rattle.nc_yang_texts.specs.Rules.{KeepsTexts}

@@ -1,5 +1,5 @@
 -- Types, circles and defaults do not depend on which plan of the modules is taken.
-use Rattle.std.proofs.Common.{◌≡◌, ℕ, List, refl, sym, ap, ◌∙◌}
+use Rattle.std.proofs.Common.{◌≡◌, ℕ, List, sym, ap, ◌∙◌}
 use Rattle.std.specs.Prelude.{Bool, Option, Some, None, IsSomeAnd, option_and_then, slice_get}
 use Rattle.nc_names.specs.declared.name.QName.{QName}
 use Rattle.nc_schema.specs.Tables.{Tables}

@@ -1,5 +1,5 @@
 -- Two schemas with the types of the same leafs and leaf-lists take texts alike, whatever numbers the types have.
-use Rattle.std.proofs.Common.{inl, inr, ◌≡◌, ◌⊎◌, ◌<◌, ◌++◌, ℕ, zero, suc, Bool, true, false, cond, List, [], ◌∷◌, length, map, refl, sym, ap, subst, ◌∙◌, arith}
+use Rattle.std.proofs.Common.{inl, inr, ◌≡◌, ◌⊎◌, ◌<◌, ◌++◌, ℕ, zero, suc, Bool, false, cond, List, [], ◌∷◌, length, refl, sym, ap, subst, ◌∙◌}
 use Rattle.std.specs.Prelude.{◌&&◌, Option, Some, None, option_and_then, slice_get, Contains}
 use Rattle.std.specs.List.{list_all}
 use Rattle.std.specs.Option.{option_map_or}
@@ -14,17 +14,16 @@ use Rattle.nc_schema.specs.declared.value_type.ValueType.{ValueType}
 use Rattle.nc_schema.specs.declared.value_type.ValueType.TheVariants.{Identity, Leafref, Union}
 use Rattle.nc_yang_loops.proofs.Lists.{contains_first, contains_later}
 use Rattle.nc_yang_scopes.specs.Scopes.{Located}
-use Rattle.nc_yang_meanings.specs.Meanings.{DerivedFrom, Entry, Meaning, Means, OneOf, Refers}
+use Rattle.nc_yang_meanings.specs.Meanings.{DerivedFrom, Entry, Meaning, OneOf, Refers}
 use Rattle.nc_yang_meanings.specs.Wholes.{members_of}
 use Rattle.nc_yang_meanings.proofs.MeaningLemmas.{means_one}
 use Rattle.nc_yang_leafs.specs.Bases.{Basis, leads}
 use Rattle.nc_yang_leafs.specs.Typings.{HasType, IsEntry, none, numbers_of, one_more}
-use Rattle.nc_yang_leafs.proofs.ClosingLemmas.{IsOne}
 use Rattle.nc_yang_defaults.specs.Readings.{has_whole, is_whole}
 use Rattle.nc_yang_defaults.proofs.AlikeLemmas.{alone_alike, path_tables}
 use Rattle.nc_yang.proofs.Alone.{IsAlone, means_alone}
 use Rattle.nc_yang.proofs.Chains.{Asks, Clear, Ends, asked_is, clear_at_start, ends, further, member, next_clear, one_is_left, target}
-use Rattle.nc_yang.proofs.LeafTypes.{One, Typed, head}
+use Rattle.nc_yang.proofs.LeafTypes.{Typed, head}
 
 -- ---- unions
 module _ (f g : List Bound → Gives) where

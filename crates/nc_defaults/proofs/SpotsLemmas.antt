@@ -1,7 +1,9 @@
--- Places gathered one data node, or one instance, after another.
-use Rattle.std.proofs.Common.{◌≡◌, ◌==◌, ◌&&◌, ◌+◌, ◌++◌, ℕ, zero, suc, true, false, cond, List, [], ◌∷◌, Some, length, drop, refl, sym, ap, ◌∙◌, arith, append_assoc}
-use Rattle.std.proofs.lemmas.List.{append-nil}
+-- Places gathered one child, or one instance, after another.
+use Rattle.std.proofs.Common.{◌≡◌, ◌==◌, ◌&&◌, ◌+◌, ◌++◌, ◌<◌, ◌≤◌, ℕ, zero, suc, Bool, true, false, cond, ltb, List, [], ◌∷◌, Option, Some, None, length, drop, get_or, refl, sym, ap, ◌∙◌, arith, append_assoc, if◌then◌else◌}
+use Rattle.std.proofs.lemmas.Bool.Decides.{nat_tests}
+use Rattle.std.proofs.lemmas.List.{append-nil, drop_all, drop_more}
 use Rattle.std.specs.List.{filter, flat_map}
+use Rattle.std.specs.Option.{option_map_or}
 use Rattle.std.specs.Prelude.{slice_get}
 use Rattle.nc_schema.specs.Children.{is_same_number}
 use Rattle.nc_schema.specs.Kinds.{holds_nodes, is_plain_container}
@@ -11,39 +13,94 @@ use Rattle.nc_schema.specs.declared.node.Kind.{Kind}
 use Rattle.nc_schema.specs.declared.node.Kind.TheVariants.{Container, Leaf, LeafList, List as ListKind}
 use Rattle.nc_schema.specs.declared.node.Node.{Node}
 use Rattle.nc_names.specs.declared.path.Row.{Row}
+use Rattle.nc_defaults.specs.Children.{children_among, children_of}
 use Rattle.nc_defaults.specs.Within.{rows_between}
+use Rattle.nc_defaults.proofs.ListLemmas.{among_next, here_of, later_of, none_dropped}
 use Rattle.nc_defaults.proofs.Runs.{none_between}
-use Rattle.nc_defaults.specs.inner.Walks.{places_under, places_with}
+use Rattle.nc_defaults.specs.inner.Walks.{places_at, places_at_all, places_under, places_with}
 
-cut_node : (nodes : List Node) (at : ℕ) (node : Node) → slice_get nodes at ≡ Some node → drop at nodes ≡ node ∷ drop (at + 1) nodes
-cut_node [] at node found = absurd (let clash = found in cc)
-cut_node (n ∷ nodes) zero node found = cc
-cut_node (n ∷ nodes) (suc at) node found =
-    let next : suc at + 1 ≡ suc (at + 1) = omega arith in
-    cut_node nodes at node found ∙ ap (λ k. node ∷ drop k (n ∷ nodes)) (sym next)
+-- ---- the children of the place's data node
+abbrev one_of : Tables → Place → ℕ → ℕ → List Place
+one_of tables place number child = if ltb child number then [] else places_at tables place child
 
--- one data node more
-pub node_of_place : (tables : Tables) (place : Place) (at : ℕ) (node : Node) → slice_get tables.nodes at ≡ Some node →
-    is_same_number node.parent (node_there place) ≡ true →
-    places_under tables place at ≡ places_with tables place at node (place_parts place at node.kind) ++ places_under tables place (at + 1)
-node_of_place tables place at node found same =
-    ap (places_among tables place at) (cut_node tables.nodes at node found)
-    ∙ ap (λ b. flat_map (λ below. below ∷ places_under tables below (at + 1)) (cond b (places_of tables place at node) []) ++ places_under tables place (at + 1)) same
+counts : (tables : Tables) (place : Place) (number child : ℕ) → number ≤ child → one_of tables place number child ≡ places_at tables place child
+counts tables place number child least =
+    let is : ltb child number ≡ false = grind (arith, nat_tests) in ap (λ b. if b then [] else places_at tables place child) is
 
-pub node_elsewhere : (tables : Tables) (place : Place) (at : ℕ) (node : Node) → slice_get tables.nodes at ≡ Some node →
-    is_same_number node.parent (node_there place) ≡ false →
-    places_under tables place at ≡ places_under tables place (at + 1)
-node_elsewhere tables place at node found differs =
-    ap (places_among tables place at) (cut_node tables.nodes at node found)
-    ∙ ap (λ b. flat_map (λ below. below ∷ places_under tables below (at + 1)) (cond b (places_of tables place at node) []) ++ places_under tables place (at + 1)) differs
+passed : (tables : Tables) (place : Place) (number child : ℕ) → child < number → one_of tables place number child ≡ []
+passed tables place number child less =
+    let is : ltb child number ≡ true = grind (arith, nat_tests) in ap (λ b. if b then [] else places_at tables place child) is
 
--- no data node is left
-pub none_under : (tables : Tables) (place : Place) → places_under tables place (length tables.nodes) ≡ []
-none_under tables place = ap (places_among tables place (length tables.nodes)) (gone tables.nodes)
+-- from a number on
+listed_on : (tables : Tables) (place : Place) (number at : ℕ) (later : List Node) → number ≤ at → drop at tables.nodes ≡ later →
+    places_at_all tables place number (children_among (node_there place) at later) ≡ places_among tables place at later
+listed_on tables place number at [] least is = refl
+listed_on tables place number at (node ∷ later) least is =
+    let rest = listed_on tables place number (at + 1) later (omega (arith, least)) (later_of tables.nodes at node later is) in
+    ap (places_at_all tables place number) (among_next (node_there place) at node later)
+    ∙ by (is_same_number node.parent (node_there place)) rest
   where
-    gone : (nodes : List Node) → drop (length nodes) nodes ≡ []
-    gone [] = refl
-    gone (n ∷ nodes) = gone nodes
+    these : places_at tables place at ≡ flat_map (λ below. below ∷ places_among tables below (at + 1) later) (places_of tables place at node)
+    these =
+        ap (λ (o : Option Node). option_map_or (λ n. places_with tables place at n (place_parts place at n.kind)) o []) (here_of tables.nodes at node later is)
+        ∙ ap (λ (left : List Node). flat_map (λ below. below ∷ places_among tables below (at + 1) left) (places_of tables place at node)) (later_of tables.nodes at node later is)
+
+    by : (b : Bool) →
+        places_at_all tables place number (children_among (node_there place) (at + 1) later) ≡ places_among tables place (at + 1) later →
+        places_at_all tables place number ((if b then at ∷ [] else []) ++ children_among (node_there place) (at + 1) later)
+        ≡ flat_map (λ below. below ∷ places_among tables below (at + 1) later) (if b then places_of tables place at node else []) ++ places_among tables place (at + 1) later
+    by true rest = λ i. (counts tables place number at least ∙ these) i ++ rest i
+    by false rest = rest
+
+-- those before it add nothing
+none_before : (tables : Tables) (place : Place) (number at : ℕ) (left : ℕ) (later : List Node) → at + left ≡ number →
+    places_at_all tables place number (children_among (node_there place) at later) ≡ places_at_all tables place number (children_among (node_there place) number (drop left later))
+none_before tables place number at zero later is =
+    let same : at ≡ number = omega (arith, is) in
+    ap (λ n. places_at_all tables place number (children_among (node_there place) n later)) same
+    ∙ ap (λ (ns : List Node). places_at_all tables place number (children_among (node_there place) number ns)) (sym (none_dropped later))
+none_before tables place number at (suc left) [] is = refl
+none_before tables place number at (suc left) (node ∷ later) is =
+    ap (places_at_all tables place number) (among_next (node_there place) at node later)
+    ∙ by (is_same_number node.parent (node_there place))
+    ∙ none_before tables place number (at + 1) left later (omega (arith, is))
+  where
+    by : (b : Bool) →
+        places_at_all tables place number ((if b then at ∷ [] else []) ++ children_among (node_there place) (at + 1) later)
+        ≡ places_at_all tables place number (children_among (node_there place) (at + 1) later)
+    by true = ap (λ ps. ps ++ places_at_all tables place number (children_among (node_there place) (at + 1) later)) (passed tables place number at (omega (arith, is)))
+    by false = refl
+
+-- the places below one are those of the children of its data node
+pub listed : (tables : Tables) (place : Place) (number : ℕ) → places_at_all tables place number (children_of tables.nodes (node_there place)) ≡ places_under tables place number
+listed tables place number =
+    none_before tables place number 0 number tables.nodes (omega arith)
+    ∙ listed_on tables place number number (drop number tables.nodes) (omega arith) refl
+
+-- one child more
+pub child_more : (tables : Tables) (place : Place) (number : ℕ) (children : List ℕ) (i : ℕ) → i < length children → number ≤ get_or children i 0 →
+    places_at_all tables place number (drop i children) ≡ places_at tables place (get_or children i 0) ++ places_at_all tables place number (drop (i + 1) children)
+child_more tables place number children i within least =
+    ap (places_at_all tables place number) (drop_more children i 0 within)
+    ∙ ap (λ ps. ps ++ places_at_all tables place number (drop (i + 1) children)) (counts tables place number (get_or children i 0) least)
+
+pub child_passed : (tables : Tables) (place : Place) (number : ℕ) (children : List ℕ) (i : ℕ) → i < length children → get_or children i 0 < number →
+    places_at_all tables place number (drop i children) ≡ places_at_all tables place number (drop (i + 1) children)
+child_passed tables place number children i within less =
+    ap (places_at_all tables place number) (drop_more children i 0 within)
+    ∙ ap (λ ps. ps ++ places_at_all tables place number (drop (i + 1) children)) (passed tables place number (get_or children i 0) less)
+
+pub no_child_left : (tables : Tables) (place : Place) (number : ℕ) (children : List ℕ) (i : ℕ) → length children ≤ i → places_at_all tables place number (drop i children) ≡ []
+no_child_left tables place number children i past = ap (places_at_all tables place number) (drop_all i children past)
+
+pub places_at_node : (tables : Tables) (place : Place) (number : ℕ) (node : Node) → slice_get tables.nodes number ≡ Some node →
+    places_with tables place number node (place_parts place number node.kind) ≡ places_at tables place number
+places_at_node tables place number node found =
+    ap (λ (o : Option Node). option_map_or (λ n. places_with tables place number n (place_parts place number n.kind)) o []) (sym found)
+
+pub no_places_at : (tables : Tables) (place : Place) (number : ℕ) → slice_get tables.nodes number ≡ None → places_at tables place number ≡ []
+no_places_at tables place number none =
+    ap (λ (o : Option Node). option_map_or (λ n. places_with tables place number n (place_parts place number n.kind)) o []) none
 
 -- one instance more
 pub with_one : (tables : Tables) (place : Place) (number : ℕ) (node : Node) (part : Part) (all rest : List Part) → all ≡ part ∷ rest → is_of number part ≡ true →

@@ -1,12 +1,13 @@
 //! The values in use in a place and all below it.
-ghost use Rattle.std.specs.Prelude.{◌≡◌, ◌++◌, ◌∷◌, ◌+◌, ◌<◌, ◌≤◌, ◌^◌, List, length, map, IfOk, OnOk};
+ghost use Rattle.std.specs.Prelude.{◌≡◌, ◌++◌, ◌∷◌, ◌+◌, ◌<◌, ◌^◌, List, length, map, IfOk, OnOk};
 ghost use Rattle.nc_names.specs.declared.path.Row.{Row};
 ghost use Rattle.nc_schema.specs.InUse as uses;
 ghost use Rattle.nc_schema.specs.Places as places;
 ghost use Rattle.nc_defaults.specs.Within.{IsWithin, place_here};
 ghost use Rattle.nc_defaults.specs.inner.Below.{texts, values_among, values_at};
-ghost use Rattle.nc_defaults.specs.inner.Walks.{places_under, places_with};
+ghost use Rattle.nc_defaults.specs.inner.Walks.{places_at, places_under, places_with};
 
+use crate::children::Children;
 use crate::here::place_of;
 use crate::parts::{count_parts, next_of, run_end};
 use crate::spots::{
@@ -33,15 +34,16 @@ fn stands_in(parent: Option<u32>, spot: &Spot) -> bool
 // The values in use in one place, where the leaf stands there.
 fn values_at<'a>(
     alloc: Global,
-    schema: &'a Schema,
+    children: &Children<'a>,
     config: &'a Config,
     spot: &Spot,
     number: u32,
 ) -> Result<Many<&'a Text>, Memory>
     requires { IsWithin config.now spot.now.here }
     ensures { IfOk result (λ it. map (λ text. text.now) it
-        ≡ values_at schema.now number (place_here config.now spot.now.steps spot.now.here)) }
+        ≡ values_at children.now number (place_here config.now spot.now.steps spot.now.here)) }
 {
+    let schema = children.schema();
     if stands_in(parent_of(schema, number), spot) {
         return values_in_use(
             alloc,
@@ -59,21 +61,20 @@ fn values_at<'a>(
 #[cycle(values)]
 fn add_values<'a>(
     out: &mut Many<&'a Text>,
-    schema: &'a Schema,
+    children: &Children<'a>,
     config: &'a Config,
     spot: &Spot,
     leaf: u32,
     number: u32,
 ) -> Result<(), Memory>
-    requires within { IsWithin config.now spot.now.here }
-    requires known { number ≤ length schema.now.nodes }
-    ensures { OnOk result (texts out.new ≡ texts out.old ++ values_among schema.now leaf
+    requires { IsWithin config.now spot.now.here }
+    ensures { OnOk result (texts out.new ≡ texts out.old ++ values_among children.now leaf
         (place_here config.now spot.now.steps spot.now.here
-        ∷ places_under schema.now (place_here config.now spot.now.steps spot.now.here) number)) }
+        ∷ places_under children.now (place_here config.now spot.now.steps spot.now.here) number)) }
 {
     let alloc = out.alloc();
-    out.append(values_at(alloc, schema, config, spot, leaf)?)?;
-    add_below(out, schema, config, spot, leaf, number)?;
+    out.append(values_at(alloc, children, config, spot, leaf)?)?;
+    add_below(out, children, config, spot, leaf, number)?;
     Ok(())
 }
 
@@ -81,48 +82,43 @@ fn add_values<'a>(
 #[cycle(values)]
 fn add_below<'a>(
     out: &mut Many<&'a Text>,
-    schema: &'a Schema,
+    children: &Children<'a>,
     config: &'a Config,
     spot: &Spot,
     leaf: u32,
     number: u32,
 ) -> Result<(), Memory>
-    requires within { IsWithin config.now spot.now.here }
-    requires known { number ≤ length schema.now.nodes }
-    ensures { OnOk result (texts out.new ≡ texts out.old ++ values_among schema.now leaf
-        (places_under schema.now (place_here config.now spot.now.steps spot.now.here) number)) }
+    requires { IsWithin config.now spot.now.here }
+    ensures { OnOk result (texts out.new ≡ texts out.old ++ values_among children.now leaf
+        (places_under children.now (place_here config.now spot.now.steps spot.now.here) number)) }
 {
-    for at in number..schema.nodes() {
-        add_child(out, schema, config, spot, leaf, at)?;
+    for child in children.in_parent(node_there(spot.steps.as_slice())) {
+        if *child < number {
+            continue;
+        }
+        add_child(out, children, config, spot, leaf, *child)?;
     }
     Ok(())
 }
 
-/// Adds those in the places of a data node, where it stands in the place, and below them.
+/// Adds those in the places of a data node that stands in the place, and below them.
 #[cycle(values)]
 fn add_child<'a>(
     out: &mut Many<&'a Text>,
-    schema: &'a Schema,
+    children: &Children<'a>,
     config: &'a Config,
     spot: &Spot,
     leaf: u32,
     number: u32,
 ) -> Result<(), Memory>
-    requires within { IsWithin config.now spot.now.here }
-    requires known { number < length schema.now.nodes }
-    requires few { number + 1 < 2 ^ 32 }
-    ensures { OnOk result (texts out.new ++ values_among schema.now leaf
-        (places_under schema.now (place_here config.now spot.now.steps spot.now.here) (number + 1))
-        ≡ texts out.old ++ values_among schema.now leaf
-        (places_under schema.now (place_here config.now spot.now.steps spot.now.here) number)) }
+    requires { IsWithin config.now spot.now.here }
+    ensures { OnOk result (texts out.new ≡ texts out.old ++ values_among children.now leaf
+        (places_at children.now (place_here config.now spot.now.steps spot.now.here) number)) }
 {
-    let Some(node) = schema.node(number) else {
+    let Some(node) = children.node(number) else {
         return Ok(());
     };
-    if !is_same_number(node.parent, node_there(spot.steps.as_slice())) {
-        return Ok(());
-    }
-    add_parts(out, schema, config, spot, leaf, (number, node))?;
+    add_parts(out, children, config, spot, leaf, (number, node))?;
     Ok(())
 }
 
@@ -130,20 +126,21 @@ fn add_child<'a>(
 #[cycle(values)]
 fn add_parts<'a>(
     out: &mut Many<&'a Text>,
-    schema: &'a Schema,
+    children: &Children<'a>,
     config: &'a Config,
     spot: &Spot,
     leaf: u32,
     child: (u32, &Node),
 ) -> Result<(), Memory>
     requires within { IsWithin config.now spot.now.here }
-    requires known { child.0 < length schema.now.nodes }
+    requires known { child.0 < length children.now.nodes }
     requires few { child.0 + 1 < 2 ^ 32 }
-    ensures { OnOk result (texts out.new ≡ texts out.old ++ values_among schema.now leaf
-        (places_with schema.now (place_here config.now spot.now.steps spot.now.here) child.entry.0 child.entry.1.now
+    ensures { OnOk result (texts out.new ≡ texts out.old ++ values_among children.now leaf
+        (places_with children.now (place_here config.now spot.now.steps spot.now.here) child.entry.0 child.entry.1.now
         (places.place_parts (place_here config.now spot.now.steps spot.now.here) child.entry.0 child.entry.1.now.kind))) }
 {
     let alloc = out.alloc();
+    let schema = children.schema();
     let (number, node) = child;
     if !has_places(node.kind) {
         return Ok(());
@@ -160,7 +157,7 @@ fn add_parts<'a>(
             steps: steps_below(steps, alloc, step)?,
             here: below,
         };
-        add_values(out, schema, config, &spot, leaf, number + 1)?;
+        add_values(out, children, config, &spot, leaf, number + 1)?;
         return Ok(());
     }
     let depth = steps.len();
@@ -174,7 +171,7 @@ fn add_parts<'a>(
                     steps: steps_below(steps, alloc, copied_step(step)?)?,
                     here: below,
                 };
-                add_values(out, schema, config, &spot, leaf, number + 1)?;
+                add_values(out, children, config, &spot, leaf, number + 1)?;
             }
         }
         at = end;
@@ -186,16 +183,16 @@ fn add_parts<'a>(
 /// to the next and keeps the steps to the one in which it is.
 pub fn values_below<'a>(
     alloc: Global,
-    schema: &'a Schema,
+    children: &Children<'a>,
     config: &'a Config,
     spot: &Spot,
     number: u32,
 ) -> Result<Many<&'a Text>, Memory>
     requires { IsWithin config.now spot.now.here }
     ensures { IfOk result (λ it. map (λ text. text.now) it
-        ≡ uses.values_below schema.now (place_here config.now spot.now.steps spot.now.here) number) }
+        ≡ uses.values_below children.now (place_here config.now spot.now.steps spot.now.here) number) }
 {
     let mut out = Many::new(alloc);
-    add_values(&mut out, schema, config, spot, number, 0)?;
+    add_values(&mut out, children, config, spot, number, 0)?;
     Ok(out)
 }

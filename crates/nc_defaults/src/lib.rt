@@ -3,11 +3,14 @@
 //! `nc_tree`.
 //!
 //! `in_use` gives the value in use at a leaf or leaf-list entry: the one that stands, or the default
-//! where none stands and it is in use. It takes no memory. `places_from` lists a place and all below it.
+//! where none stands and it is in use. It takes no memory. `places_from` lists a place and all below it,
+//! and `values_below` the values in use of a leaf there; both take the `Children` of the schema, which
+//! are found once.
 #![tactic(auto)]
 
 mod below;
 mod cases;
+mod children;
 mod here;
 mod parts;
 mod spots;
@@ -16,6 +19,7 @@ mod values;
 
 pub use below::values_below;
 pub use cases::{all_chosen, is_chosen, is_made};
+pub use children::Children;
 pub use here::{Here, place_below, place_of, top};
 pub use parts::{count_parts, count_up_to, next_of, row_of, run_end};
 pub use spots::{

@@ -1,16 +1,17 @@
 //! All places of a configuration, in document order.
-ghost use Rattle.std.specs.Prelude.{◌≡◌, ◌+◌, ◌^◌, ◌<◌, ◌≤◌, ◌++◌, ◌∷◌, [], None, length, option_map, IfOk, OnOk};
+ghost use Rattle.std.specs.Prelude.{◌≡◌, ◌+◌, ◌^◌, ◌<◌, ◌++◌, ◌∷◌, [], None, length, option_map, IfOk, OnOk};
 ghost use Rattle.std.specs.List.{last_or};
 ghost use Rattle.nc_schema.specs.Children.{is_same_number};
 ghost use Rattle.nc_schema.specs.Kinds as kinds;
 ghost use Rattle.nc_schema.specs.Places as places;
 ghost use Rattle.nc_defaults.specs.Within.{AreWithin, IsWithin, place_here, places_in};
-ghost use Rattle.nc_defaults.specs.inner.Walks.{places_under, places_with};
+ghost use Rattle.nc_defaults.specs.inner.Walks.{places_at, places_under, places_with};
 
+use crate::children::Children;
 use crate::here::{Here, place_of};
 use crate::parts::{count_parts, next_of, run_end};
 use nc_names::{Copies, Many, Memory, Step};
-use nc_schema::{Kind, Node, Schema};
+use nc_schema::{Kind, Node};
 use nc_tree::Config;
 use std::alloc::Global;
 
@@ -95,73 +96,68 @@ pub(crate) fn is_plain(kind: Kind) -> bool
 #[cycle(spots)]
 fn add_place(
     out: &mut Many<Spot>,
-    schema: &Schema,
+    children: &Children<'_>,
     config: &Config,
     spot: Spot,
     number: u32,
 ) -> Result<(), Memory>
-    requires within { IsWithin config.now spot.here }
-    requires known { number ≤ length schema.now.nodes }
+    requires { IsWithin config.now spot.here }
     ensures places { OnOk result (places_in config.now out.new ≡ places_in config.now out.old
         ++ place_here config.now spot.steps spot.here
-        ∷ places_under schema.now (place_here config.now spot.steps spot.here) number) }
+        ∷ places_under children.now (place_here config.now spot.steps spot.here) number) }
     ensures within { AreWithin config.now out.old → AreWithin config.now out.new }
 {
     let steps = spot.steps.copy()?;
     let here = spot.here;
     out.push(spot)?;
-    add_below(out, schema, config, steps.as_slice(), here, number)?;
+    add_below(out, children, config, steps.as_slice(), here, number)?;
     Ok(())
 }
 
-/// Adds the places below one of the data nodes from a number on.
+/// Adds the places below one, of the data nodes from a number on. A data node has a higher number than the
+/// one in which it stands, so that the walk looks at no more than those that it adds.
 #[cycle(spots)]
 fn add_below(
     out: &mut Many<Spot>,
-    schema: &Schema,
+    children: &Children<'_>,
     config: &Config,
     steps: &[Step],
     here: Here,
     number: u32,
 ) -> Result<(), Memory>
-    requires within { IsWithin config.now here }
-    requires known { number ≤ length schema.now.nodes }
+    requires { IsWithin config.now here }
     ensures places { OnOk result (places_in config.now out.new ≡ places_in config.now out.old
-        ++ places_under schema.now (place_here config.now steps.now here) number) }
+        ++ places_under children.now (place_here config.now steps.now here) number) }
     ensures within { AreWithin config.now out.old → AreWithin config.now out.new }
 {
-    for at in number..schema.nodes() {
-        add_child(out, schema, config, steps, here, at)?;
+    for child in children.in_parent(node_there(steps)) {
+        if *child < number {
+            continue;
+        }
+        add_child(out, children, config, steps, here, *child)?;
     }
     Ok(())
 }
 
-/// Adds the places of a data node, with those below them, where it stands in the place.
+/// Adds the places of a data node that stands in the place, with those below them.
 #[cycle(spots)]
 fn add_child(
     out: &mut Many<Spot>,
-    schema: &Schema,
+    children: &Children<'_>,
     config: &Config,
     steps: &[Step],
     here: Here,
     number: u32,
 ) -> Result<(), Memory>
-    requires within { IsWithin config.now here }
-    requires known { number < length schema.now.nodes }
-    requires few { number + 1 < 2 ^ 32 }
-    ensures places { OnOk result (places_in config.now out.new
-        ++ places_under schema.now (place_here config.now steps.now here) (number + 1)
-        ≡ places_in config.now out.old
-        ++ places_under schema.now (place_here config.now steps.now here) number) }
+    requires { IsWithin config.now here }
+    ensures places { OnOk result (places_in config.now out.new ≡ places_in config.now out.old
+        ++ places_at children.now (place_here config.now steps.now here) number) }
     ensures within { AreWithin config.now out.old → AreWithin config.now out.new }
 {
-    let Some(node) = schema.node(number) else {
+    let Some(node) = children.node(number) else {
         return Ok(());
     };
-    if !is_same_number(node.parent, node_there(steps)) {
-        return Ok(());
-    }
-    add_parts(out, schema, config, steps, here, (number, node))?;
+    add_parts(out, children, config, steps, here, (number, node))?;
     Ok(())
 }
 
@@ -169,21 +165,22 @@ fn add_child(
 #[cycle(spots)]
 fn add_parts(
     out: &mut Many<Spot>,
-    schema: &Schema,
+    children: &Children<'_>,
     config: &Config,
     steps: &[Step],
     here: Here,
     child: (u32, &Node),
 ) -> Result<(), Memory>
     requires within { IsWithin config.now here }
-    requires known { child.0 < length schema.now.nodes }
+    requires known { child.0 < length children.now.nodes }
     requires few { child.0 + 1 < 2 ^ 32 }
     ensures places { OnOk result (places_in config.now out.new ≡ places_in config.now out.old
-        ++ places_with schema.now (place_here config.now steps.now here) child.entry.0 child.entry.1.now
+        ++ places_with children.now (place_here config.now steps.now here) child.entry.0 child.entry.1.now
         (places.place_parts (place_here config.now steps.now here) child.entry.0 child.entry.1.now.kind)) }
     ensures within { AreWithin config.now out.old → AreWithin config.now out.new }
 {
     let alloc = out.alloc();
+    let schema = children.schema();
     let (number, node) = child;
     if !has_places(node.kind) {
         return Ok(());
@@ -198,7 +195,7 @@ fn add_parts(
             steps: steps_below(steps, alloc, step)?,
             here: below,
         };
-        add_place(out, schema, config, spot, number + 1)?;
+        add_place(out, children, config, spot, number + 1)?;
         return Ok(());
     }
     let depth = steps.len();
@@ -212,7 +209,7 @@ fn add_parts(
                     steps: steps_below(steps, alloc, copied_step(step)?)?,
                     here: below,
                 };
-                add_place(out, schema, config, spot, number + 1)?;
+                add_place(out, children, config, spot, number + 1)?;
             }
         }
         at = end;
@@ -223,14 +220,14 @@ fn add_parts(
 /// A place and all below it, in document order.
 pub fn places_from(
     alloc: Global,
-    schema: &Schema,
+    children: &Children<'_>,
     config: &Config,
     steps: &[Step],
     here: Here,
 ) -> Result<Many<Spot>, Memory>
     requires { IsWithin config.now here }
     ensures places { IfOk result (λ it. places_in config.now it
-        ≡ places.places_from schema.now (place_here config.now steps.now here)) }
+        ≡ places.places_from children.now (place_here config.now steps.now here)) }
     ensures within { IfOk result (AreWithin config.now) }
 {
     let mut own = Many::new(alloc);
@@ -238,6 +235,6 @@ pub fn places_from(
         own.push(step.copy()?)?;
     }
     let mut out = Many::new(alloc);
-    add_place(&mut out, schema, config, Spot { steps: own, here }, 0)?;
+    add_place(&mut out, children, config, Spot { steps: own, here }, 0)?;
     Ok(out)
 }

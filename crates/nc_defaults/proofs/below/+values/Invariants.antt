@@ -1,37 +1,37 @@
-use Rattle.std.proofs.Common.{◌≡◌, ◌≤◌, ◌+◌, ◌-◌, ◌*◌, ◌++◌, length}
+use Rattle.std.proofs.Common.{◌≡◌, ◌≤◌, ◌+◌, ◌-◌, ◌*◌, ◌++◌, drop, length}
 use Rattle.std.specs.List.{filter}
 use Rattle.nc_schema.specs.Places.{is_of, parts}
 use Rattle.nc_defaults.specs.Within.{place_here, rows_between}
 use Rattle.nc_defaults.specs.inner.Below.{texts, values_among}
-use Rattle.nc_defaults.specs.inner.Walks.{places_under, places_with}
+use Rattle.nc_defaults.specs.inner.Walks.{places_at_all, places_with}
 use Rattle.nc_defaults.proofs.below.+values.Given as goal
 
 abbrev pub decreases-add_below : goal.decreases-add_below
-decreases-add_below l = 4 * (length l.schema.now.nodes - l.number) + 2
+decreases-add_below l = 4 * (length l.children.now.nodes - l.number) + 2
 
 abbrev pub decreases-add_child : goal.decreases-add_child
-decreases-add_child l = 4 * (length l.schema.now.nodes - l.number) + 1
+decreases-add_child l = 4 * (length l.children.now.nodes - l.number) + 1
 
 abbrev pub decreases-add_parts : goal.decreases-add_parts
-decreases-add_parts l = 4 * (length l.schema.now.nodes - l.child.0)
+decreases-add_parts l = 4 * (length l.children.now.nodes - l.child.0)
 
 abbrev pub decreases-add_values : goal.decreases-add_values
-decreases-add_values l = 4 * (length l.schema.now.nodes - l.number) + 3
+decreases-add_values l = 4 * (length l.children.now.nodes - l.number) + 3
 
-abbrev pub invariant-add_below-loop-at : goal.invariant-add_below-loop-at
-invariant-add_below-loop-at l =
-    texts l.out ++ values_among l.schema l.leaf (places_under l.schema (place_here l.config l.spot.steps l.spot.here) l.at)
-    ≡ texts l.initial.out ++ values_among l.schema l.leaf (places_under l.schema (place_here l.config l.spot.steps l.spot.here) l.number)
+abbrev pub invariant-add_below-loop-child : goal.invariant-add_below-loop-child
+invariant-add_below-loop-child l =
+    texts l.out ++ values_among l.children l.leaf (places_at_all l.children (place_here l.config l.spot.steps l.spot.here) l.number (drop l.child-index l.child-items))
+    ≡ texts l.initial.out ++ values_among l.children l.leaf (places_at_all l.children (place_here l.config l.spot.steps l.spot.here) l.number l.child-items)
 
 abbrev pub invariant-add_parts-part : goal.invariant-add_parts-part
 invariant-add_parts-part l = record {
   after : l.here.from ≤ l.at;
   end : l.at ≤ l.here.to;
   values : texts l.out
-      ++ values_among l.schema l.leaf (places_with l.schema (place_here l.config l.spot.steps l.spot.here) l.number l.node
+      ++ values_among l.children l.leaf (places_with l.children (place_here l.config l.spot.steps l.spot.here) l.number l.node
       (filter (is_of l.number) (parts (length l.steps) (rows_between l.config l.at l.here.to))))
       ≡ texts l.initial.out
-      ++ values_among l.schema l.leaf (places_with l.schema (place_here l.config l.spot.steps l.spot.here) l.number l.node
+      ++ values_among l.children l.leaf (places_with l.children (place_here l.config l.spot.steps l.spot.here) l.number l.node
       (filter (is_of l.number) (parts (length l.steps) (rows_between l.config l.here.from l.here.to))));
 }
 

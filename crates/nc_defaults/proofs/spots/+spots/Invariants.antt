@@ -1,26 +1,26 @@
-use Rattle.std.proofs.Common.{◌≡◌, ◌≤◌, ◌+◌, ◌-◌, ◌*◌, ◌++◌, length}
+use Rattle.std.proofs.Common.{◌≡◌, ◌≤◌, ◌+◌, ◌-◌, ◌*◌, ◌++◌, drop, length}
 use Rattle.std.specs.List.{filter}
 use Rattle.nc_schema.specs.Places.{is_of, parts}
 use Rattle.nc_defaults.specs.Within.{AreWithin, place_here, places_in, rows_between}
-use Rattle.nc_defaults.specs.inner.Walks.{places_under, places_with}
+use Rattle.nc_defaults.specs.inner.Walks.{places_at_all, places_with}
 use Rattle.nc_defaults.proofs.spots.+spots.Given as goal
 
 abbrev pub decreases-add_below : goal.decreases-add_below
-decreases-add_below l = 4 * (length l.schema.now.nodes - l.number) + 2
+decreases-add_below l = 4 * (length l.children.now.nodes - l.number) + 2
 
 abbrev pub decreases-add_child : goal.decreases-add_child
-decreases-add_child l = 4 * (length l.schema.now.nodes - l.number) + 1
+decreases-add_child l = 4 * (length l.children.now.nodes - l.number) + 1
 
 abbrev pub decreases-add_parts : goal.decreases-add_parts
-decreases-add_parts l = 4 * (length l.schema.now.nodes - l.child.0)
+decreases-add_parts l = 4 * (length l.children.now.nodes - l.child.0)
 
 abbrev pub decreases-add_place : goal.decreases-add_place
-decreases-add_place l = 4 * (length l.schema.now.nodes - l.number) + 3
+decreases-add_place l = 4 * (length l.children.now.nodes - l.number) + 3
 
-abbrev pub invariant-add_below-loop-at : goal.invariant-add_below-loop-at
-invariant-add_below-loop-at l = record {
-  places : places_in l.config l.out ++ places_under l.schema (place_here l.config l.steps l.here) l.at
-      ≡ places_in l.config l.initial.out ++ places_under l.schema (place_here l.config l.steps l.here) l.number;
+abbrev pub invariant-add_below-loop-child : goal.invariant-add_below-loop-child
+invariant-add_below-loop-child l = record {
+  places : places_in l.config l.out ++ places_at_all l.children (place_here l.config l.steps l.here) l.number (drop l.child-index l.child-items)
+      ≡ places_in l.config l.initial.out ++ places_at_all l.children (place_here l.config l.steps l.here) l.number l.child-items;
   within : AreWithin l.config l.initial.out → AreWithin l.config l.out;
 }
 
@@ -29,9 +29,9 @@ invariant-add_parts-part l = record {
   after : l.here.from ≤ l.at;
   end : l.at ≤ l.here.to;
   places : places_in l.config l.out
-      ++ places_with l.schema (place_here l.config l.steps l.here) l.number l.node (filter (is_of l.number) (parts (length l.steps) (rows_between l.config l.at l.here.to)))
+      ++ places_with l.children (place_here l.config l.steps l.here) l.number l.node (filter (is_of l.number) (parts (length l.steps) (rows_between l.config l.at l.here.to)))
       ≡ places_in l.config l.initial.out
-      ++ places_with l.schema (place_here l.config l.steps l.here) l.number l.node (filter (is_of l.number) (parts (length l.steps) (rows_between l.config l.here.from l.here.to)));
+      ++ places_with l.children (place_here l.config l.steps l.here) l.number l.node (filter (is_of l.number) (parts (length l.steps) (rows_between l.config l.here.from l.here.to)));
   within : AreWithin l.config l.initial.out → AreWithin l.config l.out;
 }
 

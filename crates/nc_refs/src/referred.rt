@@ -7,7 +7,7 @@ ghost use Rattle.nc_refs.specs.inner.Referred.{HasValues, IsKnown};
 ghost use Rattle.nc_refs.specs.inner.Trails.{IsTrail};
 
 use crate::trail::Trail;
-use nc_defaults::{Spot, values_below};
+use nc_defaults::{Children, Spot, values_below};
 use nc_names::{Copies, Many, Memory, Step, Text, same_steps};
 use nc_schema::Schema;
 use nc_tree::Config;
@@ -22,11 +22,12 @@ pub(crate) struct Referred<'a> {
     pub(crate) values: BTreeSet<&'a Text>,
 }
 
-/// What was found in a configuration: places, and of each leafref the values of its target below the place at which
-/// its path turned down last.
+/// What was found in a configuration: places, the children of each data node, once a walk was needed, and
+/// of each leafref the values of its target below the place at which its path turned down last.
 #[derive(Drop)]
 pub(crate) struct Known<'a> {
     pub(crate) trail: Trail<'a>,
+    pub(crate) children: Option<Children<'a>>,
     pub(crate) referred: BTreeMap<u32, Referred<'a>>,
 }
 
@@ -82,16 +83,33 @@ fn values_of<'a>(alloc: Global, values: &[&'a Text]) -> Result<BTreeSet<&'a Text
     Ok(found)
 }
 
+// The children of each data node, which are found once.
+fn with_children<'a>(
+    alloc: Global,
+    schema: &'a Schema,
+    children: Option<Children<'a>>,
+) -> Result<Children<'a>, Memory>
+    requires { IfSome children (λ children. children ≡ schema.now) }
+    ensures { IfOk result (λ it. it ≡ schema.now) }
+{
+    match children {
+        Some(children) => Ok(children),
+        None => Children::of(alloc, schema),
+    }
+}
+
 // The values in use of a leaf below the place to which steps lead.
 fn values_referred<'a>(
     alloc: Global,
     schema: &'a Schema,
+    children: &Children<'a>,
     config: &'a Config,
     trail: Trail<'a>,
     turning: &'a [Step],
     target: u32,
 ) -> Result<(Trail<'a>, BTreeSet<&'a Text>), Memory>
-    requires { IsTrail schema.now config.now trail }
+    requires children { children.now ≡ schema.now }
+    requires trail { IsTrail schema.now config.now trail }
     ensures trail { IfOk result (λ it. IsTrail schema.now config.now it.0) }
     ensures values { IfOk result (λ it. HasValues it.1 (violations.values_referred schema.now config.now turning.now target)) }
 {
@@ -103,7 +121,7 @@ fn values_referred<'a>(
         steps: copy_steps(alloc, turning)?,
         here,
     };
-    let values = values_below(alloc, schema, config, &spot, target)?;
+    let values = values_below(alloc, children, config, &spot, target)?;
     Ok((trail, values_of(alloc, values.as_slice())?))
 }
 
@@ -125,6 +143,7 @@ impl<'a> Known<'a> {
     {
         Known {
             trail: Trail::new(alloc),
+            children: None,
             referred: BTreeMap::new(alloc),
         }
     }
@@ -162,9 +181,13 @@ impl<'a> Known<'a> {
         }
         let Known {
             trail,
+            children,
             mut referred,
         } = self;
-        let (trail, values) = values_referred(alloc, schema, config, trail, turning, target)?;
+        let children = with_children(alloc, schema, children)?;
+        let (trail, values) = values_referred(
+            alloc, schema, &children, config, trail, turning, target,
+        )?;
         let has = values.contains(&text);
         let found = Referred {
             turning,
@@ -172,6 +195,14 @@ impl<'a> Known<'a> {
             values,
         };
         referred.insert(leaf, found)?;
-        Ok((Known { trail, referred }, has))
+        let children = Some(children);
+        Ok((
+            Known {
+                trail,
+                children,
+                referred,
+            },
+            has,
+        ))
     }
 }

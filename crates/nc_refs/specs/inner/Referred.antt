@@ -26,4 +26,5 @@ AreReferred tables rows referred = HasValues referred.values (values_referred ta
 -- what is known holds
 pub record IsKnown (tables : Tables) (rows : List Row) (known : Known) : Type 0 where
   pub trail : IsTrail tables rows known.trail
+  pub children : IfSome known.children (λ children. children ≡ tables)
   pub referred : (leaf : ℕ) → IfSome (get nat_cmp known.referred leaf) (AreReferred tables rows)

@@ -1,7 +1,7 @@
 -- The violations of a place, one data node and one choice after another.
-use Rattle.std.proofs.Common.{◌≡◌, ◌==◌, ◌&&◌, ◌||◌, ◌++◌, ◌+◌, ◌<◌, ℕ, zero, suc, Bool, true, false, List, [], ◌∷◌, length, drop, take, refl, sym, ap, ◌∙◌, arith, if◌then◌else◌}
+use Rattle.std.proofs.Common.{◌≡◌, ◌==◌, ◌&&◌, ◌||◌, ◌++◌, ◌+◌, ℕ, zero, suc, Bool, true, false, List, [], ◌∷◌, length, drop, refl, sym, ap, ◌∙◌, arith, if◌then◌else◌}
 use Rattle.std.specs.Prelude.{Option, Some, None, slice_get, is_some, map, ltb}
-use Rattle.std.specs.List.{enumerate_from, flat_map, list_any}
+use Rattle.std.specs.List.{flat_map}
 use Rattle.std.specs.Option.{option_map_or}
 use Rattle.std.proofs.lemmas.Bool.Decides.{nat_tests}
 use Rattle.std.proofs.lemmas.List.Folds.{flat_map-map}
@@ -11,22 +11,20 @@ use Rattle.nc_defaults.specs.declared.spots.Spot.{Spot}
 use Rattle.nc_names.specs.declared.cause.CauseKind.{CauseKind}
 use Rattle.nc_names.specs.declared.cause.CauseKind.TheVariants.{Mandatory, MandatoryChoice, TooFew, TooMany}
 use Rattle.nc_names.specs.declared.path.Step.{Step}
-use Rattle.nc_schema.specs.Children.{is_same_number}
 use Rattle.nc_schema.specs.Kinds.{has_entries, holds_nodes, is_leaf}
-use Rattle.nc_schema.specs.Places.{Part, Place, node_there, or_empty, parts_of, place_of, place_parts, places_from, places_of, top_place}
+use Rattle.nc_schema.specs.Places.{Part, Place, or_empty, parts_of, place_of, place_parts, places_from, places_of, top_place}
 use Rattle.nc_schema.specs.Tables.{Tables}
-use Rattle.nc_schema.specs.Violations.{bare_violations, child_violations, choice_violations, is_choice_before, is_required, structural_violations, unique_violations, violated, violations_at}
+use Rattle.nc_schema.specs.Violations.{child_violations, choice_violations, is_choice_before, is_required, structural_violations, unique_violations, violated, violations_at}
 use Rattle.nc_schema.specs.declared.node.Case.{Case}
-use Rattle.nc_schema.specs.declared.node.Choice.{Choice}
 use Rattle.nc_schema.specs.declared.node.Kind.{Kind}
 use Rattle.nc_schema.specs.declared.node.Kind.TheVariants.{Container, Leaf, LeafList, List as ListKind}
 use Rattle.nc_schema.specs.declared.node.Node.{Node}
 use Rattle.nc_schema.specs.declared.violation.Violation.{Violation}
-use Rattle.nc_validate.specs.inner.Children.{bare_at, bare_from, begun_choices, begun_violations, choice_lacks, count_fault, count_violations, node_at, nodes_from, uniques_of}
-use Rattle.nc_validate.specs.inner.First.{first, or_next}
-use Rattle.nc_validate.proofs.FirstLemmas.{first_append, first_get, flat_filter}
+use Rattle.nc_validate.specs.inner.Children.{begun_choices, begun_violations, choice_lacks, count_fault, count_violations, uniques_of}
+use Rattle.nc_validate.specs.inner.First.{first}
+use Rattle.nc_validate.proofs.FirstLemmas.{first_get, flat_filter}
 
-cut_at : {X : Type 0} (xs : List X) (at : ℕ) (x : X) → slice_get xs at ≡ Some x → drop at xs ≡ x ∷ drop (at + 1) xs
+pub cut_at : {X : Type 0} (xs : List X) (at : ℕ) (x : X) → slice_get xs at ≡ Some x → drop at xs ≡ x ∷ drop (at + 1) xs
 cut_at [] at x found = absurd (let clash = found in cc)
 cut_at (n ∷ xs) zero x found = cc
 cut_at (n ∷ xs) (suc at) x found =
@@ -39,50 +37,7 @@ none_left [] (suc at) none = refl
 none_left (x ∷ xs) zero none = absurd (let clash = none in cc)
 none_left (x ∷ xs) (suc at) none = none_left xs at none
 
--- ---- one data node more
-pub node_here : (tables : Tables) (place : Place) (number : ℕ) (node : Node) (o : Option Violation) → slice_get tables.nodes number ≡ Some node →
-    is_same_number node.parent (node_there place) ≡ true → o ≡ first (child_violations tables place number node) →
-    first (nodes_from tables place number) ≡ or_next o (first (nodes_from tables place (number + 1)))
-node_here tables place number node o found same is =
-    ap (λ nodes. first (flat_map (node_at tables place) (enumerate_from number nodes))) (cut_at tables.nodes number node found)
-    ∙ first_append (node_at tables place (number, node)) (nodes_from tables place (number + 1))
-    ∙ ap (λ b. or_next (first (if b then child_violations tables place number node else [])) (first (nodes_from tables place (number + 1)))) same
-    ∙ ap (λ p. or_next p (first (nodes_from tables place (number + 1)))) (sym is)
-
-pub node_elsewhere : (tables : Tables) (place : Place) (number : ℕ) (node : Node) → slice_get tables.nodes number ≡ Some node →
-    is_same_number node.parent (node_there place) ≡ false →
-    first (nodes_from tables place number) ≡ first (nodes_from tables place (number + 1))
-node_elsewhere tables place number node found differs =
-    ap (λ nodes. first (flat_map (node_at tables place) (enumerate_from number nodes))) (cut_at tables.nodes number node found)
-    ∙ ap (λ b. first ((if b then child_violations tables place number node else []) ++ nodes_from tables place (number + 1))) differs
-
-pub no_node_left : (tables : Tables) (place : Place) (number : ℕ) → slice_get tables.nodes number ≡ None → first (nodes_from tables place number) ≡ None
-no_node_left tables place number none =
-    ap (λ nodes. first (flat_map (node_at tables place) (enumerate_from number nodes))) (none_left tables.nodes number none)
-
--- ---- one choice more
-pub choice_here : (tables : Tables) (place : Place) (number count : ℕ) (choice : Choice) (o : Option Violation) → slice_get tables.choices number ≡ Some choice →
-    is_same_number choice.parent (node_there place) ≡ true → count ≡ length tables.nodes → o ≡ first (begun_violations tables place count number) →
-    first (bare_from tables place number) ≡ or_next o (first (bare_from tables place (number + 1)))
-choice_here tables place number count choice o found same all is =
-    ap (λ choices. first (flat_map (bare_at tables place) (enumerate_from number choices))) (cut_at tables.choices number choice found)
-    ∙ first_append (bare_at tables place (number, choice)) (bare_from tables place (number + 1))
-    ∙ ap (λ b. or_next (first (if b then bare_violations tables place number else [])) (first (bare_from tables place (number + 1)))) same
-    ∙ ap (λ n. or_next (first (begun_violations tables place n number)) (first (bare_from tables place (number + 1)))) (sym all)
-    ∙ ap (λ p. or_next p (first (bare_from tables place (number + 1)))) (sym is)
-
-pub choice_elsewhere : (tables : Tables) (place : Place) (number : ℕ) (choice : Choice) → slice_get tables.choices number ≡ Some choice →
-    is_same_number choice.parent (node_there place) ≡ false →
-    first (bare_from tables place number) ≡ first (bare_from tables place (number + 1))
-choice_elsewhere tables place number choice found differs =
-    ap (λ choices. first (flat_map (bare_at tables place) (enumerate_from number choices))) (cut_at tables.choices number choice found)
-    ∙ ap (λ b. first ((if b then bare_violations tables place number else []) ++ bare_from tables place (number + 1))) differs
-
-pub no_choice_left : (tables : Tables) (place : Place) (number : ℕ) → slice_get tables.choices number ≡ None → first (bare_from tables place number) ≡ None
-no_choice_left tables place number none =
-    ap (λ choices. first (flat_map (bare_at tables place) (enumerate_from number choices))) (none_left tables.choices number none)
-
-none_later : {X : Type 0} (xs : List X) (at : ℕ) → slice_get xs at ≡ None → drop (at + 1) xs ≡ []
+pub none_later : {X : Type 0} (xs : List X) (at : ℕ) → slice_get xs at ≡ None → drop (at + 1) xs ≡ []
 none_later {X = X} xs at none = ap (λ n. drop n xs) next ∙ go xs at none
   where
     next : at + 1 ≡ suc at
@@ -92,18 +47,6 @@ none_later {X = X} xs at none = ap (λ n. drop n xs) next ∙ go xs at none
     go [] at none = refl
     go (x ∷ xs) zero none = absurd (let clash = none in cc)
     go (x ∷ xs) (suc at) none = go xs at none
-
-pub past_choices : (tables : Tables) (place : Place) (number : ℕ) → slice_get tables.choices number ≡ None →
-    first (bare_from tables place number) ≡ first (bare_from tables place (number + 1))
-past_choices tables place number none =
-    no_choice_left tables place number none
-    ∙ sym (ap (λ choices. first (flat_map (bare_at tables place) (enumerate_from (number + 1) choices))) (none_later tables.choices number none))
-
-pub past_nodes : (tables : Tables) (place : Place) (number : ℕ) → slice_get tables.nodes number ≡ None →
-    first (nodes_from tables place number) ≡ first (nodes_from tables place (number + 1))
-past_nodes tables place number none =
-    no_node_left tables place number none
-    ∙ sym (ap (λ nodes. first (flat_map (node_at tables place) (enumerate_from (number + 1) nodes))) (none_later tables.nodes number none))
 
 -- ---- the parts of what a data node breaks
 pub child_is : (tables : Tables) (place : Place) (number : ℕ) (node : Node) →
@@ -180,42 +123,6 @@ unbounded tables place number node free =
     by false zero None free true false count required = refl
     by false zero None free false true count required = ap (λ x. first (violated (x && required) TooFew child ++ [])) (sym (never count))
     by false zero None free false false count required = refl
-
--- ---- a test of the first so many
-or_false : (b : Bool) → (b || false) ≡ b
-or_false true = refl
-or_false false = refl
-
-or_more : (a b c : Bool) → (a || (b || c)) ≡ ((a || b) || c)
-or_more true b c = refl
-or_more false b c = refl
-
-any_take : {X : Type 0} (f : X → Bool) (xs : List X) (at : ℕ) → list_any f (take (suc at) xs) ≡ (list_any f (take at xs) || option_map_or f (slice_get xs at) false)
-any_take f [] zero = refl
-any_take f [] (suc at) = refl
-any_take f (x ∷ xs) zero = or_false (f x)
-any_take f (x ∷ xs) (suc at) = ap (λ b. f x || b) (any_take f xs at) ∙ or_more (f x) (list_any f (take at xs)) (option_map_or f (slice_get xs at) false)
-
-pub none_before : {X : Type 0} (f : X → Bool) (xs : List X) (at : ℕ) (b : Bool) → b ≡ option_map_or f (slice_get xs at) false → b ≡ false →
-    list_any f (take at xs) ≡ false → list_any f (take (at + 1) xs) ≡ false
-none_before f xs at b is fails so_far =
-    let next : at + 1 ≡ suc at = omega arith in
-    ap (λ n. list_any f (take n xs)) next ∙ any_take f xs at ∙ (λ i. so_far i || (sym is ∙ fails) i)
-
-pub one_before : {X : Type 0} (f : X → Bool) (xs : List X) (at n : ℕ) (b : Bool) → at < n → b ≡ option_map_or f (slice_get xs at) false → b ≡ true →
-    true ≡ list_any f (take n xs)
-one_before {X = X} f xs at n b less is passes = sym (go xs at n less (sym is ∙ passes))
-  where
-    or_second : (a c : Bool) → c ≡ true → (a || c) ≡ true
-    or_second true c e = refl
-    or_second false c e = e
-
-    go : (xs : List X) (at n : ℕ) → at < n → option_map_or f (slice_get xs at) false ≡ true → list_any f (take n xs) ≡ true
-    go [] zero n less e = absurd (let clash : false ≡ true = e in cc)
-    go [] (suc at) n less e = absurd (let clash : false ≡ true = e in cc)
-    go (x ∷ xs) at zero less e = absurd (omega (arith, less))
-    go (x ∷ xs) zero (suc n) less e = ap (λ b. b || list_any f (take n xs)) e
-    go (x ∷ xs) (suc at) (suc n) less e = or_second (f x) (list_any f (take n xs)) (go xs at n (omega (arith, less)) e)
 
 -- ---- all places
 pub walk_is : (tables : Tables) (rows : List Row) (spots : List Spot) (place : Place) → places_in rows spots ≡ places_from tables place → place ≡ top_place rows →

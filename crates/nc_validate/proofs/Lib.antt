@@ -1,5 +1,6 @@
 pub mod FirstLemmas
 pub mod ChildrenLemmas
+pub mod ChoiceLemmas
 pub mod TuplesLemmas
 pub mod UniqueLemmas
 pub mod CountLemmas

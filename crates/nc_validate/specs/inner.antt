@@ -1,4 +1,6 @@
 pub mod First
 pub mod Parts
 pub mod Children
+pub mod Choices
+pub mod Outlines
 pub mod Tuples

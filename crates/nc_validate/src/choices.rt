@@ -1,16 +1,16 @@
 //! Mandatory choices (RFC 7950 7.9.4).
-ghost use Rattle.std.specs.Prelude.{◌≡◌, ◌≤◌, ◌==◌, false, length, slice_get, IfOk};
-ghost use Rattle.std.specs.List.{list_any};
-ghost use Rattle.std.specs.Option.{option_map_or};
+ghost use Rattle.std.specs.Prelude.{◌≡◌, IfOk};
 ghost use Rattle.nc_schema.specs.Violations as violations;
 ghost use Rattle.nc_defaults.specs.Within.{IsWithin, place_here};
 ghost use Rattle.nc_validate.specs.inner.First.{first};
 ghost use Rattle.nc_validate.specs.inner.Children.{begun_violations, choice_lacks};
+ghost use Rattle.nc_validate.specs.inner.Outlines.{IsOutline};
 
 use crate::faults::violation;
+use crate::outline::{Outline, is_choice_before};
 use nc_defaults::{Here, all_chosen, is_made};
 use nc_names::{CauseKind, Memory, Step};
-use nc_schema::{Case, Node, Schema, Violation};
+use nc_schema::{Case, Schema, Violation};
 use nc_tree::Config;
 use std::alloc::Global;
 
@@ -43,57 +43,25 @@ fn lacks(schema: &Schema, config: &Config, steps: &[Step], here: Here, choice: u
     }
 }
 
-fn has_choice(node: &Node, choice: u32) -> bool
-    ensures { result ≡ list_any (λ one. one.choice == choice) node.now.cases }
-{
-    node.cases
-        .as_slice()
-        .iter()
-        .any(|case| case.choice == choice)
-}
-
-fn node_has_choice(schema: &Schema, number: u32, choice: u32) -> bool
-    ensures { result ≡ option_map_or (λ node. list_any (λ one. one.choice == choice) node.cases)
-        (slice_get schema.now.nodes number) false }
-{
-    match schema.node(number) {
-        Some(node) => has_choice(node, choice),
-        None => false,
-    }
-}
-
-/// Whether a data node of the choice is among the first so many.
-pub(crate) fn is_choice_before(schema: &Schema, number: u32, choice: u32) -> bool
-    requires { number ≤ length schema.now.nodes }
-    ensures { result ≡ violations.is_choice_before schema.now number choice }
-{
-    for at in 0..number {
-        if node_has_choice(schema, at, choice) {
-            return true;
-        }
-    }
-    false
-}
-
 /// The violation of a choice, unless one of the first so many data nodes is of it.
 pub(crate) fn first_of_choice(
     alloc: Global,
-    schema: &Schema,
+    outline: &Outline<'_>,
     config: &Config,
     steps: &[Step],
     here: Here,
     which: (u32, u32),
 ) -> Result<Option<Violation>, Memory>
     requires here { IsWithin config.now here }
-    requires known { which.0 ≤ length schema.now.nodes }
-    ensures { IfOk result (λ it. it
-        ≡ first (begun_violations schema.now (place_here config.now steps.now here) which.0 which.1)) }
+    requires outline { IsOutline outline.now }
+    ensures { IfOk result (λ it. it ≡ first (begun_violations outline.now.schema.now
+        (place_here config.now steps.now here) which.0 which.1)) }
 {
     let (number, choice) = which;
-    if !lacks(schema, config, steps, here, choice) {
+    if !lacks(outline.schema, config, steps, here, choice) {
         return Ok(None);
     }
-    if is_choice_before(schema, number, choice) {
+    if is_choice_before(outline, number, choice) {
         return Ok(None);
     }
     Ok(Some(violation(alloc, CauseKind::MandatoryChoice, steps)?))

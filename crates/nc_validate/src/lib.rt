@@ -4,14 +4,16 @@
 //!
 //! `first_structural` gives exactly the first of the violations that the definition
 //! `structural_violations` lists, whatever the schema and the rows are. It looks at one place after
-//! another and stops at the first violation. Entries are compared by an ordered set of their
-//! values, and not one with each.
+//! another and stops at the first violation; in each it looks at the children of the place's data
+//! node, and at the choices without data nodes, which are found once. Entries are compared by an
+//! ordered set of their values, and not one with each.
 #![tactic(auto)]
 
 mod choices;
 mod counts;
 mod entries;
 mod faults;
+mod outline;
 mod structural;
 mod tuples;
 mod unique;

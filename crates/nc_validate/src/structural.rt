@@ -1,17 +1,20 @@
 //! The walk over the places of a configuration.
-ghost use Rattle.std.specs.Prelude.{◌≡◌, ◌+◌, ◌≤◌, length, slice_get, IfOk};
+ghost use Rattle.std.specs.Prelude.{◌≡◌, slice_get, IfOk};
 ghost use Rattle.nc_schema.specs.Violations as violations;
 ghost use Rattle.std.specs.List.{flat_map};
 ghost use Rattle.nc_defaults.specs.Within.{AreWithin, IsWithin, place_here, places_in};
-ghost use Rattle.nc_validate.specs.inner.First.{first, or_next};
-ghost use Rattle.nc_validate.specs.inner.Children.{bare_from, begun_choices, nodes_from, uniques_of};
+ghost use Rattle.nc_validate.specs.inner.First.{first};
+ghost use Rattle.nc_validate.specs.inner.Children.{bare_from, begun_choices, child_at, nodes_from, uniques_of};
+ghost use Rattle.nc_validate.specs.inner.Choices.{bare_of};
+ghost use Rattle.nc_validate.specs.inner.Outlines.{IsOutline};
 
 use crate::choices::first_of_choice;
 use crate::counts::first_of_counts;
 use crate::entries::entries;
 use crate::faults::is_found;
+use crate::outline::{Outline, outline_of};
 use crate::unique::first_repeated;
-use nc_defaults::{Here, Spot, has_places, is_same_number, node_there, places_from, top};
+use nc_defaults::{Children, Here, Spot, has_places, is_same_number, node_there, places_from, top};
 use nc_names::{Many, Memory, Step};
 use nc_schema::{Node, Schema, Violation};
 use nc_tree::Config;
@@ -20,20 +23,20 @@ use std::alloc::Global;
 // The first of the choices that begin at a data node.
 fn first_of_choices(
     alloc: Global,
-    schema: &Schema,
+    outline: &Outline<'_>,
     config: &Config,
     steps: &[Step],
     here: Here,
     child: (u32, &Node),
 ) -> Result<Option<Violation>, Memory>
     requires here { IsWithin config.now here }
-    requires known { child.0 ≤ length schema.now.nodes }
-    ensures { IfOk result (λ it. it ≡ first (begun_choices schema.now
+    requires outline { IsOutline outline.now }
+    ensures { IfOk result (λ it. it ≡ first (begun_choices outline.now.schema.now
         (place_here config.now steps.now here) child.entry.0 child.entry.1.now.cases)) }
 {
     let (number, node) = child;
     for case in node.cases.as_slice() {
-        let found = first_of_choice(alloc, schema, config, steps, here, (number, case.choice))?;
+        let found = first_of_choice(alloc, outline, config, steps, here, (number, case.choice))?;
         if is_found(&found) {
             return Ok(found);
         }
@@ -42,19 +45,20 @@ fn first_of_choices(
 }
 
 // The first of `unique` statements over some entries.
-fn first_of_statements(
+fn first_of_statements<'a>(
     alloc: Global,
-    schema: &Schema,
-    config: &Config,
+    children: &Children<'a>,
+    config: &'a Config,
     entries: &[Spot],
     uniques: &[Many<u32>],
 ) -> Result<Option<Violation>, Memory>
     requires { AreWithin config.now entries.now }
     ensures { IfOk result (λ it. it ≡ first
-        (flat_map (violations.unique_violations schema.now (places_in config.now entries.now)) uniques.now)) }
+        (flat_map (violations.unique_violations children.now (places_in config.now entries.now))
+        uniques.now)) }
 {
     for leafs in uniques {
-        let found = first_repeated(alloc, schema, config, entries, leafs.as_slice())?;
+        let found = first_repeated(alloc, children, config, entries, leafs.as_slice())?;
         if is_found(&found) {
             return Ok(found);
         }
@@ -63,17 +67,18 @@ fn first_of_statements(
 }
 
 // The first of the `unique` statements of a data node.
-fn first_of_uniques(
+fn first_of_uniques<'a>(
     alloc: Global,
-    schema: &Schema,
-    config: &Config,
+    outline: &Outline<'a>,
+    config: &'a Config,
     steps: &[Step],
     here: Here,
     child: (u32, &Node),
 ) -> Result<Option<Violation>, Memory>
-    requires { IsWithin config.now here }
-    ensures { IfOk result (λ it. it ≡ first
-        (uniques_of schema.now (place_here config.now steps.now here) child.entry.0 child.entry.1.now)) }
+    requires here { IsWithin config.now here }
+    requires outline { IsOutline outline.now }
+    ensures { IfOk result (λ it. it ≡ first (uniques_of outline.now.schema.now
+        (place_here config.now steps.now here) child.entry.0 child.entry.1.now)) }
 {
     let (_, node) = child;
     if node.uniques.is_empty() {
@@ -82,58 +87,61 @@ fn first_of_uniques(
     if !has_places(node.kind) {
         return Ok(None);
     }
-    let entries = entries(alloc, schema, config, steps, here, child)?;
+    let entries = entries(alloc, outline.schema, config, steps, here, child)?;
     let uniques = node.uniques.as_slice();
-    let found = first_of_statements(alloc, schema, config, entries.as_slice(), uniques)?;
+    let found = first_of_statements(
+        alloc,
+        &outline.children,
+        config,
+        entries.as_slice(),
+        uniques,
+    )?;
     Ok(found)
 }
 
 // The first violation of a data node of a place.
-fn first_of_child(
+fn first_of_child<'a>(
     alloc: Global,
-    schema: &Schema,
-    config: &Config,
+    outline: &Outline<'a>,
+    config: &'a Config,
     steps: &[Step],
     here: Here,
     child: (u32, &Node),
 ) -> Result<Option<Violation>, Memory>
     requires here { IsWithin config.now here }
-    requires known { child.0 ≤ length schema.now.nodes }
-    ensures { IfOk result (λ it. it ≡ first (violations.child_violations schema.now
+    requires outline { IsOutline outline.now }
+    ensures { IfOk result (λ it. it ≡ first (violations.child_violations outline.now.schema.now
         (place_here config.now steps.now here) child.entry.0 child.entry.1.now)) }
 {
-    let begun = first_of_choices(alloc, schema, config, steps, here, child)?;
+    let begun = first_of_choices(alloc, outline, config, steps, here, child)?;
     if is_found(&begun) {
         return Ok(begun);
     }
-    let counted = first_of_counts(alloc, schema, config, steps, here, child)?;
+    let counted = first_of_counts(alloc, outline.schema, config, steps, here, child)?;
     if is_found(&counted) {
         return Ok(counted);
     }
-    let repeated = first_of_uniques(alloc, schema, config, steps, here, child)?;
+    let repeated = first_of_uniques(alloc, outline, config, steps, here, child)?;
     Ok(repeated)
 }
 
-// The first violation of the data node of a number, where it stands in the place.
-fn first_of_node(
+// The first violation of the data node of a number, which stands in the place.
+fn first_of_node<'a>(
     alloc: Global,
-    schema: &Schema,
-    config: &Config,
+    outline: &Outline<'a>,
+    config: &'a Config,
     steps: &[Step],
     here: Here,
     number: u32,
 ) -> Result<Option<Violation>, Memory>
     requires here { IsWithin config.now here }
-    requires known { number ≤ length schema.now.nodes }
-    ensures { IfOk result (λ it. first (nodes_from schema.now (place_here config.now steps.now here) number)
-        ≡ or_next it (first (nodes_from schema.now (place_here config.now steps.now here) (number + 1)))) }
+    requires outline { IsOutline outline.now }
+    ensures { IfOk result (λ it. it ≡ first (child_at outline.now.schema.now
+        (place_here config.now steps.now here) number)) }
 {
-    match schema.node(number) {
+    match outline.schema.node(number) {
         Some(node) => {
-            if !is_same_number(node.parent, node_there(steps)) {
-                return Ok(None);
-            }
-            let found = first_of_child(alloc, schema, config, steps, here, (number, node))?;
+            let found = first_of_child(alloc, outline, config, steps, here, (number, node))?;
             Ok(found)
         }
         None => Ok(None),
@@ -141,19 +149,20 @@ fn first_of_node(
 }
 
 // The first violation of the data nodes of a place.
-fn first_of_nodes(
+fn first_of_nodes<'a>(
     alloc: Global,
-    schema: &Schema,
-    config: &Config,
+    outline: &Outline<'a>,
+    config: &'a Config,
     steps: &[Step],
     here: Here,
 ) -> Result<Option<Violation>, Memory>
-    requires { IsWithin config.now here }
-    ensures { IfOk result (λ it. it
-        ≡ first (nodes_from schema.now (place_here config.now steps.now here) 0)) }
+    requires here { IsWithin config.now here }
+    requires outline { IsOutline outline.now }
+    ensures { IfOk result (λ it. it ≡ first (nodes_from outline.now.schema.now
+        (place_here config.now steps.now here) 0)) }
 {
-    for number in 0..schema.nodes() {
-        let found = first_of_node(alloc, schema, config, steps, here, number)?;
+    for number in outline.children.in_parent(node_there(steps)) {
+        let found = first_of_node(alloc, outline, config, steps, here, *number)?;
         if is_found(&found) {
             return Ok(found);
         }
@@ -161,80 +170,94 @@ fn first_of_nodes(
     Ok(None)
 }
 
-// The violation of the choice of a number, where it stands in the place and has no data nodes.
+// The violation of the choice of a number that has no data nodes, where it stands in the place.
 fn first_of_bare(
     alloc: Global,
-    schema: &Schema,
+    outline: &Outline<'_>,
     config: &Config,
     steps: &[Step],
     here: Here,
     number: u32,
 ) -> Result<Option<Violation>, Memory>
-    requires { IsWithin config.now here }
-    ensures { IfOk result (λ it. first (bare_from schema.now (place_here config.now steps.now here) number)
-        ≡ or_next it (first (bare_from schema.now (place_here config.now steps.now here) (number + 1)))) }
+    requires here { IsWithin config.now here }
+    requires outline { IsOutline outline.now }
+    ensures { IfOk result (λ it. it ≡ first (bare_of outline.now.schema.now
+        (place_here config.now steps.now here) number)) }
 {
-    match schema.choice(number) {
+    match outline.schema.choice(number) {
         Some(choice) => {
             if !is_same_number(choice.parent, node_there(steps)) {
                 return Ok(None);
             }
-            let found = first_of_choice(
-                alloc,
-                schema,
-                config,
-                steps,
-                here,
-                (schema.nodes(), number),
-            )?;
+            let which = (outline.schema.nodes(), number);
+            let found = first_of_choice(alloc, outline, config, steps, here, which)?;
             Ok(found)
         }
         None => Ok(None),
     }
 }
 
-// The first violation of the choices of a place that have no data nodes. A schema has fewer than
-// 2^32 choices.
+// The first violation of the choices of a place that have no data nodes.
 fn first_of_bares(
     alloc: Global,
-    schema: &Schema,
+    outline: &Outline<'_>,
     config: &Config,
     steps: &[Step],
     here: Here,
 ) -> Result<Option<Violation>, Memory>
-    requires { IsWithin config.now here }
-    ensures { IfOk result (λ it. it ≡ first (bare_from schema.now (place_here config.now steps.now here) 0)) }
+    requires here { IsWithin config.now here }
+    requires outline { IsOutline outline.now }
+    ensures { IfOk result (λ it. it ≡ first (bare_from outline.now.schema.now
+        (place_here config.now steps.now here) 0)) }
 {
-    for number in 0..u32::MAX {
-        let Some(_) = schema.choice(number) else {
-            return Ok(None);
-        };
-        let found = first_of_bare(alloc, schema, config, steps, here, number)?;
+    for number in outline.bares.as_slice() {
+        let found = first_of_bare(alloc, outline, config, steps, here, *number)?;
         if is_found(&found) {
             return Ok(found);
         }
     }
-    Err(Memory)
+    Ok(None)
 }
 
 // The first violation of a place.
-fn first_at(
+fn first_at<'a>(
     alloc: Global,
-    schema: &Schema,
-    config: &Config,
+    outline: &Outline<'a>,
+    config: &'a Config,
     steps: &[Step],
     here: Here,
 ) -> Result<Option<Violation>, Memory>
-    requires { IsWithin config.now here }
-    ensures { IfOk result (λ it. it
-        ≡ first (violations.violations_at schema.now (place_here config.now steps.now here))) }
+    requires here { IsWithin config.now here }
+    requires outline { IsOutline outline.now }
+    ensures { IfOk result (λ it. it ≡ first (violations.violations_at outline.now.schema.now
+        (place_here config.now steps.now here))) }
 {
-    let found = first_of_nodes(alloc, schema, config, steps, here)?;
+    let found = first_of_nodes(alloc, outline, config, steps, here)?;
     if is_found(&found) {
         return Ok(found);
     }
-    let bare = first_of_bares(alloc, schema, config, steps, here)?;
+    let bare = first_of_bares(alloc, outline, config, steps, here)?;
     Ok(bare)
+}
+
+// The first violation of all places.
+fn first_of_places<'a>(
+    alloc: Global,
+    outline: &Outline<'a>,
+    config: &'a Config,
+) -> Result<Option<Violation>, Memory>
+    requires { IsOutline outline.now }
+    ensures { IfOk result (λ it. it
+        ≡ slice_get (violations.structural_violations outline.now.schema.now config.now) 0) }
+{
+    let spots = places_from(alloc, &outline.children, config, &[], top(config))?;
+    for spot in spots.as_slice() {
+        let found = first_at(alloc, outline, config, spot.steps.as_slice(), spot.here)?;
+        if is_found(&found) {
+            return Ok(found);
+        }
+    }
+    Ok(None)
 }
 
 /// The first constraint on which nodes stand that a configuration breaks, place by place in
@@ -246,12 +269,7 @@ pub fn first_structural(
 ) -> Result<Option<Violation>, Memory>
     ensures { IfOk result (λ it. it ≡ slice_get (violations.structural_violations schema.now config.now) 0) }
 {
-    let spots = places_from(alloc, schema, config, &[], top(config))?;
-    for spot in spots.as_slice() {
-        let found = first_at(alloc, schema, config, spot.steps.as_slice(), spot.here)?;
-        if is_found(&found) {
-            return Ok(found);
-        }
-    }
-    Ok(None)
+    let outline = outline_of(alloc, schema)?;
+    let found = first_of_places(alloc, &outline, config)?;
+    Ok(found)
 }

@@ -5,9 +5,8 @@ ghost use Rattle.std.specs.Prelude.{◌≡◌, ◌++◌, ◌∷◌, [], map, IfO
 ghost use Rattle.nc_defaults.specs.Within.{IsWithin, place_here};
 ghost use Rattle.nc_validate.specs.inner.Tuples.{all_texts, extended, texts, tuples_of};
 
-use nc_defaults::{Spot, values_below};
+use nc_defaults::{Children, Spot, values_below};
 use nc_names::{Many, Memory, Text};
-use nc_schema::Schema;
 use nc_tree::Config;
 use std::alloc::Global;
 
@@ -67,18 +66,18 @@ fn empty_tuple<'a>(alloc: Global) -> Result<Many<Many<&'a Text>>, Memory>
 /// The tuples of an entry.
 pub(crate) fn tuples_of<'a>(
     alloc: Global,
-    schema: &'a Schema,
+    children: &Children<'a>,
     config: &'a Config,
     entry: &Spot,
     leafs: &[u32],
 ) -> Result<Many<Many<&'a Text>>, Memory>
     requires { IsWithin config.now entry.now.here }
     ensures { IfOk result (λ it. all_texts it
-        ≡ tuples_of schema.now leafs.now (place_here config.now entry.now.steps entry.now.here)) }
+        ≡ tuples_of children.now leafs.now (place_here config.now entry.now.steps entry.now.here)) }
 {
     let mut out = empty_tuple(alloc)?;
     for leaf in leafs {
-        let values = values_below(alloc, schema, config, entry, *leaf)?;
+        let values = values_below(alloc, children, config, entry, *leaf)?;
         out = extended(alloc, out.as_slice(), values.as_slice())?;
     }
     Ok(out)

@@ -9,9 +9,9 @@ ghost use Rattle.nc_validate.specs.inner.Tuples.{AddsTuple, AddsTuples, order, t
 
 use crate::faults::violation;
 use crate::tuples::tuples_of;
-use nc_defaults::Spot;
+use nc_defaults::{Children, Spot};
 use nc_names::{CauseKind, Many, Memory, Text};
-use nc_schema::{Schema, Violation};
+use nc_schema::Violation;
 use nc_tree::Config;
 use std::alloc::Global;
 use std::collections::BTreeSet;
@@ -52,20 +52,20 @@ fn has_any<'a>(seen: &BTreeSet<Many<&'a Text>>, tuples: &[Many<&'a Text>]) -> bo
 }
 
 /// The first entry that agrees with one before it in the values of these leafs.
-pub(crate) fn first_repeated(
+pub(crate) fn first_repeated<'a>(
     alloc: Global,
-    schema: &Schema,
-    config: &Config,
+    children: &Children<'a>,
+    config: &'a Config,
     entries: &[Spot],
     leafs: &[u32],
 ) -> Result<Option<Violation>, Memory>
     requires { AreWithin config.now entries.now }
     ensures { IfOk result (λ it. it
-        ≡ first (violations.unique_violations schema.now (places_in config.now entries.now) leafs.now)) }
+        ≡ first (violations.unique_violations children.now (places_in config.now entries.now) leafs.now)) }
 {
     let mut seen = BTreeSet::new(alloc);
     for entry in entries {
-        let tuples = tuples_of(alloc, schema, config, entry, leafs)?;
+        let tuples = tuples_of(alloc, children, config, entry, leafs)?;
         if has_any(&seen, tuples.as_slice()) {
             return Ok(Some(violation(alloc, CauseKind::NotUnique, entry.steps.as_slice())?));
         }

@@ -23,6 +23,10 @@ node_at tables place one = if stands_in one.1.parent place then child_violations
 abbrev pub nodes_from : Tables → Place → ℕ → List Violation
 nodes_from tables place number = flat_map (node_at tables place) (enumerate_from number (drop number tables.nodes))
 
+-- those of the data node of a number, in a place where it stands
+abbrev pub child_at : Tables → Place → ℕ → List Violation
+child_at tables place number = option_map_or (child_violations tables place number) (slice_get tables.nodes number) []
+
 -- those of the choices without data nodes, from a number on
 abbrev pub bare_at : Tables → Place → ℕ × Choice → List Violation
 bare_at tables place one = if stands_in one.1.parent place then bare_violations tables place one.0 else []

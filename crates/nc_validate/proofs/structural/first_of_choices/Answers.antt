@@ -12,13 +12,13 @@ pub returns-then-is_found : goal.returns-then-is_found
 returns-then-is_found c =
     let args = c.args in
     let place : Place = place_here args.config.now args.steps.now args.here in
-    stops_at (λ (one : Case). begun_violations args.schema.now place args.child.0 one.choice) c.as_slice-case-items.result.now c.loop-case.case-index (record { choice = 0; case = 0 })
+    stops_at (λ (one : Case). begun_violations args.outline.now.schema.now place args.child.0 one.choice) c.as_slice-case-items.result.now c.loop-case.case-index (record { choice = 0; case = 0 })
     c.in_ok-found.found _ c.loop-case-test.true c.in_ok-found.ensures c.if-is_found.ensures
-    (c.loop-case.invariant ∙ sym (ap first (begun_is args.schema.now place args.child.0 args.child.1.now.cases)))
+    (c.loop-case.invariant ∙ sym (ap first (begun_is args.outline.now.schema.now place args.child.0 args.child.1.now.cases)))
 
 pub returns : goal.returns
 returns c =
     let args = c.args in
     let place : Place = place_here args.config.now args.steps.now args.here in
-    walk_ends (λ (one : Case). begun_violations args.schema.now place args.child.0 one.choice) c.as_slice-case-items.result.now c.loop-case.case-index
-    _ c.loop-case-test.false (c.loop-case.invariant ∙ sym (ap first (begun_is args.schema.now place args.child.0 args.child.1.now.cases)))
+    walk_ends (λ (one : Case). begun_violations args.outline.now.schema.now place args.child.0 one.choice) c.as_slice-case-items.result.now c.loop-case.case-index
+    _ c.loop-case-test.false (c.loop-case.invariant ∙ sym (ap first (begun_is args.outline.now.schema.now place args.child.0 args.child.1.now.cases)))

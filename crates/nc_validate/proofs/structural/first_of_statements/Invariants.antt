@@ -7,5 +7,5 @@ use Rattle.nc_validate.proofs.structural.first_of_statements.Given as goal
 
 abbrev pub invariant-loop-leafs : goal.invariant-loop-leafs
 invariant-loop-leafs l =
-    first (flat_map (unique_violations l.schema (places_in l.config l.entries)) (drop l.leafs-index l.uniques))
-    ≡ first (flat_map (unique_violations l.schema (places_in l.config l.entries)) l.uniques)
+    first (flat_map (unique_violations l.children (places_in l.config l.entries)) (drop l.leafs-index l.uniques))
+    ≡ first (flat_map (unique_violations l.children (places_in l.config l.entries)) l.uniques)

@@ -13,5 +13,5 @@ loop-leaf-preserved c =
     ∙ ap (λ (ts : List (List (Bor (List ℕ)))). extended (all_texts ts) (texts c.as_slice-in-loop-leaf.result.now)) c.as_slice.ensures
     ∙ ap (λ (vs : List (Bor (List ℕ))). extended (all_texts c.loop-leaf.out) (texts vs)) c.as_slice-in-loop-leaf.ensures
     ∙ ap (λ (vs : List (List ℕ)). extended (all_texts c.loop-leaf.out) vs) c.in_ok-values.ensures
-    ∙ ap (λ (ts : List (List (List ℕ))). extended ts (values_below c.args.schema.now place (get_or c.args.leafs.now c.loop-leaf.leaf-index 0))) c.loop-leaf.invariant
-    ∙ sym (tuples_next c.args.schema.now c.args.leafs.now c.loop-leaf.leaf-index place c.loop-leaf-test.true)
+    ∙ ap (λ (ts : List (List (List ℕ))). extended ts (values_below c.args.children.now place (get_or c.args.leafs.now c.loop-leaf.leaf-index 0))) c.loop-leaf.invariant
+    ∙ sym (tuples_next c.args.children.now c.args.leafs.now c.loop-leaf.leaf-index place c.loop-leaf-test.true)

@@ -15,10 +15,10 @@ returns-then-has_any c =
     let spot = c.entry-item.result in
     let place : Place = place_here rows spot.steps spot.here in
     let before : List Place = places_in rows (take c.loop-entry.entry-index args.entries.now) in
-    let agrees : list_any (agree_in args.schema.now args.leafs.now place) before ≡ true =
-    sym (agrees_is args.schema.now args.leafs.now before place c.loop-entry.seen c.in_ok-tuples.tuples c.loop-entry.invariant.seen c.in_ok-tuples.ensures)
+    let agrees : list_any (agree_in args.children.now args.leafs.now place) before ≡ true =
+    sym (agrees_is args.children.now args.leafs.now before place c.loop-entry.seen c.in_ok-tuples.tuples c.loop-entry.invariant.seen c.in_ok-tuples.ensures)
     ∙ ap (λ (ts : List (List (Bor (List ℕ)))). list_any (λ tuple. contains order c.loop-entry.seen tuple) ts) (sym c.as_slice.ensures) ∙ sym c.if-has_any.ensures in
-    walk_found args.schema.now args.leafs.now rows args.entries.now c.loop-entry.entry-index spot c.loop-entry-test.true c.entry-item.is
+    walk_found args.children.now args.leafs.now rows args.entries.now c.loop-entry.entry-index spot c.loop-entry-test.true c.entry-item.is
     _ c.in_ok-violation.field-0 agrees (c.in_ok-violation.ensures ∙ ap violation_at c.as_slice-then-has_any.ensures) c.loop-entry.invariant.walk
 
 pub loop-entry-preserved : goal.loop-entry-preserved
@@ -28,12 +28,12 @@ loop-entry-preserved c =
     let spot = c.entry-item.result in
     let place : Place = place_here rows spot.steps spot.here in
     let before : List Place = places_in rows (take c.loop-entry.entry-index args.entries.now) in
-    let differs : list_any (agree_in args.schema.now args.leafs.now place) before ≡ false =
-    sym (agrees_is args.schema.now args.leafs.now before place c.loop-entry.seen c.in_ok-tuples.tuples c.loop-entry.invariant.seen c.in_ok-tuples.ensures)
+    let differs : list_any (agree_in args.children.now args.leafs.now place) before ≡ false =
+    sym (agrees_is args.children.now args.leafs.now before place c.loop-entry.seen c.in_ok-tuples.tuples c.loop-entry.invariant.seen c.in_ok-tuples.ensures)
     ∙ ap (λ (ts : List (List (Bor (List ℕ)))). list_any (λ tuple. contains order c.loop-entry.seen tuple) ts) (sym c.as_slice.ensures) ∙ sym c.if-has_any.ensures in
     record {
-      seen = seen_more args.schema.now args.leafs.now rows args.entries.now c.loop-entry.entry-index spot c.loop-entry-test.true c.entry-item.is
+      seen = seen_more args.children.now args.leafs.now rows args.entries.now c.loop-entry.entry-index spot c.loop-entry-test.true c.entry-item.is
           c.loop-entry.seen c.in_ok-seen.seen c.in_ok-tuples.tuples c.loop-entry.invariant.seen c.in_ok-seen.ensures c.in_ok-tuples.ensures;
-      walk = walk_on args.schema.now args.leafs.now rows args.entries.now c.loop-entry.entry-index spot c.loop-entry-test.true c.entry-item.is
+      walk = walk_on args.children.now args.leafs.now rows args.entries.now c.loop-entry.entry-index spot c.loop-entry-test.true c.entry-item.is
           _ differs c.loop-entry.invariant.walk;
     }

@@ -6,7 +6,7 @@ use Rattle.nc_validate.proofs.unique.first_repeated.Given as goal
 
 abbrev pub invariant-loop-entry : goal.invariant-loop-entry
 invariant-loop-entry l = record {
-  seen : HasTuples l.schema l.leafs (places_in l.config (take l.entry-index l.entries)) l.seen;
-  walk : found_in l.schema l.leafs (places_in l.config (take l.entry-index l.entries)) (places_in l.config (drop l.entry-index l.entries))
-      ≡ found_in l.schema l.leafs [] (places_in l.config l.entries);
+  seen : HasTuples l.children l.leafs (places_in l.config (take l.entry-index l.entries)) l.seen;
+  walk : found_in l.children l.leafs (places_in l.config (take l.entry-index l.entries)) (places_in l.config (drop l.entry-index l.entries))
+      ≡ found_in l.children l.leafs [] (places_in l.config l.entries);
 }

@@ -1,0 +1,48 @@
+-- The first data node of each choice, and the choices without data nodes.
+use Rattle.std.specs.Prelude.{◌≡◌, ◌<◌, ◌==◌, ℕ, Bool, false, if◌then◌else◌, is_none, ltb, length, drop, map}
+use Rattle.std.specs.Prelude.{List, [], Option, None, Some, slice_get, unwrap_or}
+use Rattle.std.specs.List.{enumerate_from, filter, list_any, position_from}
+use Rattle.std.specs.Option.{option_map_or}
+use Rattle.nc_schema.specs.InUse.{stands_in}
+use Rattle.nc_schema.specs.Places.{Place}
+use Rattle.nc_schema.specs.Tables.{Tables}
+use Rattle.nc_schema.specs.Violations.{bare_violations}
+use Rattle.nc_schema.specs.declared.node.Case.{Case}
+use Rattle.nc_schema.specs.declared.node.Node.{Node}
+use Rattle.nc_schema.specs.declared.violation.Violation.{Violation}
+
+abbrev pub is_in : ℕ → List Case → Bool
+is_in choice cases = list_any (λ one. one.choice == choice) cases
+
+-- the first data node of a choice, of those from a number on
+abbrev pub first_from : List Node → ℕ → ℕ → Option ℕ
+first_from nodes choice number = position_from (λ node. is_in choice node.cases) number (drop number nodes)
+
+abbrev pub first_at : List (Option ℕ) → ℕ → Option ℕ
+first_at firsts choice = unwrap_or (slice_get firsts choice) None
+
+-- for each choice the first of its data nodes from a number on
+pub record AreFirstsFrom (tables : Tables) (number : ℕ) (firsts : List (Option ℕ)) : Type 0 where
+  pub long : length firsts ≡ length tables.choices
+  pub exact : (choice : ℕ) → choice < length tables.choices →
+      first_at firsts choice ≡ first_from tables.nodes choice number
+
+-- a data node with these cases is the first of their choices, and no other is changed
+pub record HasFirsts (cases : List Case) (number : ℕ) (before now : List (Option ℕ)) : Type 0 where
+  pub long : length now ≡ length before
+  pub exact : (choice : ℕ) → choice < length before →
+      first_at now choice ≡ (if is_in choice cases then Some number else first_at before choice)
+
+abbrev pub is_below : Option ℕ → ℕ → Bool
+is_below None number = false
+is_below (Some first) number = ltb first number
+
+-- the numbers of the choices that have no first data node
+abbrev pub nones_from : ℕ → List (Option ℕ) → List ℕ
+nones_from number firsts = map (λ one. one.0) (filter (λ one. is_none one.1) (enumerate_from number firsts))
+
+-- what is broken of a choice where it stands in the place and has no data node
+abbrev pub bare_of : Tables → Place → ℕ → List Violation
+bare_of tables place number =
+    option_map_or (λ choice. if stands_in choice.parent place then bare_violations tables place number else [])
+    (slice_get tables.choices number) []

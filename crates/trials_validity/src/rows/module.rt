@@ -27,6 +27,8 @@
 //!     case 1: 26 leaf slow } } }
 //! 27 container bare { presence; choice 2 { mandatory } }
 //! ```
+mod children_tests;
+mod many_tests;
 mod validity_tests;
 
 use super::text;

@@ -1,6 +1,8 @@
 #!/usr/bin/env bash
 # Times `nc_filter::select` over a list of 10,000 entries: a filter of 1,000 entries by their keys, and filters of 4 MB
-# that are made to be slow; and over 100 entries with 90 of 100 tags each, with an element for each of many triples of tags.
+# that are made to be slow; over 100 entries with 90 of 100 tags each, with an element for each of many triples of tags; over
+# 50 such entries with 90 rows more in a container, with an element for each triple that selects one of them; and over 450
+# entries with the same 20 tags, with an element for each of many sets of seven.
 set -euo pipefail
 exec "$(dirname "$0")/program" filters 'nc_names nc_message nc_message_read nc_schema nc_tree nc_filter' <<'RT'
 //! Times filters over a list of 10,000 entries, each with a key and a leaf, and over one of 100 entries with many tags.
@@ -66,6 +68,8 @@ fn schema(alloc: Global) -> Result<Schema, Memory> {
     put(&mut schema, node(alloc, "name", Some(1), Kind::Leaf)?)?;
     put(&mut schema, node(alloc, "type", Some(1), Kind::Leaf)?)?;
     put(&mut schema, node(alloc, "tag", Some(1), Kind::LeafList)?)?;
+    put(&mut schema, node(alloc, "c", Some(1), Kind::Container { presence: false })?)?;
+    put(&mut schema, node(alloc, "x", Some(5), Kind::LeafList)?)?;
     Ok(schema)
 }
 
@@ -109,31 +113,85 @@ fn has_tag(user: u64, tag: u64) -> bool {
     one.saturating_mul(other) % 10 != 0
 }
 
-fn push_tags(alloc: Global, rows: &mut Many<Row>, name: &str, user: u64) -> Result<(), Memory> {
-    for tag in 0..100 {
-        if has_tag(user, tag) {
-            let value = format!(in alloc; "t{}", tag.saturating_add(100))?;
-            let mut path = steps(alloc, name, None)?;
-            let mut keys = Many::new(alloc);
-            keys.push(text(alloc, value.as_str())?)?;
-            path.steps.push(Step { node: 4, keys })?;
-            rows.push(Row {
-                path,
-                value: Some(text(alloc, value.as_str())?),
-            })?;
+/// What entries have besides a key and a leaf.
+#[derive(Clone, Copy)]
+enum More {
+    Nothing,
+    Tags,
+    TagsAndInner,
+    TwentyTags,
+}
+
+fn push_value(
+    alloc: Global,
+    rows: &mut Many<Row>,
+    name: &str,
+    inner: bool,
+    number: u64,
+) -> Result<(), Memory> {
+    let value = format!(in alloc; "t{}", number.saturating_add(100))?;
+    let mut path = steps(alloc, name, None)?;
+    let mut keys = Many::new(alloc);
+    keys.push(text(alloc, value.as_str())?)?;
+    if inner {
+        path.steps.push(step(alloc, 5))?;
+    }
+    path.steps.push(Step {
+        node: if inner { 6 } else { 4 },
+        keys,
+    })?;
+    rows.push(Row {
+        path,
+        value: Some(text(alloc, value.as_str())?),
+    })
+}
+
+fn push_tags(
+    alloc: Global,
+    rows: &mut Many<Row>,
+    name: &str,
+    user: u64,
+    count: u64,
+) -> Result<(), Memory> {
+    for tag in 0..count {
+        if count == 20 || has_tag(user, tag) {
+            push_value(alloc, rows, name, false, tag)?;
         }
     }
     Ok(())
 }
 
-fn config(alloc: Global, schema: &Schema, count: u64, tags: bool) -> Result<Config, Memory> {
+fn push_inner(alloc: Global, rows: &mut Many<Row>, name: &str) -> Result<(), Memory> {
+    for number in 0..90 {
+        push_value(alloc, rows, name, true, number)?;
+    }
+    Ok(())
+}
+
+fn push_more(
+    alloc: Global,
+    rows: &mut Many<Row>,
+    name: &str,
+    user: u64,
+    more: More,
+) -> Result<(), Memory> {
+    match more {
+        More::Nothing => Ok(()),
+        More::Tags => push_tags(alloc, rows, name, user, 100),
+        More::TwentyTags => push_tags(alloc, rows, name, user, 20),
+        More::TagsAndInner => {
+            push_tags(alloc, rows, name, user, 100)?;
+            push_inner(alloc, rows, name)
+        }
+    }
+}
+
+fn config(alloc: Global, schema: &Schema, count: u64, more: More) -> Result<Config, Memory> {
     let mut rows = Many::new(alloc);
     for number in 0..count {
         let name = format!(in alloc; "u{}", number.saturating_add(100_000))?;
         push_entry(alloc, &mut rows, name.as_str())?;
-        if tags {
-            push_tags(alloc, &mut rows, name.as_str(), number)?;
-        }
+        push_more(alloc, &mut rows, name.as_str(), number, more)?;
     }
     let mut config = Config::empty(alloc);
     let top = Path {
@@ -187,6 +245,33 @@ fn triples(alloc: Global, more: &str, count: u64) -> Result<String, Memory> {
                     left = left.saturating_sub(1);
                 }
             }
+        }
+    }
+    out.push_str("</users></filter>")?;
+    Ok(out)
+}
+
+fn push_set(alloc: Global, out: &mut String, set: u64, more: &str) -> Result<(), Memory> {
+    out.push_str("<user>")?;
+    for tag in 0..20u64 {
+        if (set >> tag) & 1 == 1 {
+            let part = format!(in alloc; "<tag>t{}</tag>", tag.saturating_add(100))?;
+            out.push_str(part.as_str())?;
+        }
+    }
+    out.push_str(more)?;
+    out.push_str("</user>")?;
+    Ok(())
+}
+
+/// A filter of an element for each of so many sets of seven of twenty tags, and with something more in each.
+fn sevens(alloc: Global, more: &str, count: u64) -> Result<String, Memory> {
+    let mut out = format!(in alloc; "<filter xmlns=\"urn:ex\"><users>")?;
+    let mut left = count;
+    for set in 0..1_048_576u64 {
+        if left > 0 && set.count_ones() == 7 {
+            push_set(alloc, &mut out, set, more)?;
+            left = left.saturating_sub(1);
         }
     }
     out.push_str("</users></filter>")?;
@@ -253,27 +338,96 @@ const ELEMENTS: [(&str, u64); 14] = [
 
 const TRIPLES: [(&str, u64); 3] = [("", 10_000), ("", 60_000), ("<type/>", 60_000)];
 
+const INNER: [(&str, u64); 3] = [
+    ("<c><x>t117</x></c>", 10_000),
+    ("<c><x>t117</x></c>", 60_000),
+    ("<c><x/></c>", 60_000),
+];
+
+const SEVENS: [(&str, u64); 3] = [("", 10_000), ("", 66_000), ("<c/>", 66_000)];
+
+fn timed_triples(
+    alloc: Global,
+    rt: &HostRuntime,
+    schema: &Schema,
+    config: &Config,
+    more: &str,
+    count: u64,
+) -> io::Result<()> {
+    let Ok(filter) = triples(alloc, more, count) else {
+        return println!(rt; "out of memory");
+    };
+    let Ok(element) = format!(in alloc; "triple of tags{}", more) else {
+        return println!(rt; "out of memory");
+    };
+    timed_filter(alloc, rt, schema, config, filter.as_str(), element.as_str(), count)
+}
+
+fn timed_sevens(
+    alloc: Global,
+    rt: &HostRuntime,
+    schema: &Schema,
+    config: &Config,
+    more: &str,
+    count: u64,
+) -> io::Result<()> {
+    let Ok(filter) = sevens(alloc, more, count) else {
+        return println!(rt; "out of memory");
+    };
+    let Ok(element) = format!(in alloc; "seven tags{}", more) else {
+        return println!(rt; "out of memory");
+    };
+    timed_filter(alloc, rt, schema, config, filter.as_str(), element.as_str(), count)
+}
+
+fn time_lists(alloc: Global, rt: &HostRuntime, schema: &Schema) -> io::Result<()> {
+    let Ok(list) = config(alloc, schema, 10_000, More::Nothing) else {
+        return println!(rt; "out of memory");
+    };
+    for (element, count) in ELEMENTS {
+        timed(alloc, rt, schema, &list, element, count)?;
+    }
+    Ok(())
+}
+
+fn time_tags(alloc: Global, rt: &HostRuntime, schema: &Schema) -> io::Result<()> {
+    let Ok(tagged) = config(alloc, schema, 100, More::Tags) else {
+        return println!(rt; "out of memory");
+    };
+    for (more, count) in TRIPLES {
+        timed_triples(alloc, rt, schema, &tagged, more, count)?;
+    }
+    Ok(())
+}
+
+fn time_inner(alloc: Global, rt: &HostRuntime, schema: &Schema) -> io::Result<()> {
+    let Ok(inner) = config(alloc, schema, 50, More::TagsAndInner) else {
+        return println!(rt; "out of memory");
+    };
+    for (more, count) in INNER {
+        timed_triples(alloc, rt, schema, &inner, more, count)?;
+    }
+    Ok(())
+}
+
+fn time_sevens(alloc: Global, rt: &HostRuntime, schema: &Schema) -> io::Result<()> {
+    let Ok(twenty) = config(alloc, schema, 450, More::TwentyTags) else {
+        return println!(rt; "out of memory");
+    };
+    for (more, count) in SEVENS {
+        timed_sevens(alloc, rt, schema, &twenty, more, count)?;
+    }
+    Ok(())
+}
+
 fn main(rt: HostRuntime) -> io::Result<()> {
     let alloc = rt.alloc();
     let Ok(schema) = schema(alloc) else {
         return println!(rt; "out of memory");
     };
-    let Ok(list) = config(alloc, &schema, 10_000, false) else {
-        return println!(rt; "out of memory");
-    };
-    for (element, count) in ELEMENTS {
-        timed(alloc, &rt, &schema, &list, element, count)?;
-    }
-    let Ok(tagged) = config(alloc, &schema, 100, true) else {
-        return println!(rt; "out of memory");
-    };
-    for (more, count) in TRIPLES {
-        let Ok(filter) = triples(alloc, more, count) else {
-            return println!(rt; "out of memory");
-        };
-        let element = format!(in alloc; "triple of tags{}", more)?;
-        timed_filter(alloc, &rt, &schema, &tagged, filter.as_str(), element.as_str(), count)?;
-    }
-    Ok(())
+    time_lists(alloc, &rt, &schema)?;
+    time_tags(alloc, &rt, &schema)?;
+    time_inner(alloc, &rt, &schema)?;
+    time_sevens(alloc, &rt, &schema)
 }
 RT

@@ -1,5 +1,5 @@
 -- Which rows come with those that are selected.
-use Rattle.std.proofs.Common.{◌≡◌, ◌||◌, ◌&&◌, ◌+◌, ◌<◌, ◌≤◌, ℕ, Bool, true, false, List, [], ◌∷◌, ◌++◌, length, drop, get_or, refl, sym, ap, ◌∙◌, arith, if◌then◌else◌}
+use Rattle.std.proofs.Common.{◌≡◌, ◌||◌, ◌&&◌, ◌+◌, ◌<◌, ◌≤◌, ℕ, Bool, true, false, List, [], ◌∷◌, ◌++◌, length, drop, get_or, sym, ap, ◌∙◌, arith, if◌then◌else◌}
 use Rattle.std.specs.List.{filter, list_any}
 use Rattle.std.proofs.lemmas.Grind.{common_steps}
 use Rattle.std.proofs.lemmas.List.{append_assoc, append-nil}
@@ -10,21 +10,7 @@ use Rattle.nc_schema.specs.Blocks.{above_last}
 use Rattle.nc_schema.specs.Tables.{Tables}
 use Rattle.nc_model.specs.Filter.{comes_with, is_key_of_entry}
 use Rattle.nc_model.proofs.KeyLemmas.{filter_takes, filter_leaves}
-
-any_or : {X : Type 0} (p q : X → Bool) (xs : List X) → list_any (λ x. p x || q x) xs ≡ (list_any p xs || list_any q xs)
-any_or p q [] = refl
-any_or p q (x ∷ xs) = ap (λ b. (p x || q x) || b) (any_or p q xs) ∙ by (p x) (q x) (list_any p xs) (list_any q xs)
-  where
-    by : (a b c d : Bool) → ((a || b) || (c || d)) ≡ ((a || c) || (b || d))
-    by true b c d = refl
-    by false true true d = refl
-    by false true false d = refl
-    by false false c d = refl
-
-any_and : {X : Type 0} (k : Bool) (q : X → Bool) (xs : List X) → list_any (λ x. k && q x) xs ≡ (k && list_any q xs)
-any_and true q xs = refl
-any_and false q [] = refl
-any_and false q (x ∷ xs) = any_and false q xs
+use Rattle.nc_filter.proofs.Unions.{any_and, any_or}
 
 pub comes_with_some : {X : Type 0} (p q : X → Bool) (k : Bool) (xs : List X) → list_any (λ x. p x || (k && q x)) xs ≡ (list_any p xs || (k && list_any q xs))
 comes_with_some p q k xs = any_or p (λ x. k && q x) xs ∙ ap (λ b. list_any p xs || b) (any_and k q xs)
@@ -39,26 +25,26 @@ kept_is tables row rows steps above a k b is above_is first key second =
     ∙ sym (comes_with_some (λ (other : Row). is_at_or_below row.path.steps other.path) (λ (other : Row). is_at_or_below (above_last row.path.steps) other.path) (is_key_of_entry tables row.path.steps) rows)
 
 -- one row more, which passes a test or does not
-pub filter_next : (test : Row → Bool) (rows out now : List Row) (index : ℕ) (row : Row) (passes : Bool) → index < length rows → row ≡ get_or rows index row →
+pub filter_next : {X : Type 0} (test : X → Bool) (rows out now : List X) (index : ℕ) (row : X) (passes : Bool) → index < length rows → row ≡ get_or rows index row →
     passes ≡ test row → now ≡ (if passes then out ++ row ∷ [] else out) → out ++ filter test (drop index rows) ≡ filter test rows →
     now ++ filter test (drop (index + 1) rows) ≡ filter test rows
-filter_next test rows out now index row passes within is tested put so_far = by passes tested put
+filter_next {X} test rows out now index row passes within is tested put so_far = by passes tested put
   where
     cut : drop index rows ≡ row ∷ drop (index + 1) rows
     cut = grind (arith, common_steps, is, within)
 
     by : (b : Bool) → b ≡ test row → now ≡ (if b then out ++ row ∷ [] else out) → now ++ filter test (drop (index + 1) rows) ≡ filter test rows
     by true e put =
-        ap (λ (list : List Row). list ++ filter test (drop (index + 1) rows)) put ∙ append_assoc out (row ∷ []) (filter test (drop (index + 1) rows))
+        ap (λ (list : List X). list ++ filter test (drop (index + 1) rows)) put ∙ append_assoc out (row ∷ []) (filter test (drop (index + 1) rows))
         ∙ ap (λ more. out ++ more) (sym (filter_takes test row (drop (index + 1) rows) (sym e)) ∙ ap (filter test) (sym cut)) ∙ so_far
     by false e put =
-        ap (λ (list : List Row). list ++ filter test (drop (index + 1) rows)) put
+        ap (λ (list : List X). list ++ filter test (drop (index + 1) rows)) put
         ∙ ap (λ more. out ++ more) (sym (filter_leaves test row (drop (index + 1) rows) (sym e)) ∙ ap (filter test) (sym cut)) ∙ so_far
 
-pub filter_end : (test : Row → Bool) (rows out : List Row) (index : ℕ) → length rows ≤ index →
+pub filter_end : {X : Type 0} (test : X → Bool) (rows out : List X) (index : ℕ) → length rows ≤ index →
     out ++ filter test (drop index rows) ≡ filter test rows → out ≡ filter test rows
-filter_end test rows out index past so_far =
-    sym (append-nil out) ∙ ap (λ (list : List Row). out ++ filter test list) (sym none) ∙ so_far
+filter_end {X} test rows out index past so_far =
+    sym (append-nil out) ∙ ap (λ (list : List X). out ++ filter test list) (sym none) ∙ so_far
   where
     none : drop index rows ≡ []
     none = grind (arith, common_steps, past)

@@ -17,3 +17,7 @@ pub mod FlatLemmas
 pub mod SpotLemmas
 pub mod PlacesLemmas
 pub mod KeptLemmas
+pub mod BitLemmas
+pub mod NumberLemmas
+pub mod MemberLemmas
+pub mod InstanceLemmas

@@ -7,7 +7,7 @@ use Rattle.std.proofs.lemmas.List.Sorted.{list_any-IsPermutation}
 use Rattle.std.proofs.lemmas.Option.{same_Some}
 use Rattle.std.specs.List.Sorted.{IsPermutation}
 use Rattle.nc_filter.specs.inner.Lists.{AddsOne, IsLast, IsSame}
-use Rattle.nc_filter.proofs.Unions.{any_map, or_assoc, or_false}
+use Rattle.nc_filter.proofs.Unions.{any_map, or_assoc, or_false, or_swap}
 
 pub sorted_is : {X : Type 0} (before now : List X) → IsPermutation before now → IsSame before now
 sorted_is before now moved test = sym (list_any-IsPermutation test before now moved)
@@ -35,19 +35,13 @@ once_there xs x last test = by (test x) refl
 pub once_more : {X : Type 0} (xs now : List X) (x : X) → now ≡ xs ++ x ∷ [] → AddsOne xs now x
 once_more xs now x is test = ap (list_any test) is ∙ list_any-append test xs (x ∷ []) ∙ ap (λ b. list_any test xs || b) (or_false (test x))
 
-swapped : (a b : Bool) → (a || b) ≡ (b || a)
-swapped true true = refl
-swapped true false = refl
-swapped false true = refl
-swapped false false = refl
-
 -- one is taken off the end of what is left, and put to what is there
 pub popped : {X : Type 0} (test : X → Bool) (out now : Bool) (left rest : List X) (x : X) → left ≡ rest ++ x ∷ [] → now ≡ (out || test x) →
     (now || list_any test rest) ≡ (out || list_any test left)
 popped test out now left rest x is adds =
     ap (λ b. b || list_any test rest) adds
     ∙ or_assoc out (test x) (list_any test rest)
-    ∙ ap (λ b. out || b) (swapped (test x) (list_any test rest)
+    ∙ ap (λ b. out || b) (or_swap (test x) (list_any test rest)
     ∙ ap (λ b. list_any test rest || b) (sym (or_false (test x)))
     ∙ sym (ap (list_any test) is ∙ list_any-append test rest (x ∷ [])))
 

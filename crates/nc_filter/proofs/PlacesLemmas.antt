@@ -12,6 +12,7 @@ use Rattle.nc_names.specs.declared.path.Row.{Row}
 use Rattle.nc_names.specs.declared.path.Step.{Step}
 use Rattle.nc_filter.specs.inner.Tables.{AddsPlace, AddsPlaces, ArePlaces, order}
 use Rattle.nc_filter.proofs.StepLemmas.{below_push, below_root}
+use Rattle.nc_filter.proofs.Unions.{or_swap}
 
 pub place_added : (before now : BTreeSet (Bor (List Step))) (steps : Bor (List Step)) →
     ((key : Bor (List Step)) → contains order now key ≡ cond (is_eq (order steps key)) true (contains order before key)) → AddsPlace before now steps.now
@@ -29,15 +30,9 @@ turned false true b = refl
 turned false false true = refl
 turned false false false = refl
 
-swapped : (s o : Bool) → (s || o) ≡ (o || s)
-swapped true true = refl
-swapped true false = refl
-swapped false true = refl
-swapped false false = refl
-
 pub root_added : (before now : BTreeSet (Bor (List Step))) → AddsPlace before now [] → AddsPlaces before now []
 root_added before now added key =
-    added key ∙ swapped (is_same_path [] key.now) (contains order before key) ∙ ap (λ b. contains order before key || b) (sym (below_root key.now))
+    added key ∙ or_swap (is_same_path [] key.now) (contains order before key) ∙ ap (λ b. contains order before key || b) (sym (below_root key.now))
 
 pub step_added : (first before now : BTreeSet (Bor (List Step))) (steps : List Step) (at : ℕ) (step : Step) → at < length steps → AddsPlaces first before (take at steps) →
     AddsPlace before now (take (at + 1) steps) → AddsPlaces first now (take (at + 1) steps)

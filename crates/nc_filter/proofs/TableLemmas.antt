@@ -19,21 +19,17 @@ use Rattle.nc_schema.specs.Values.{trimmed}
 use Rattle.nc_model.specs.Elements.{whole_text}
 use Rattle.nc_model.specs.Filter.{is_content_match, is_of_text}
 use Rattle.nc_filter.specs.declared.runs.Run.{Run}
-use Rattle.nc_filter.specs.inner.Keys.{among, keys_in}
+use Rattle.nc_filter.specs.declared.rows.Spot.{Spot}
+use Rattle.nc_filter.specs.inner.Instances.{instance_keys}
+use Rattle.nc_filter.specs.inner.Keys.{among}
 use Rattle.nc_filter.specs.inner.Picks.{Adds, ends, is_matched}
-use Rattle.nc_filter.specs.inner.Runs.{AreKnown, AreRuns, IsKnown, IsTable, Puts, Slots, at_number, has_key, in_slot, without_slot}
+use Rattle.nc_filter.specs.inner.Runs.{AreKnown, AreRuns, IsKnown, Puts, Slots, has_key, in_slot, without_slot}
 use Rattle.nc_filter.specs.inner.Tables.{HasTexts, adds_text, has_text}
 use Rattle.nc_filter.proofs.KeyLemmas.{turned_text}
-use Rattle.nc_filter.proofs.Unions.{and_false, any_nothing, any_same, or_assoc, or_false, or_and}
+use Rattle.nc_filter.proofs.Unions.{and_false, any_nothing, any_same, or_and, or_assoc, or_false, or_swap}
 
-eq_text : (a b : List ℕ) → is_eq (slice_cmp nat_cmp a b) ≡ is_same_text a b
+pub eq_text : (a b : List ℕ) → is_eq (slice_cmp nat_cmp a b) ≡ is_same_text a b
 eq_text a b = is_eq-slice_cmp a b
-
-swapped : (a b : Bool) → (a || b) ≡ (b || a)
-swapped true true = refl
-swapped true false = refl
-swapped false true = refl
-swapped false false = refl
 
 -- ---- texts
 pub text_added : (before now : BTreeSet (List ℕ)) (text : List ℕ) →
@@ -51,7 +47,7 @@ pub match_added : (before now : BTreeSet (List ℕ)) (elem : Elem) (elems : List
     adds_text before now (trimmed (whole_text elem.parts)) → HasTexts before elems → HasTexts now (elems ++ elem ∷ [])
 match_added before now elem elems match added has text =
     added text ∙ (λ i. turned_text (trimmed (whole_text elem.parts)) text i || has text i)
-    ∙ swapped (is_same_text text (trimmed (whole_text elem.parts))) (list_any (has_its_text text) elems)
+    ∙ or_swap (is_same_text text (trimmed (whole_text elem.parts))) (list_any (has_its_text text) elems)
     ∙ ap (λ b. list_any (has_its_text text) elems || b) (sym (or_false (has_its_text text elem) ∙ ap (λ b. b && is_same_text text (trimmed (whole_text elem.parts))) match))
     ∙ sym (list_any-append (has_its_text text) elems (elem ∷ []))
 
@@ -105,28 +101,34 @@ adds_next out now next p rows i row passes within is tested put adds =
     (adds_row out now next p (map (λ row. row.now) (take i rows)) row.now passes tested put adds)
 
 -- ---- runs
-module _ (depth : ℕ) (rows : List Row) (row : Row) where
-  pub run_new : (before : List Run) (run : Run) → run.above.now ≡ take depth row.path.steps → map (λ row. row.now) run.rows ≡ row ∷ [] →
-      AreRuns depth rows before → AreRuns depth (rows ++ row ∷ []) (before ++ run ∷ [])
-  run_new before run above one are f =
-      list_any-append (λ run. list_any (f run.above.now) (map (λ row. row.now) run.rows)) before (run ∷ [])
-      ∙ (λ i. are f i || (list_any (f (above i)) (one i) || false))
-      ∙ ap (λ b. list_any (λ row. f (take depth row.path.steps) row) rows || b) (or_false (f (take depth row.path.steps) row || false))
-      ∙ sym (list_any-append (λ row. f (take depth row.path.steps) row) rows (row ∷ []))
+module _ (depth : ℕ) (spots : List Spot) (spot : Spot) where
+  pub run_new : (before : List Run) (run : Run) → run.parent ≡ spot.number → run.above.now ≡ take depth spot.row.now.path.steps → map (λ row. row.now) run.rows ≡ spot.row.now ∷ [] →
+      AreRuns depth spots before → AreRuns depth (spots ++ spot ∷ []) (before ++ run ∷ [])
+  run_new before run parent above one are f =
+      list_any-append (λ run. list_any (f run.parent run.above.now) (map (λ row. row.now) run.rows)) before (run ∷ [])
+      ∙ (λ i. are f i || (list_any (f (parent i) (above i)) (one i) || false))
+      ∙ ap (λ b. list_any g spots || b) (or_false (g spot || false))
+      ∙ sym (list_any-append g spots (spot ∷ []))
+    where
+      g : Spot → Bool
+      g spot = f spot.number (take depth spot.row.now.path.steps) spot.row.now
 
-  pub run_more : (before : List Run) (last now : Run) → now.above.now ≡ last.above.now → last.above.now ≡ take depth row.path.steps →
-      map (λ row. row.now) now.rows ≡ map (λ row. row.now) last.rows ++ row ∷ [] →
-      AreRuns depth rows (before ++ last ∷ []) → AreRuns depth (rows ++ row ∷ []) (before ++ now ∷ [])
-  run_more before last now same above more are f =
+  pub run_more : (before : List Run) (last now : Run) → now.parent ≡ last.parent → now.above.now ≡ last.above.now → last.parent ≡ spot.number → last.above.now ≡ take depth spot.row.now.path.steps →
+      map (λ row. row.now) now.rows ≡ map (λ row. row.now) last.rows ++ spot.row.now ∷ [] →
+      AreRuns depth spots (before ++ last ∷ []) → AreRuns depth (spots ++ spot ∷ []) (before ++ now ∷ [])
+  run_more before last now same_parent same parent above more are f =
       list_any-append g before (now ∷ [])
-      ∙ ap (λ b. list_any g before || b) (or_false (g now) ∙ (λ i. list_any (f (same i)) (more i)) ∙ list_any-append (f last.above.now) (map (λ row. row.now) last.rows) (row ∷ []))
-      ∙ sym (or_assoc (list_any g before) (g last) (f last.above.now row || false))
-      ∙ ap (λ b. b || (f last.above.now row || false)) (sym (list_any-append g before (last ∷ []) ∙ ap (λ b. list_any g before || b) (or_false (g last))) ∙ are f)
-      ∙ ap (λ steps. list_any (λ row. f (take depth row.path.steps) row) rows || (f steps row || false)) above
-      ∙ sym (list_any-append (λ row. f (take depth row.path.steps) row) rows (row ∷ []))
+      ∙ ap (λ b. list_any g before || b) (or_false (g now) ∙ (λ i. list_any (f (same_parent i) (same i)) (more i)) ∙ list_any-append (f last.parent last.above.now) (map (λ row. row.now) last.rows) (spot.row.now ∷ []))
+      ∙ sym (or_assoc (list_any g before) (g last) (f last.parent last.above.now spot.row.now || false))
+      ∙ ap (λ b. b || (f last.parent last.above.now spot.row.now || false)) (sym (list_any-append g before (last ∷ []) ∙ ap (λ b. list_any g before || b) (or_false (g last))) ∙ are f)
+      ∙ (λ i. list_any h spots || (f (parent i) (above i) spot.row.now || false))
+      ∙ sym (list_any-append h spots (spot ∷ []))
     where
       g : Run → Bool
-      g run = list_any (f run.above.now) (map (λ row. row.now) run.rows)
+      g run = list_any (f run.parent run.above.now) (map (λ row. row.now) run.rows)
+
+      h : Spot → Bool
+      h spot = f spot.number (take depth spot.row.now.path.steps) spot.row.now
 
 -- ---- the table
 pub none_at : {X : Type 0} (xs : List X) (i : ℕ) → length xs ≤ i → slice_get xs i ≡ None
@@ -176,29 +178,11 @@ pub puts_same : (before now : Slots) (p q : List ℕ → Bool) (number : ℕ) �
 puts_same before now p q number same puts other test =
     puts other test ∙ ap (λ b. list_any test (in_slot before other) || (b && test number)) (same other)
 
-pub table_put : (tables : Tables) (all : List Row) (before now : Slots) (whole : List Run) (number : ℕ) (run : Run) → number < length whole → run ≡ get_or whole number run →
-    IsTable tables all before whole (take number whole) → Puts before now (has_key tables all run) number → IsTable tables all now whole (take (number + 1) whole)
-table_put tables all before now whole number run within is table puts wanted test =
-    puts wanted (at_number whole test)
-    ∙ (λ i. table wanted test i || (has_key tables all run wanted && option_map_or test (there i) false))
-    ∙ ap (λ b. list_any f (take number whole) || b) (sym (or_false (f run)))
-    ∙ sym (list_any-append f (take number whole) (run ∷ []))
-    ∙ ap (list_any f) (sym (take_more whole number run within ∙ ap (λ (one : Run). take number whole ++ one ∷ []) (sym is)))
-  where
-    f : Run → Bool
-    f run = has_key tables all run wanted && test run
-
-    there : slice_get whole number ≡ Some run
-    there = get_at whole number run within ∙ ap Some (sym is)
-
-pub nothing_put : (tables : Tables) (all : List Row) (items : Slots) (whole : List Run) → ((other : List ℕ) → get (slice_cmp nat_cmp) items other ≡ None) → IsTable tables all items whole []
-nothing_put tables all items whole none wanted test = ap (λ o. list_any (at_number whole test) (option_map_or (λ numbers. numbers) o [])) (none wanted)
-
 -- ---- the keys of an instance
 pub key_added : (keys : List (List ℕ)) (i : ℕ) (key : List ℕ) (before now : BTreeSet (List ℕ)) → i < length keys → key ≡ get_or keys i key → adds_text before now key →
     ((wanted : List ℕ) → has_text before wanted ≡ among (take i keys) wanted) → (wanted : List ℕ) → has_text now wanted ≡ among (take (i + 1) keys) wanted
 key_added keys i key before now within is adds so_far wanted =
-    adds wanted ∙ swapped (is_same_text key wanted) (has_text before wanted)
+    adds wanted ∙ or_swap (is_same_text key wanted) (has_text before wanted)
     ∙ (λ k. so_far wanted k || is_same_text (is k) wanted)
     ∙ sym (list_any_more (λ one. is_same_text one wanted) keys i key within)
 
@@ -210,12 +194,12 @@ keys_put keys i key before mid now number within is first second =
     (puts_then before mid now (among (take i keys)) (is_same_text key) number first second)
 
 -- ---- the runs have the keys of their instances
-pub known_more : (tables : Tables) (all : List Row) (last run : Run) → run.above ≡ last.above → run.keys ≡ last.keys → IsKnown tables all last → IsKnown tables all run
-known_more tables all last run above keys known wanted =
-    ap (λ (set : BTreeSet (List ℕ)). has_text set wanted) keys ∙ known wanted ∙ ap (λ (steps : Bor (List Step)). among (keys_in tables all steps.now) wanted) (sym above)
+pub known_more : (tables : Tables) (all : List Row) (upper : Option ℕ) (last run : Run) → run.above ≡ last.above → run.keys ≡ last.keys → IsKnown tables all upper last → IsKnown tables all upper run
+known_more tables all upper last run above keys known wanted =
+    ap (λ (set : BTreeSet (List ℕ)). has_text set wanted) keys ∙ known wanted ∙ ap (λ (steps : Bor (List Step)). among (instance_keys tables all upper steps.now) wanted) (sym above)
 
-pub known_same : (tables : Tables) (all : List Row) (runs : List Run) → AreKnown tables all runs → (test : (List ℕ → Bool) → Run → Bool) →
-    list_any (λ run. test (λ wanted. has_text run.keys wanted) run) runs ≡ list_any (λ run. test (has_key tables all run) run) runs
-known_same tables all [] known test = refl
-known_same tables all (run ∷ runs) known test =
-    (λ i. test (λ wanted. known 0 run (omega arith) wanted i) run || known_same tables all runs (λ k d within. known (suc k) d (omega (arith, within))) test i)
+pub known_same : (tables : Tables) (all : List Row) (upper : Option ℕ) (runs : List Run) → AreKnown tables all upper runs → (test : (List ℕ → Bool) → Run → Bool) →
+    list_any (λ run. test (λ wanted. has_text run.keys wanted) run) runs ≡ list_any (λ run. test (has_key tables all upper run) run) runs
+known_same tables all upper [] known test = refl
+known_same tables all upper (run ∷ runs) known test =
+    (λ i. test (λ wanted. known 0 run (omega arith) wanted i) run || known_same tables all upper runs (λ k d within. known (suc k) d (omega (arith, within))) test i)

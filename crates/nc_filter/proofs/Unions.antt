@@ -14,13 +14,29 @@ pub or_true : (b : Bool) → (b || true) ≡ true
 or_true true = refl
 or_true false = refl
 
+pub or_swap : (a b : Bool) → (a || b) ≡ (b || a)
+or_swap true b = sym (or_true b)
+or_swap false b = sym (or_false b)
+
 pub or_assoc : (a b c : Bool) → ((a || b) || c) ≡ (a || (b || c))
 or_assoc true b c = refl
 or_assoc false b c = refl
 
+pub or_turned : (a b c d : Bool) → ((a || b) || (c || d)) ≡ ((a || c) || (b || d))
+or_turned true b c d = refl
+or_turned false true true d = refl
+or_turned false true false d = refl
+or_turned false false c d = refl
+
 pub and_false : (b : Bool) → (b && false) ≡ false
 and_false true = refl
 and_false false = refl
+
+pub and_swap : (a b : Bool) → (a && b) ≡ (b && a)
+and_swap true true = refl
+and_swap true false = refl
+and_swap false true = refl
+and_swap false false = refl
 
 pub and_assoc : (a b c : Bool) → ((a && b) && c) ≡ (a && (b && c))
 and_assoc true b c = refl
@@ -50,23 +66,11 @@ any_filter f p (x ∷ xs) = by (p x) (any_filter f p xs)
 
 pub any_or : {X : Type 0} (p q : X → Bool) (xs : List X) → list_any (λ x. p x || q x) xs ≡ (list_any p xs || list_any q xs)
 any_or p q [] = refl
-any_or p q (x ∷ xs) = ap (λ b. (p x || q x) || b) (any_or p q xs) ∙ by (p x) (q x) (list_any p xs) (list_any q xs)
-  where
-    by : (a b c d : Bool) → ((a || b) || (c || d)) ≡ ((a || c) || (b || d))
-    by true b c d = refl
-    by false true true d = refl
-    by false true false d = refl
-    by false false c d = refl
+any_or p q (x ∷ xs) = ap (λ b. (p x || q x) || b) (any_or p q xs) ∙ or_turned (p x) (q x) (list_any p xs) (list_any q xs)
 
 pub any_and : {X : Type 0} (k : Bool) (q : X → Bool) (xs : List X) → list_any (λ x. k && q x) xs ≡ (k && list_any q xs)
 any_and true q xs = refl
 any_and false q xs = any_nothing xs
-
-and_swap : (a b : Bool) → (a && b) ≡ (b && a)
-and_swap true true = refl
-and_swap true false = refl
-and_swap false true = refl
-and_swap false false = refl
 
 pub any_and_last : {X : Type 0} (q : X → Bool) (k : Bool) (xs : List X) → list_any (λ x. q x && k) xs ≡ (list_any q xs && k)
 any_and_last q k xs = any_same (λ x. q x && k) (λ x. k && q x) xs (λ x. and_swap (q x) k) ∙ any_and k q xs ∙ and_swap k (list_any q xs)
@@ -83,6 +87,15 @@ any_map f g (x ∷ xs) = ap (λ b. f (g x) || b) (any_map f g xs)
 pub any_flat_map : {X Y : Type 0} (f : Y → Bool) (g : X → List Y) (xs : List X) → list_any f (flat_map g xs) ≡ list_any (λ x. list_any f (g x)) xs
 any_flat_map f g [] = refl
 any_flat_map f g (x ∷ xs) = list_any-append f (g x) (flat_map g xs) ∙ ap (λ b. list_any f (g x) || b) (any_flat_map f g xs)
+
+-- where nothing passes a test, nothing passes one that asks for more
+pub no_more : {X : Type 0} (p q : X → Bool) (xs : List X) → ((x : X) → p x ≡ false → q x ≡ false) → list_any p xs ≡ false → list_any q xs ≡ false
+no_more p q [] less none = refl
+no_more {X} p q (x ∷ xs) less none = by (p x) refl none (λ rest. no_more p q xs less rest)
+  where
+    by : (b : Bool) → p x ≡ b → (b || list_any p xs) ≡ false → (list_any p xs ≡ false → list_any q xs ≡ false) → (q x || list_any q xs) ≡ false
+    by true e none more = let clash : true ≡ false = none in cc
+    by false e none more = λ i. less x e i || more none i
 
 -- ---- rows that come to what was found
 pub adds_same : (before now : List Row) (p q : Row → Bool) (rows : List Row) → ((row : Row) → p row ≡ q row) → Adds before now p rows → Adds before now q rows

@@ -1,8 +1,10 @@
 pub mod Lists
+pub mod Sets
 pub mod Levels
 pub mod Keys
 pub mod Tables
 pub mod Picks
+pub mod Instances
 pub mod Runs
 pub mod Names
 pub mod Labels

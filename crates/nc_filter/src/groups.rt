@@ -1,27 +1,27 @@
-//! Elements by the instances in which their content matches hold (RFC 6241 6.2.5).
-ghost use Rattle.std.specs.Prelude.{◌≡◌, ◌∷◌, ◌++◌, [], ◌||◌, ◌&&◌, ◌<◌, ◌+◌, ℕ, true, Bool, List, IfOk, length, map};
+//! Elements by the instances that they name and in which their content matches hold (RFC 6241 6.2.5).
+ghost use Rattle.std.specs.Prelude.{◌≡◌, ◌∷◌, ◌++◌, ◌==◌, ◌&&◌, ◌||◌, ◌<◌, ℕ, true, Bool, List, IfOk, IfSome, length, map};
 ghost use Rattle.std.specs.List.{list_any};
-ghost use Rattle.nc_names.specs.declared.path.Row.{Row};
-ghost use Rattle.nc_schema.specs.Tables.{Tables};
 ghost use Rattle.nc_filter.specs.declared.runs.Run.{Run};
 ghost use Rattle.nc_filter.specs.inner.Runs as inner;
 ghost use Rattle.nc_filter.specs.inner.Keys as words;
+ghost use Rattle.nc_filter.specs.inner.Sets.{bit_of};
 ghost use Rattle.nc_filter.specs.inner.Tables.{has_text};
 ghost use Rattle.nc_filter.specs.inner.Lists.{AddsOne, IsLast, IsSame};
 
+use crate::bits::is_set;
 use crate::guards::Class;
-use crate::rows::extended;
+use crate::members::{Members, is_alike, met_members};
 use crate::runs::Run;
 use crate::table::Table;
 use nc_message::Elem;
-use nc_names::{Many, Memory, Row};
+use nc_names::{Many, Memory};
 use std::alloc::Global;
 use std::collections::BTreeSet;
 
-/// Elements whose content matches hold in the same instances, which are given by their numbers in a list.
+/// Elements that hold in the same instances, which are given by their numbers in a list.
 #[derive(Drop)]
 pub(crate) struct Group<'a> {
-    pub(crate) numbers: Many<usize>,
+    pub(crate) members: Members,
     pub(crate) elems: Many<&'a Elem>,
 }
 
@@ -47,6 +47,16 @@ fn holds_at(runs: &[Run], number: usize, keys: &[Many<u8>]) -> bool
     }
 }
 
+// Whether a number is in a set, and its instance has each of some keys.
+fn is_held(runs: &[Run], from: &[u64], number: usize, keys: &[Many<u8>]) -> bool
+    ensures { result ≡ inner.is_held keys.now runs.now from.now number }
+{
+    if is_set(from, number) {
+        return holds_at(runs, number, keys);
+    }
+    false
+}
+
 fn is_last(numbers: &Many<usize>, number: usize) -> bool
     ensures { result ≡ true → IsLast numbers.now number }
 {
@@ -68,58 +78,55 @@ fn with_once(numbers: Many<usize>, number: usize) -> Result<Many<usize>, Memory>
     Ok(more)
 }
 
-// Some numbers and one more, where the instance of that has each of some keys.
+// Some numbers and one more, where that is in a set and its instance has each of some keys.
 fn with_held(
     runs: &[Run],
+    from: &[u64],
     number: usize,
     keys: &[Many<u8>],
     numbers: Many<usize>,
 ) -> Result<Many<usize>, Memory>
-    ensures { IfOk result (λ it. inner.AddsHeld keys.now runs.now number numbers it) }
+    ensures { IfOk result (λ it. inner.AddsHeld keys.now runs.now from.now number numbers it) }
 {
-    if holds_at(runs, number, keys) {
+    if is_held(runs, from, number, keys) {
         let more = with_once(numbers, number)?;
         return Ok(more);
     }
     Ok(numbers)
 }
 
-// Those of some numbers whose instances have each of some keys.
+// Those of some numbers that are in a set and whose instances have each of some keys.
 fn held(
     alloc: Global,
     runs: &[Run],
+    from: &[u64],
     some: &[usize],
     keys: &[Many<u8>],
 ) -> Result<Many<usize>, Memory>
-    ensures { IfOk result (λ it. inner.AreHeldOf keys.now runs.now some.now it) }
+    ensures { IfOk result (λ it. inner.AreHeldOf keys.now runs.now from.now some.now it) }
 {
     let mut out = Many::new(alloc);
     for number in some {
-        out = with_held(runs, *number, keys, out)?;
+        out = with_held(runs, from, *number, keys, out)?;
     }
     Ok(out)
 }
 
-// The numbers of all instances.
-fn all_numbers(alloc: Global, runs: &[Run]) -> Result<Many<usize>, Memory>
-    ensures { IfOk result (λ it. inner.AreAll runs.now it) }
-{
-    let mut out = Many::new(alloc);
-    let mut number = 0;
-    for _run in runs {
-        out.push(number)?;
-        number += 1;
+// How many instances have a key, where they are few.
+fn few_count(table: &Table, key: &Many<u8>) -> usize {
+    match table.few(key) {
+        Some(few) => few.len(),
+        None => usize::MAX,
     }
-    Ok(out)
 }
 
-// The place of the key that the fewest instances have; 0 where there is no key.
+// The place of the key that the fewest instances have, where they are few; 0 where they are not.
 fn rarest(table: &Table, keys: &[Many<u8>]) -> usize {
     let mut best = 0;
     let mut fewest = usize::MAX;
     let mut place = 0;
     for key in keys {
-        let count = table.count(key);
+        let count = few_count(table, key);
         if count < fewest {
             fewest = count;
             best = place;
@@ -129,43 +136,110 @@ fn rarest(table: &Table, keys: &[Many<u8>]) -> usize {
     best
 }
 
-// The numbers of the instances that have each of some keys, among those that have one of them.
-fn held_by(
+// Of a set of numbers, those that have a key.
+fn met_key(
     alloc: Global,
     table: &Table,
-    runs: &[Run],
-    keys: &[Many<u8>],
-    place: usize,
-) -> Result<Many<usize>, Memory>
-    requires { place < length keys.now }
-    ensures { IfOk result (λ it. (tables : Tables) (all : List Row) → inner.AreKnown tables all runs.now →
-        inner.IsTable tables all table.now.items runs.now runs.now → inner.AreHeld keys.now runs.now it) }
+    key: &Many<u8>,
+    numbers: Many<u64>,
+) -> Result<Many<u64>, Memory>
+    ensures { IfOk result (λ it. (n : ℕ) → bit_of it n
+        ≡ (bit_of numbers n && inner.has_at table.now.items key.now n)) }
 {
-    let key = &keys[place];
     match table.slot(key) {
-        Some(numbers) => Ok(held(alloc, runs, numbers.as_slice(), keys)?),
+        Some(members) => Ok(met_members(alloc, numbers, members)?),
         None => Ok(Many::new(alloc)),
     }
 }
 
-// The numbers of the instances that have each of some keys.
-fn numbers_of(
+// Of a set of numbers, those that have each of some keys.
+fn met_keys(
+    alloc: Global,
+    table: &Table,
+    from: &[u64],
+    keys: &[Many<u8>],
+) -> Result<Many<u64>, Memory>
+    ensures { IfOk result (λ it. (n : ℕ) → bit_of it n
+        ≡ (bit_of from.now n && inner.has_keys table.now.items keys.now n)) }
+{
+    let mut out = Many::from_vec(Vec::from_slice(alloc, from)?);
+    for key in keys {
+        out = met_key(alloc, table, key, out)?;
+    }
+    Ok(out)
+}
+
+// The numbers of a set whose instances have each of some keys, one of which has few numbers.
+fn held_few(
     alloc: Global,
     table: &Table,
     runs: &[Run],
+    from: &[u64],
     keys: &[Many<u8>],
-) -> Result<Many<usize>, Memory>
-    ensures { IfOk result (λ it. (tables : Tables) (all : List Row) → inner.AreKnown tables all runs.now →
-        inner.IsTable tables all table.now.items runs.now runs.now → inner.AreHeld keys.now runs.now it) }
+    place: usize,
+) -> Result<Option<Many<usize>>, Memory>
+    requires { place < length keys.now }
+    ensures { IfOk result (λ o. IfSome o (λ it. (here : Run → Bool) → inner.IsFrom runs.now here from.now →
+        inner.IsKeyed table.now.items runs.now → inner.AreListed keys.now runs.now here it)) }
+{
+    let key = &keys[place];
+    match table.few(key) {
+        Some(few) => Ok(Some(held(alloc, runs, from, few, keys)?)),
+        None => Ok(None),
+    }
+}
+
+// The numbers of a set whose instances have each of some keys, by the table.
+fn held_many(
+    alloc: Global,
+    table: &Table,
+    from: &[u64],
+    keys: &[Many<u8>],
+) -> Result<Members, Memory>
+    ensures { IfOk result (λ it. (whole : List Run) (here : Run → Bool) → inner.IsFrom whole here from.now →
+        inner.IsKeyed table.now.items whole → inner.AreHeld keys.now whole here it) }
+{
+    let numbers = met_keys(alloc, table, from, keys)?;
+    Ok(Members::of_bits(alloc, numbers))
+}
+
+// The numbers of a set whose instances have each of some keys, one of which is the rarest.
+fn members_by(
+    alloc: Global,
+    table: &Table,
+    runs: &[Run],
+    from: &[u64],
+    keys: &[Many<u8>],
+    place: usize,
+) -> Result<Members, Memory>
+    requires { place < length keys.now }
+    ensures { IfOk result (λ it. (here : Run → Bool) → inner.IsFrom runs.now here from.now →
+        inner.IsKeyed table.now.items runs.now → inner.AreHeld keys.now runs.now here it) }
+{
+    let found = held_few(alloc, table, runs, from, keys, place)?;
+    match found {
+        Some(few) => Ok(Members::of_list(alloc, few)),
+        None => Ok(held_many(alloc, table, from, keys)?),
+    }
+}
+
+// The numbers of a set whose instances have each of some keys.
+fn members_of(
+    alloc: Global,
+    table: &Table,
+    runs: &[Run],
+    from: &[u64],
+    keys: &[Many<u8>],
+) -> Result<Members, Memory>
+    ensures { IfOk result (λ it. (here : Run → Bool) → inner.IsFrom runs.now here from.now →
+        inner.IsKeyed table.now.items runs.now → inner.AreHeld keys.now runs.now here it) }
 {
     let place = rarest(table, keys);
     if place < keys.len() {
-        let found = held_by(alloc, table, runs, keys, place)?;
+        let found = members_by(alloc, table, runs, from, keys, place)?;
         return Ok(found);
     }
-    let numbers = all_numbers(alloc, runs)?;
-    let some = numbers.as_slice();
-    let found = held(alloc, runs, some, keys)?;
+    let found = held_many(alloc, table, from, keys)?;
     Ok(found)
 }
 
@@ -173,51 +247,61 @@ fn group_of<'a>(
     alloc: Global,
     table: &Table,
     runs: &[Run<'a>],
+    from: &[u64],
     class: Class<'a>,
 ) -> Result<Group<'a>, Memory>
-    ensures { IfOk result (λ it. (tables : Tables) (all : List Row) → inner.AreKnown tables all runs.now →
-        inner.IsTable tables all table.now.items runs.now runs.now → inner.IsGroup runs.now it class.entry) }
+    ensures { IfOk result (λ it. (here : Run → Bool) → inner.IsFrom runs.now here from.now →
+        inner.IsKeyed table.now.items runs.now → inner.IsGroup runs.now here it class.entry) }
 {
     let Class { keys, elems } = class;
-    let numbers = numbers_of(alloc, table, runs, keys.as_slice())?;
-    Ok(Group { numbers, elems })
+    let members = members_of(alloc, table, runs, from, keys.as_slice())?;
+    Ok(Group { members, elems })
 }
 
 // Groups with one more, unless its content matches hold nowhere.
-#[tactic(auto, using(crate::proofs::GroupLemmas::group_apart, crate::proofs::GroupLemmas::group_of_none))]
+#[tactic(auto, using(crate::proofs::GroupLemmas::group_apart))]
 fn with_some<'a>(groups: Many<Group<'a>>, group: Group<'a>) -> Result<Many<Group<'a>>, Memory>
     ensures { IfOk result (λ it. (whole : List Run) → inner.AddsGroup whole groups.entry it group.entry) }
 {
-    let mut groups = groups;
-    if !group.numbers.is_empty() {
-        groups.push(group)?;
+    if group.members.is_empty() {
+        return Ok(groups);
     }
+    let mut groups = groups;
+    groups.push(group)?;
     Ok(groups)
+}
+
+fn sorted_lists<'a>(groups: Many<Group<'a>>) -> Result<Many<Group<'a>>, Memory>
+    ensures { IfOk result (λ it. IsSame groups.entry it) }
+{
+    let mut items = groups.into_vec();
+    items.sort_by(|one, other| one.members.few.cmp(&other.members.few))?;
+    Ok(Many::from_vec(items))
 }
 
 fn sorted_groups<'a>(groups: Many<Group<'a>>) -> Result<Many<Group<'a>>, Memory>
     ensures { IfOk result (λ it. IsSame groups.entry it) }
 {
     let mut items = groups.into_vec();
-    items.sort_by(|one, other| one.numbers.cmp(&other.numbers))?;
+    items.sort_by(|one, other| one.members.words.cmp(&other.members.words))?;
     Ok(Many::from_vec(items))
 }
 
 // A group with the elements of another.
 fn joined<'a>(group: Group<'a>, other: Group<'a>) -> Result<Group<'a>, Memory>
-    ensures { IfOk result (λ it. (it.numbers ≡ group.entry.numbers)
+    ensures { IfOk result (λ it. (it.members ≡ group.entry.members)
         × (it.elems ≡ group.entry.elems ++ other.entry.elems)) }
 {
-    let Group { numbers, elems } = group;
+    let Group { members, elems } = group;
     let mut elems = elems;
     elems.append(other.elems)?;
-    Ok(Group { numbers, elems })
+    Ok(Group { members, elems })
 }
 
 fn is_same_group(one: &Group, other: &Group) -> bool
-    ensures { result ≡ true → one.now.numbers ≡ other.now.numbers }
+    ensures { result ≡ true → one.now.members ≡ other.now.members }
 {
-    one.numbers == other.numbers
+    is_alike(&one.members, &other.members)
 }
 
 // Groups with one more, whose elements go to the last where that has the same instances.
@@ -239,75 +323,39 @@ fn with_group<'a>(groups: Many<Group<'a>>, group: Group<'a>) -> Result<Many<Grou
     Ok(groups)
 }
 
-// A group for each class whose content matches hold somewhere.
-fn group_each<'a>(
+/// Groups with one for each class whose content matches hold in one of a set of instances.
+pub(crate) fn group_each<'a>(
     alloc: Global,
     table: &Table,
     runs: &[Run<'a>],
+    from: &[u64],
     classes: Many<Class<'a>>,
+    out: Many<Group<'a>>,
 ) -> Result<Many<Group<'a>>, Memory>
-    ensures { IfOk result (λ it. (tables : Tables) (all : List Row) → inner.AreKnown tables all runs.now →
-        inner.IsTable tables all table.now.items runs.now runs.now →
-        inner.AreGroups runs.now classes.entry it) }
+    ensures { IfOk result (λ it. (here : Run → Bool) → inner.IsFrom runs.now here from.now →
+        inner.IsKeyed table.now.items runs.now → inner.AddsGroups runs.now here classes.entry out.entry it) }
 {
     let mut rest = classes;
-    let mut out = Many::new(alloc);
+    let mut out = out;
     'classes: while let Some(class) = rest.pop() {
-        let group = group_of(alloc, table, runs, class)?;
+        let group = group_of(alloc, table, runs, from, class)?;
         out = with_some(out, group)?;
     }
     Ok(out)
 }
 
-/// Classes of elements by the instances in which their content matches hold, each set of instances once.
-pub(crate) fn groups<'a>(
+/// Groups, each set of instances once.
+pub(crate) fn joined_groups<'a>(
     alloc: Global,
-    table: &Table,
-    runs: &[Run<'a>],
-    classes: Many<Class<'a>>,
+    groups: Many<Group<'a>>,
 ) -> Result<Many<Group<'a>>, Memory>
-    ensures { IfOk result (λ it. (tables : Tables) (all : List Row) → inner.AreKnown tables all runs.now →
-        inner.IsTable tables all table.now.items runs.now runs.now →
-        inner.AreGroups runs.now classes.entry it) }
+    ensures { IfOk result (λ it. inner.AreSameGroups groups.entry it) }
 {
-    let each = group_each(alloc, table, runs, classes)?;
-    let mut rest = sorted_groups(each)?;
+    let by_list = sorted_lists(groups)?;
+    let mut rest = sorted_groups(by_list)?;
     let mut out = Many::new(alloc);
     'groups: while let Some(group) = rest.pop() {
         out = with_group(out, group)?;
-    }
-    Ok(out)
-}
-
-// Adds the rows of the instance of a number.
-fn with_rows<'a>(
-    runs: &[Run<'a>],
-    number: usize,
-    out: Many<&'a Row>,
-) -> Result<Many<&'a Row>, Memory>
-    ensures { IfOk result (λ it. inner.PutsRowsAt runs.now number
-        (map (λ row. row.now) out.entry) (map (λ row. row.now) it)) }
-{
-    match runs.get(number) {
-        Some(run) => {
-            let more = extended(out, run.rows.as_slice())?;
-            Ok(more)
-        }
-        None => Ok(out),
-    }
-}
-
-/// The rows of the instances of some numbers.
-pub(crate) fn rows_at<'a>(
-    alloc: Global,
-    runs: &[Run<'a>],
-    numbers: &[usize],
-) -> Result<Many<&'a Row>, Memory>
-    ensures { IfOk result (λ it. inner.AreRowsAt runs.now numbers.now (map (λ row. row.now) it)) }
-{
-    let mut out = Many::new(alloc);
-    for number in numbers {
-        out = with_rows(runs, *number, out)?;
     }
     Ok(out)
 }

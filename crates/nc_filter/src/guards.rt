@@ -1,15 +1,15 @@
-//! Elements by the content matches at their levels (RFC 6241 6.2.5).
+//! Elements by what they ask for of an instance: names, and content matches at their levels (RFC 6241 6.2.5).
 ghost use Rattle.std.specs.Prelude.{◌≡◌, ◌∷◌, ◌++◌, [], ◌||◌, ◌+◌, ℕ, true, Bool, List, IfOk, map};
 ghost use Rattle.std.specs.List.{list_any};
 ghost use Rattle.nc_filter.specs.inner.Runs as inner;
 ghost use Rattle.nc_filter.specs.inner.Lists.{AddsOne, IsLast, IsSame};
 
-use crate::keys::asked;
+use crate::instances::asked_in;
 use nc_message::Elem;
 use nc_names::{Many, Memory};
 use std::alloc::Global;
 
-/// Elements whose levels have the same content matches, and what those ask for.
+/// Elements that ask for the same of an instance, and what that is.
 #[derive(Drop)]
 pub(crate) struct Class<'a> {
     pub(crate) keys: Many<Many<u8>>,
@@ -57,22 +57,26 @@ pub(crate) fn unique(alloc: Global, keys: Many<Many<u8>>) -> Result<Many<Many<u8
     Ok(out)
 }
 
-fn class_of<'a>(alloc: Global, elem: &'a Elem) -> Result<Class<'a>, Memory>
-    ensures { IfOk result (λ it. inner.IsClass it elem.now) }
+fn class_of<'a>(alloc: Global, upper: Option<usize>, elem: &'a Elem) -> Result<Class<'a>, Memory>
+    ensures { IfOk result (λ it. inner.IsClass upper it elem.now) }
 {
-    let keys = unique(alloc, asked(alloc, elem)?)?;
+    let keys = unique(alloc, asked_in(alloc, upper, elem)?)?;
     let mut elems = Many::new(alloc);
     elems.push(elem)?;
     Ok(Class { keys, elems })
 }
 
 // A class for each element.
-fn class_each<'a>(alloc: Global, elems: &[&'a Elem]) -> Result<Many<Class<'a>>, Memory>
-    ensures { IfOk result (λ it. inner.AreClasses (map (λ elem. elem.now) elems.now) it) }
+fn class_each<'a>(
+    alloc: Global,
+    upper: Option<usize>,
+    elems: &[&'a Elem],
+) -> Result<Many<Class<'a>>, Memory>
+    ensures { IfOk result (λ it. inner.AreClasses upper (map (λ elem. elem.now) elems.now) it) }
 {
     let mut out = Many::new(alloc);
     for elem in elems {
-        out.push(class_of(alloc, elem)?)?;
+        out.push(class_of(alloc, upper, elem)?)?;
     }
     Ok(out)
 }
@@ -121,11 +125,15 @@ fn with_class<'a>(classes: Many<Class<'a>>, class: Class<'a>) -> Result<Many<Cla
     Ok(classes)
 }
 
-/// Some elements by the content matches of their levels, each set of them once.
-pub(crate) fn classes<'a>(alloc: Global, elems: &[&'a Elem]) -> Result<Many<Class<'a>>, Memory>
-    ensures { IfOk result (λ it. inner.AreClasses (map (λ elem. elem.now) elems.now) it) }
+/// Some elements by what they ask for, each set of it once.
+pub(crate) fn classes<'a>(
+    alloc: Global,
+    upper: Option<usize>,
+    elems: &[&'a Elem],
+) -> Result<Many<Class<'a>>, Memory>
+    ensures { IfOk result (λ it. inner.AreClasses upper (map (λ elem. elem.now) elems.now) it) }
 {
-    let each = class_each(alloc, elems)?;
+    let each = class_each(alloc, upper, elems)?;
     let mut rest = sorted_classes(each)?;
     let mut out = Many::new(alloc);
     'classes: while let Some(class) = rest.pop() {

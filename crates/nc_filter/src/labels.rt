@@ -1,8 +1,8 @@
-//! Labels: what the elements of a level without containment nodes select, and what a row is selected by.
-ghost use Rattle.std.specs.Prelude.{◌≡◌, ◌∷◌, ◌++◌, ◌+◌, ◌<◌, ◌^◌, [], if◌then◌else◌, not, IfOk, map, slice_get};
-ghost use Rattle.std.specs.List.{filter};
+//! Labels: what the elements of a level select but for its containment nodes, and what a row is selected by.
+ghost use Rattle.std.specs.Prelude.{◌≡◌, ◌∷◌, ◌++◌, ◌+◌, ◌<◌, ◌^◌, [], if◌then◌else◌, IfOk, map, slice_get};
 ghost use Rattle.std.specs.Option.{option_map_or};
 ghost use Rattle.nc_model.specs.Filter as meant;
+ghost use Rattle.nc_filter.specs.inner.Keys.{node_labels};
 ghost use Rattle.nc_filter.specs.inner.Labels as labels;
 
 use crate::element::{child, is_containment, is_content_match};
@@ -10,28 +10,13 @@ use crate::keys::{elem_key, key, name_key, row_keys};
 use crate::level::is_of_matches;
 use crate::rows::{ends, node_at};
 use crate::texts::bytes_of;
-use nc_message::{Elem, Part};
+use nc_message::Elem;
 use nc_names::{Many, Memory, Row};
 use nc_schema::{Node, Schema};
 use std::alloc::Global;
 
-fn is_shallow(part: &Part) -> bool
-    ensures { result ≡ labels.is_shallow part.now }
-{
-    match child(part) {
-        Some(elem) => !is_containment(elem),
-        None => true,
-    }
-}
-
-/// Whether no containment node stands at the level of an element.
-pub(crate) fn is_flat(elem: &Elem) -> bool
-    ensures { result ≡ labels.is_flat elem.now }
-{
-    elem.parts.as_slice().iter().all(|part| is_shallow(part))
-}
-
-fn tagged(alloc: Global, tag: u8, key: Many<u8>) -> Result<Many<u8>, Memory>
+/// A key with a tag before it.
+pub(crate) fn tagged(alloc: Global, tag: u8, key: Many<u8>) -> Result<Many<u8>, Memory>
     ensures { IfOk result (λ it. it ≡ tag ∷ key) }
 {
     let mut out = Many::new(alloc);
@@ -61,21 +46,23 @@ fn whole_label(alloc: Global, elem: &Elem) -> Result<Many<Many<u8>>, Memory>
     Ok(out)
 }
 
-/// The labels of the level of an element.
+/// The labels of the level of an element; containment nodes have none.
 pub(crate) fn level_labels(alloc: Global, elem: &Elem) -> Result<Many<Many<u8>>, Memory>
     ensures { IfOk result (λ it. it ≡ labels.level_labels elem.now) }
 {
     let mut out = whole_label(alloc, elem)?;
     for part in elem.parts.as_slice() {
         if let Some(inner) = child(part) {
-            out.push(elem_label(alloc, inner)?)?;
+            if !is_containment(inner) {
+                out.push(elem_label(alloc, inner)?)?;
+            }
         }
     }
     Ok(out)
 }
 
 fn node_labels(alloc: Global, node: &Node) -> Result<Many<Many<u8>>, Memory>
-    ensures { IfOk result (λ it. it ≡ labels.node_labels node.now) }
+    ensures { IfOk result (λ it. it ≡ node_labels node.now) }
 {
     let space = node.name.space.as_str().as_bytes();
     let name = node.name.name.as_str().as_bytes();
@@ -85,8 +72,13 @@ fn node_labels(alloc: Global, node: &Node) -> Result<Many<Many<u8>>, Memory>
     Ok(out)
 }
 
-fn named_labels(alloc: Global, schema: &Schema, number: u32) -> Result<Many<Many<u8>>, Memory>
-    ensures { IfOk result (λ it. it ≡ option_map_or labels.node_labels (slice_get schema.now.nodes number) []) }
+/// The labels of the name of a data node.
+pub(crate) fn named_labels(
+    alloc: Global,
+    schema: &Schema,
+    number: u32,
+) -> Result<Many<Many<u8>>, Memory>
+    ensures { IfOk result (λ it. it ≡ option_map_or node_labels (slice_get schema.now.nodes number) []) }
 {
     match schema.node(number) {
         Some(node) => Ok(node_labels(alloc, node)?),
@@ -94,8 +86,8 @@ fn named_labels(alloc: Global, schema: &Schema, number: u32) -> Result<Many<Many
     }
 }
 
-// Adds keys, as labels of texts.
-fn with_texts(
+/// Adds keys, as labels of texts.
+pub(crate) fn with_texts(
     alloc: Global,
     out: Many<Many<u8>>,
     keys: &[Many<u8>],
@@ -147,32 +139,4 @@ pub(crate) fn row_labels(
         }
         None => Ok(out),
     }
-}
-
-/// Those of some elements at whose levels no containment node stands.
-pub(crate) fn flats<'a>(alloc: Global, elems: &[&'a Elem]) -> Result<Many<&'a Elem>, Memory>
-    ensures { IfOk result (λ it. map (λ elem. elem.now) it
-        ≡ filter labels.is_flat (map (λ elem. elem.now) elems.now)) }
-{
-    let mut out = Many::new(alloc);
-    for elem in elems {
-        if is_flat(elem) {
-            out.push(*elem)?;
-        }
-    }
-    Ok(out)
-}
-
-/// The others.
-pub(crate) fn deeps<'a>(alloc: Global, elems: &[&'a Elem]) -> Result<Many<&'a Elem>, Memory>
-    ensures { IfOk result (λ it. map (λ elem. elem.now) it
-        ≡ filter (λ elem. not (labels.is_flat elem)) (map (λ elem. elem.now) elems.now)) }
-{
-    let mut out = Many::new(alloc);
-    for elem in elems {
-        if !is_flat(elem) {
-            out.push(*elem)?;
-        }
-    }
-    Ok(out)
 }

@@ -3,25 +3,33 @@
 //!
 //! `select` gives exactly the rows that the definition `selected` says, whatever the filter and the rows are.
 //!
-//! The filter is read level by level, and each level meets all rows of its instances at once. Elements whose
-//! content matches hold in the same instances are joined, content matches are looked up among the values of
-//! the rows, and elements by the names of the data nodes. What levels without containment nodes select is looked
-//! up by labels, so that no row is visited for each of many sets of instances.
+//! The filter is read level by level, and each level meets all rows of its instances at once. Elements that
+//! ask for the same are joined, content matches are looked up among the values of the rows, and elements by
+//! the names of the data nodes. From the first content match on, groups of elements go down with the sets of
+//! instances in which they hold; sets are lists of numbers or bits, and what a level selects is looked up by
+//! labels. So the rows below an instance are visited once, however many groups reach it.
 #![tactic(auto)]
 
+mod asked;
+mod bits;
+mod descent;
 mod element;
 mod flat;
 mod groups;
 mod guards;
 mod index;
+mod instances;
 mod keys;
 mod labels;
 mod level;
+mod members;
 mod names;
 mod places;
+mod reach;
 mod rows;
 mod runs;
 mod selection;
+mod slots;
 mod spots;
 mod table;
 mod text;

@@ -6,7 +6,7 @@ ghost use Rattle.nc_filter.specs.inner.Runs as runs;
 
 use crate::element::is_named;
 use crate::keys::{key, name_key};
-use crate::table::with_key;
+use crate::slots::with_key;
 use nc_message::Elem;
 use nc_names::{Many, Memory};
 use nc_schema::{Node, Schema};

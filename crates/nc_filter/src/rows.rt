@@ -8,6 +8,13 @@ ghost use Rattle.nc_filter.specs.inner.Picks as picks;
 use nc_names::{Many, Memory, Row};
 use std::alloc::Global;
 
+/// A row with the number of its instance.
+#[derive(Drop)]
+pub(crate) struct Spot<'a> {
+    pub(crate) number: usize,
+    pub(crate) row: &'a Row,
+}
+
 /// The data node at a depth of the path to a row.
 pub(crate) fn node_at(depth: usize, row: &Row) -> Option<u32>
     ensures value { result ≡ picks.node_at depth row.now }

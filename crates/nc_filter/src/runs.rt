@@ -1,22 +1,25 @@
-//! Rows by the instances at a depth above them.
-ghost use Rattle.std.specs.Prelude.{◌≡◌, ◌∷◌, ◌++◌, [], ℕ, List, IfOk, map, take, min};
+//! Rows by the instances at a depth above them, each with the number of the instance in which that stands.
+ghost use Rattle.std.specs.Prelude.{◌≡◌, ◌∷◌, ◌++◌, [], ℕ, true, List, IfOk, map, take, min};
 ghost use Rattle.nc_names.specs.Same.{is_same_path};
 ghost use Rattle.nc_names.specs.declared.path.Row.{Row};
+ghost use Rattle.nc_filter.specs.declared.rows.Spot.{Spot};
 ghost use Rattle.nc_filter.specs.inner.Keys.{among};
 ghost use Rattle.nc_filter.specs.inner.Runs.{AreKnown, AreRuns, IsKnown};
 ghost use Rattle.nc_filter.specs.inner.Tables.{IsIndex, has_text};
 
 use crate::index::Index;
-use crate::keys::keys_in;
+use crate::instances::instance_keys;
+use crate::rows::Spot;
 use crate::texts::{bytes_of, with_text};
 use nc_names::{Many, Memory, Row, Step, same_steps};
 use nc_schema::Schema;
 use std::alloc::Global;
 use std::collections::BTreeSet;
 
-/// An instance with the keys of the rows directly in it, and some of the rows at or below it.
+/// An instance with what it has that elements ask for, and some of the rows at or below it.
 #[derive(Drop)]
 pub(crate) struct Run<'a> {
+    pub(crate) parent: usize,
     pub(crate) above: &'a [Step],
     pub(crate) keys: BTreeSet<Many<u8>>,
     pub(crate) rows: Many<&'a Row>,
@@ -31,14 +34,25 @@ fn front(depth: usize, steps: &[Step]) -> &[Step]
 
 // A run with a row more, which stands in the same instance.
 fn with_row<'a>(run: Run<'a>, row: &'a Row) -> Result<Run<'a>, Memory>
-    ensures same { IfOk result (λ it. (it.above ≡ run.entry.above) × (it.keys ≡ run.entry.keys)) }
+    ensures same { IfOk result (λ it. (it.parent ≡ run.entry.parent)
+        × (it.above ≡ run.entry.above) × (it.keys ≡ run.entry.keys)) }
     ensures more { IfOk result (λ it.
         map (λ row. row.now) it.rows ≡ map (λ row. row.now) run.entry.rows ++ row.now ∷ []) }
 {
-    let Run { above, keys, rows } = run;
+    let Run {
+        parent,
+        above,
+        keys,
+        rows,
+    } = run;
     let mut rows = rows;
     rows.push(row)?;
-    Ok(Run { above, keys, rows })
+    Ok(Run {
+        parent,
+        above,
+        keys,
+        rows,
+    })
 }
 
 // The set of some keys.
@@ -56,19 +70,36 @@ fn new_run<'a>(
     alloc: Global,
     schema: &Schema,
     index: &Index<'a>,
+    upper: Option<usize>,
+    parent: usize,
     above: &'a [Step],
     row: &'a Row,
 ) -> Result<Run<'a>, Memory>
-    ensures rows { IfOk result (λ it. (it.above ≡ above.entry)
+    ensures rows { IfOk result (λ it. (it.parent ≡ parent) × (it.above ≡ above.entry)
         × (map (λ row. row.now) it.rows ≡ row.now ∷ [])) }
     ensures keys { IfOk result (λ it. (all : List Row) → IsIndex index.now.table all →
-        IsKnown schema.now all it) }
+        IsKnown schema.now all upper it) }
 {
-    let inside = keys_in(alloc, schema, index, above)?;
+    let inside = instance_keys(alloc, schema, index, upper, above)?;
     let keys = key_set(alloc, inside.as_slice())?;
     let mut rows = Many::new(alloc);
     rows.push(row)?;
-    Ok(Run { above, keys, rows })
+    Ok(Run {
+        parent,
+        above,
+        keys,
+        rows,
+    })
+}
+
+// Whether a run is that of an instance.
+fn is_run(run: &Run, parent: usize, above: &[Step]) -> bool
+    ensures { result ≡ true → (run.now.parent ≡ parent) × (run.now.above.now ≡ above.now) }
+{
+    if run.parent == parent {
+        return same_steps(run.above, above);
+    }
+    false
 }
 
 // Runs with a row more.
@@ -77,26 +108,29 @@ fn with_next<'a>(
     schema: &Schema,
     index: &Index<'a>,
     depth: usize,
+    upper: Option<usize>,
     runs: Many<Run<'a>>,
-    row: &'a Row,
+    spot: &Spot<'a>,
 ) -> Result<Many<Run<'a>>, Memory>
-    ensures runs { IfOk result (λ it. (rows : List Row) → AreRuns depth rows runs.entry →
-        AreRuns depth (rows ++ row.now ∷ []) it) }
+    ensures runs { IfOk result (λ it. (spots : List Spot) → AreRuns depth spots runs.entry →
+        AreRuns depth (spots ++ spot.now ∷ []) it) }
     ensures known { IfOk result (λ it. (all : List Row) → IsIndex index.now.table all →
-        AreKnown schema.now all runs.entry → AreKnown schema.now all it) }
+        AreKnown schema.now all upper runs.entry → AreKnown schema.now all upper it) }
 {
+    let number = spot.number;
+    let row = spot.row;
     let above = front(depth, row.path.steps.as_slice());
     let mut runs = runs;
     let Some(last) = runs.pop() else {
-        runs.push(new_run(alloc, schema, index, above, row)?)?;
+        runs.push(new_run(alloc, schema, index, upper, number, above, row)?)?;
         return Ok(runs);
     };
-    if same_steps(last.above, above) {
+    if is_run(&last, number, above) {
         runs.push(with_row(last, row)?)?;
         return Ok(runs);
     }
     runs.push(last)?;
-    runs.push(new_run(alloc, schema, index, above, row)?)?;
+    runs.push(new_run(alloc, schema, index, upper, number, above, row)?)?;
     Ok(runs)
 }
 
@@ -106,15 +140,16 @@ pub(crate) fn cut<'a>(
     schema: &Schema,
     index: &Index<'a>,
     depth: usize,
-    rows: &[&'a Row],
+    upper: Option<usize>,
+    spots: &[Spot<'a>],
 ) -> Result<Many<Run<'a>>, Memory>
-    ensures runs { IfOk result (λ it. AreRuns depth (map (λ row. row.now) rows.now) it) }
+    ensures runs { IfOk result (λ it. AreRuns depth spots.now it) }
     ensures known { IfOk result (λ it. (all : List Row) → IsIndex index.now.table all →
-        AreKnown schema.now all it) }
+        AreKnown schema.now all upper it) }
 {
     let mut runs = Many::new(alloc);
-    for row in rows {
-        runs = with_next(alloc, schema, index, depth, runs, row)?;
+    for spot in spots {
+        runs = with_next(alloc, schema, index, depth, upper, runs, spot)?;
     }
     Ok(runs)
 }

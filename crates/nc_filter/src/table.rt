@@ -1,14 +1,16 @@
-//! Numbers by keys, and the instances by the keys of the rows directly in them, in which content matches are
-//! looked up (RFC 6241 6.2.5).
-ghost use Rattle.std.specs.Prelude.{length, ◌≡◌, [], List, IfOk};
+//! The instances by what they have that elements ask for: names, and what content matches look up
+//! (RFC 6241 6.2.5).
+ghost use Rattle.std.specs.Prelude.{◌≡◌, ◌==◌, ℕ, false, List, IfOk, IfSome};
+ghost use Rattle.std.specs.List.{list_any};
 ghost use Rattle.std.specs.Option.{option_copied, option_map_or};
 ghost use Rattle.nc_names.specs.declared.path.Row.{Row};
 ghost use Rattle.nc_filter.specs.inner.Runs as runs;
-ghost use Rattle.nc_filter.specs.inner.Keys as keys;
+ghost use Rattle.nc_filter.specs.inner.Sets.{has};
 ghost use Rattle.nc_filter.specs.inner.Tables.{IsIndex};
 
 use crate::index::Index;
-use crate::keys::keys_in;
+use crate::instances::instance_keys;
+use crate::members::{Members, with_number};
 use crate::runs::Run;
 use crate::texts::bytes_of;
 use nc_names::{Many, Memory};
@@ -16,47 +18,45 @@ use nc_schema::Schema;
 use std::alloc::Global;
 use std::collections::BTreeMap;
 
-/// Numbers by keys.
+/// Sets of numbers by keys.
 #[derive(Drop)]
 pub(crate) struct Table {
-    pub(crate) items: BTreeMap<Many<u8>, Many<usize>>,
+    pub(crate) items: BTreeMap<Many<u8>, Members>,
 }
 
 // Takes the numbers of a key out of the table.
-fn taken(alloc: Global, items: &mut BTreeMap<Many<u8>, Many<usize>>, key: &Many<u8>) -> Many<usize>
-    ensures found { result ≡ runs.in_slot items.old key.now }
-    ensures others { runs.without_slot key.now items.old items.new }
+fn taken(alloc: Global, items: &mut BTreeMap<Many<u8>, Members>, key: &Many<u8>) -> Members
+    ensures found { (n : ℕ) → has result n ≡ runs.has_at items.old key.now n }
+    ensures others { runs.without_members key.now items.old items.new }
 {
     match items.remove(key) {
         Some(inside) => inside,
-        None => Many::new(alloc),
+        None => Members::new(alloc),
     }
 }
 
-/// A number more at a key.
-pub(crate) fn with_key(
+fn with_key(
     alloc: Global,
-    items: BTreeMap<Many<u8>, Many<usize>>,
+    items: BTreeMap<Many<u8>, Members>,
     key: Many<u8>,
     number: usize,
-) -> Result<BTreeMap<Many<u8>, Many<usize>>, Memory>
-    ensures { IfOk result (λ it. runs.adds_key items it key number) }
+) -> Result<BTreeMap<Many<u8>, Members>, Memory>
+    ensures { IfOk result (λ it. runs.marks_key items it key number) }
 {
     let mut items = items;
-    let mut inside = taken(alloc, &mut items, &key);
-    inside.push(number)?;
-    items.insert(key, inside)?;
+    let inside = taken(alloc, &mut items, &key);
+    let more = with_number(alloc, inside, number)?;
+    items.insert(key, more)?;
     Ok(items)
 }
 
-/// A number more at each of some keys.
-pub(crate) fn with_keys(
+fn with_keys(
     alloc: Global,
-    items: BTreeMap<Many<u8>, Many<usize>>,
+    items: BTreeMap<Many<u8>, Members>,
     keys: &[Many<u8>],
     number: usize,
-) -> Result<BTreeMap<Many<u8>, Many<usize>>, Memory>
-    ensures { IfOk result (λ it. runs.adds_keys items it keys.now number) }
+) -> Result<BTreeMap<Many<u8>, Members>, Memory>
+    ensures { IfOk result (λ it. runs.marks_keys items it keys.now number) }
 {
     let mut items = items;
     for key in keys {
@@ -70,17 +70,38 @@ fn with_run<'a>(
     alloc: Global,
     schema: &Schema,
     index: &Index<'a>,
-    items: BTreeMap<Many<u8>, Many<usize>>,
+    upper: Option<usize>,
+    items: BTreeMap<Many<u8>, Members>,
     run: &Run<'a>,
     number: usize,
-) -> Result<BTreeMap<Many<u8>, Many<usize>>, Memory>
+) -> Result<BTreeMap<Many<u8>, Members>, Memory>
     ensures { IfOk result (λ it. (all : List Row) → IsIndex index.now.table all →
-        runs.Puts items it (runs.has_key schema.now all run.now) number) }
+        runs.Marks items it (runs.has_key schema.now all upper run.now) number) }
 {
-    let keys = keys_in(alloc, schema, index, run.above)?;
+    let keys = instance_keys(alloc, schema, index, upper, run.above)?;
     let inside = keys.as_slice();
     let more = with_keys(alloc, items, inside, number)?;
     Ok(more)
+}
+
+// The numbers of a list, where it is short.
+fn short_list(few: &Many<usize>) -> Option<&[usize]>
+    ensures { IfSome result (λ list. list.now ≡ few.now) }
+{
+    if few.len() > 8 {
+        return None;
+    }
+    Some(few.as_slice())
+}
+
+// The numbers of a set, where they are few.
+fn few_of(members: &Members) -> Option<&[usize]>
+    ensures { IfSome result (λ few. (n : ℕ) → list_any (λ one. one == n) few.now ≡ has members.now n) }
+{
+    if members.words.is_empty() {
+        return short_list(&members.few);
+    }
+    None
 }
 
 impl Table {
@@ -89,35 +110,37 @@ impl Table {
         alloc: Global,
         schema: &Schema,
         index: &Index<'a>,
+        upper: Option<usize>,
         rows: &[Run<'a>],
     ) -> Result<Table, Memory>
         ensures { IfOk result (λ it. (all : List Row) → IsIndex index.now.table all →
-            runs.IsTable schema.now all it.items rows.now rows.now) }
+            runs.IsTable schema.now all upper it.items rows.now) }
     {
         let mut items = BTreeMap::new(alloc);
         let mut number = 0;
         for run in rows {
-            items = with_run(alloc, schema, index, items, run, number)?;
+            items = with_run(alloc, schema, index, upper, items, run, number)?;
             number += 1;
         }
         Ok(Table { items })
     }
 
     /// The numbers that have a key; `None` where there is none.
-    pub(crate) fn slot(&self, key: &Many<u8>) -> Option<&Many<usize>>
-        ensures { option_map_or (λ numbers. numbers) (option_copied result) []
-            ≡ runs.in_slot self.now.items key.now }
+    pub(crate) fn slot(&self, key: &Many<u8>) -> Option<&Members>
+        ensures { (n : ℕ) → option_map_or (λ members. has members n) (option_copied result) false
+            ≡ runs.has_at self.now.items key.now n }
     {
         self.items.get(key)
     }
 
-    /// How many numbers have a key.
-    pub(crate) fn count(&self, key: &Many<u8>) -> usize
-        ensures { result ≡ length (runs.in_slot self.now.items key.now) }
+    /// The numbers that have a key, where they are few.
+    pub(crate) fn few(&self, key: &Many<u8>) -> Option<&[usize]>
+        ensures { IfSome result (λ few. (n : ℕ) → list_any (λ one. one == n) few.now
+            ≡ runs.has_at self.now.items key.now n) }
     {
         match self.slot(key) {
-            Some(numbers) => numbers.len(),
-            None => 0,
+            Some(members) => few_of(members),
+            None => Some(&[]),
         }
     }
 }

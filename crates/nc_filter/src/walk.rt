@@ -1,25 +1,20 @@
 //! The filter from the top down: which of some rows the elements of a level select (RFC 6241 6.2).
-ghost use Rattle.std.specs.Prelude.{◌≡◌, ◌+◌, ◌<◌, ◌≤◌, ◌^◌, ◌&&◌, ◌||◌, not, List, IfOk, OnSome};
+ghost use Rattle.std.specs.Prelude.{◌≡◌, ◌+◌, ◌<◌, ◌≤◌, ◌^◌, ◌&&◌, ◌||◌, List, IfOk, OnSome};
 ghost use Rattle.std.specs.Prelude.{length, map, take};
-ghost use Rattle.std.specs.List.{filter, list_any};
+ghost use Rattle.std.specs.List.{list_any};
 ghost use Rattle.nc_names.specs.declared.path.Row.{Row};
-ghost use Rattle.nc_filter.specs.inner.Labels.{is_flat};
 ghost use Rattle.nc_filter.specs.inner.Names as names;
 ghost use Rattle.nc_filter.specs.inner.Picks as picks;
-ghost use Rattle.nc_filter.specs.inner.Runs as inner;
 ghost use Rattle.nc_filter.specs.inner.Tables.{IsIndex};
 
-use crate::flat::pick_flat;
-use crate::groups::{groups, rows_at};
-use crate::guards::classes;
+use crate::descent::pick_wants;
 use crate::index::Index;
-use crate::labels::deeps;
 use crate::level::{containments, has_level_of_matches, has_match, has_selection, levels_of};
 use crate::names::Level;
 use crate::rows::{by_node, count_node, extended, first_node, listed, with_node};
-use crate::runs::{Run, cut};
-use crate::table::Table;
+use crate::spots::push_rows;
 use crate::texts::matched;
+use crate::wants::first_wants;
 use nc_message::Elem;
 use nc_names::{Many, Memory, Row, tail};
 use nc_schema::Schema;
@@ -177,7 +172,6 @@ fn pick_open<'a>(
 }
 
 // Adds those of some rows that the levels of some elements select, in which content matches stand.
-#[cycle(pick)]
 fn pick_guarded<'a>(
     alloc: Global,
     schema: &Schema,
@@ -192,42 +186,11 @@ fn pick_guarded<'a>(
         (λ row. list_any (picks.within schema.now all depth row) (map (λ elem. elem.now) elems.now))
         (map (λ row. row.now) rows.now)) }
 {
-    let runs = cut(alloc, schema, index, depth, rows)?;
-    let whole = runs.as_slice();
-    let table = Table::new(alloc, schema, index, whole)?;
-    let found = pick_flat(alloc, schema, depth, &table, whole, elems, out)?;
-    let more = pick_deep(alloc, schema, index, depth, &table, whole, elems, found)?;
-    Ok(more)
-}
-
-// Adds those rows of some instances that the levels of some elements select, at which containment nodes stand.
-#[cycle(pick)]
-fn pick_deep<'a>(
-    alloc: Global,
-    schema: &Schema,
-    index: &Index<'a>,
-    depth: usize,
-    table: &Table,
-    whole: &[Run<'a>],
-    elems: &[&'a Elem],
-    out: Many<&'a Row>,
-) -> Result<Many<&'a Row>, Memory>
-    ensures { IfOk result (λ it. (all rows : List Row) → IsIndex index.now.table all →
-        inner.AreRuns depth rows whole.now → inner.AreKnown schema.now all whole.now →
-        inner.IsTable schema.now all table.now.items whole.now whole.now →
-        picks.Adds (map (λ row. row.now) out.entry) (map (λ row. row.now) it)
-        (λ row. list_any (picks.within schema.now all depth row)
-        (filter (λ elem. not (is_flat elem)) (map (λ elem. elem.now) elems.now))) rows) }
-{
-    let deep = deeps(alloc, elems)?;
-    let classes = classes(alloc, deep.as_slice())?;
-    let groups = groups(alloc, table, whole, classes)?;
-    let mut out = out;
-    for group in groups.as_slice() {
-        let held = rows_at(alloc, whole, group.numbers.as_slice())?;
-        let some = group.elems.as_slice();
-        let here = held.as_slice();
-        out = pick_open(alloc, schema, index, depth, some, here, out)?;
-    }
-    Ok(out)
+    let none = Many::new(alloc);
+    let spots = push_rows(none, 0, rows)?;
+    let places = spots.as_slice();
+    let wants = first_wants(alloc, elems)?;
+    let some = wants.as_slice();
+    let found = pick_wants(alloc, schema, index, depth, None, places, some, out)?;
+    Ok(found)
 }

@@ -1,26 +1,30 @@
-//! The labels that groups of elements select by, with the instances in which they do.
-ghost use Rattle.std.specs.Prelude.{◌≡◌, ◌==◌, ◌++◌, ◌||◌, ℕ, IfOk, map};
-ghost use Rattle.std.specs.List.{flat_map, list_any};
-ghost use Rattle.std.specs.BTreeSet.{contains};
-ghost use Rattle.std.specs.Ordering.{nat_cmp};
+//! What groups of elements want in their instances: rows with labels, and what containment nodes select
+//! below.
+ghost use Rattle.std.specs.Prelude.{◌≡◌, ◌++◌, ◌||◌, ℕ, IfOk, map};
+ghost use Rattle.std.specs.List.{flat_map};
 ghost use Rattle.nc_filter.specs.inner.Labels as inner;
 ghost use Rattle.nc_filter.specs.inner.Lists.{IsSame};
+ghost use Rattle.nc_filter.specs.inner.Sets.{bit_of, has};
 
 use crate::groups::Group;
 use crate::guards::unique;
 use crate::labels::level_labels;
-use crate::table::with_keys;
+use crate::level::{containments, levels_of};
+use crate::members::{Members, joined_members};
+use crate::slots::with_keys;
 use crate::texts::bytes_of;
 use nc_message::Elem;
 use nc_names::{Many, Memory};
 use std::alloc::Global;
-use std::collections::{BTreeMap, BTreeSet};
+use std::collections::BTreeMap;
 
-/// Labels, and the numbers of the instances in which they select.
+/// The numbers of instances, the labels of rows in them, and the containment nodes whose instances are
+/// below them.
 #[derive(Drop)]
-pub(crate) struct Want {
-    pub(crate) numbers: Many<usize>,
+pub(crate) struct Want<'a> {
+    pub(crate) members: Members,
     pub(crate) labels: Many<Many<u8>>,
+    pub(crate) elems: Many<&'a Elem>,
 }
 
 fn labels_of(alloc: Global, elems: &[&Elem]) -> Result<Many<Many<u8>>, Memory>
@@ -33,19 +37,32 @@ fn labels_of(alloc: Global, elems: &[&Elem]) -> Result<Many<Many<u8>>, Memory>
     Ok(unique(alloc, out)?)
 }
 
-fn want_of<'a>(alloc: Global, group: Group<'a>) -> Result<Want, Memory>
-    ensures { IfOk result (λ it. (it.numbers ≡ group.entry.numbers) × IsSame (inner.group_labels group.entry) it.labels) }
+// The containment nodes at the levels of some elements.
+fn elems_below<'a>(alloc: Global, elems: &[&'a Elem]) -> Result<Many<&'a Elem>, Memory>
+    ensures { IfOk result (λ it. map (λ elem. elem.now) it
+        ≡ inner.below_of (map (λ elem. elem.now) elems.now)) }
 {
-    let Group { numbers, elems } = group;
-    let all = labels_of(alloc, elems.as_slice())?;
+    let below = levels_of(alloc, elems)?;
+    let found = containments(alloc, below.as_slice())?;
+    Ok(found)
+}
+
+fn want_of<'a>(alloc: Global, group: Group<'a>) -> Result<Want<'a>, Memory>
+    ensures { IfOk result (λ it. inner.IsWant group.entry it) }
+{
+    let Group { members, elems } = group;
+    let some = elems.as_slice();
+    let all = labels_of(alloc, some)?;
+    let below = elems_below(alloc, some)?;
     Ok(Want {
-        numbers,
+        members,
         labels: all,
+        elems: below,
     })
 }
 
-/// The labels of groups.
-pub(crate) fn wants<'a>(alloc: Global, groups: Many<Group<'a>>) -> Result<Many<Want>, Memory>
+/// What groups want.
+pub(crate) fn wants<'a>(alloc: Global, groups: Many<Group<'a>>) -> Result<Many<Want<'a>>, Memory>
     ensures { IfOk result (λ it. inner.AreWants groups.entry it) }
 {
     let mut rest = groups;
@@ -53,6 +70,34 @@ pub(crate) fn wants<'a>(alloc: Global, groups: Many<Group<'a>>) -> Result<Many<W
     'groups: while let Some(group) = rest.pop() {
         out.push(want_of(alloc, group)?)?;
     }
+    Ok(out)
+}
+
+fn same_elems<'a>(alloc: Global, elems: &[&'a Elem]) -> Result<Many<&'a Elem>, Memory>
+    ensures { IfOk result (λ it. map (λ elem. elem.now) it ≡ map (λ elem. elem.now) elems.now) }
+{
+    let mut out = Many::new(alloc);
+    for elem in elems {
+        out.push(*elem)?;
+    }
+    Ok(out)
+}
+
+/// One want of some elements, in the instance of number 0.
+pub(crate) fn first_wants<'a>(alloc: Global, elems: &[&'a Elem]) -> Result<Many<Want<'a>>, Memory>
+    ensures { IfOk result (λ it. inner.AreFirst (map (λ elem. elem.now) elems.now) it) }
+{
+    let mut few = Many::new(alloc);
+    few.push(0)?;
+    let members = Members::of_list(alloc, few);
+    let labels = Many::new(alloc);
+    let copy = same_elems(alloc, elems)?;
+    let mut out = Many::new(alloc);
+    out.push(Want {
+        members,
+        labels,
+        elems: copy,
+    })?;
     Ok(out)
 }
 
@@ -97,38 +142,24 @@ pub(crate) fn by_label(
     Ok(items)
 }
 
-fn with_numbers(set: BTreeSet<usize>, numbers: &[usize]) -> Result<BTreeSet<usize>, Memory>
-    ensures { IfOk result (λ it. (other : ℕ) → contains nat_cmp it other
-        ≡ (contains nat_cmp set other || list_any (λ one. one == other) numbers.now)) }
-{
-    let mut set = set;
-    for number in numbers {
-        set.insert(*number)?;
-    }
-    Ok(set)
-}
-
-fn with_want(set: BTreeSet<usize>, wants: &[Want], number: usize) -> Result<BTreeSet<usize>, Memory>
-    ensures { IfOk result (λ it. (other : ℕ) → contains nat_cmp it other ≡ (contains nat_cmp set other
-        || inner.at wants.now (λ want. list_any (λ one. one == other) want.numbers) number)) }
+// Adds the numbers of the instances of a want.
+fn with_want(words: Many<u64>, wants: &[Want], number: usize) -> Result<Many<u64>, Memory>
+    ensures { IfOk result (λ it. (n : ℕ) → bit_of it n
+        ≡ (bit_of words n || inner.at wants.now (λ want. has want.members n) number)) }
 {
     match wants.get(number) {
-        Some(want) => Ok(with_numbers(set, want.numbers.as_slice())?),
-        None => Ok(set),
+        Some(want) => Ok(joined_members(words, &want.members)?),
+        None => Ok(words),
     }
 }
 
 /// The numbers of the instances of some wants.
-pub(crate) fn union_of(
-    alloc: Global,
-    wants: &[Want],
-    some: &[usize],
-) -> Result<BTreeSet<usize>, Memory>
+pub(crate) fn union_of(alloc: Global, wants: &[Want], some: &[usize]) -> Result<Many<u64>, Memory>
     ensures { IfOk result (λ it. inner.IsUnion it wants.now some.now) }
 {
-    let mut set = BTreeSet::new(alloc);
+    let mut words = Many::new(alloc);
     for number in some {
-        set = with_want(set, wants, *number)?;
+        words = with_want(words, wants, *number)?;
     }
-    Ok(set)
+    Ok(words)
 }

@@ -23,6 +23,7 @@
 //!   15 leaf mode }
 //! ```
 mod filter_tests;
+mod many_tests;
 
 use nc_names::{Many, Path, Place, QName, Row, Step, Text};
 use nc_schema::{Deny, Kind, Node, Schema};

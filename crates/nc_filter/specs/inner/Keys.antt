@@ -57,3 +57,7 @@ has_all has keys = not (list_any (λ key. not (has key)) keys)
 -- the key of an element's name; one with an attribute names nothing
 abbrev pub name_key : Elem → List ℕ
 name_key elem = if has_no_attribute elem.attrs then key elem.name.space elem.name.name [] else []
+
+-- the labels of a data node's name: with its namespace, and without one
+abbrev pub node_labels : Node → List (List ℕ)
+node_labels node = (0 ∷ key node.name.space node.name.name []) ∷ (0 ∷ key [] node.name.name []) ∷ []

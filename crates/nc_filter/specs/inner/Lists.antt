@@ -1,5 +1,5 @@
 -- Lists that are asked whether one of their elements passes a test, in any order and with repeats.
-use Rattle.std.specs.Prelude.{◌≡◌, ◌||◌, ◌-◌, Bool, List, Some, length, slice_get}
+use Rattle.std.specs.Prelude.{◌≡◌, ◌||◌, ◌-◌, ℕ, suc, Bool, false, List, [], ◌∷◌, Some, length, slice_get}
 use Rattle.std.specs.List.{list_any}
 
 -- two lists have the same elements
@@ -12,3 +12,8 @@ AddsOne {X} before now x = (test : X → Bool) → list_any test now ≡ (list_a
 
 abbrev pub IsLast : {X : Type 0} → List X → X → Type 0
 IsLast xs x = slice_get xs (length xs - 1) ≡ Some x
+
+-- one of some things passes a test with its number in the list
+abbrev pub any_numbered : {X : Type 0} → (ℕ → X → Bool) → List X → Bool
+any_numbered f [] = false
+any_numbered f (x ∷ xs) = f 0 x || any_numbered (λ n. f (suc n)) xs

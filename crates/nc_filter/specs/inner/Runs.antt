@@ -1,5 +1,5 @@
 -- Instances, the rows at and below them, and where content matches hold.
-use Rattle.std.specs.Prelude.{◌≡◌, ◌&&◌, ◌||◌, ℕ, Bool, false, cond, List, None, [], map}
+use Rattle.std.specs.Prelude.{◌≡◌, ◌==◌, ◌&&◌, ◌||◌, ℕ, Bool, false, cond, List, Option, None, [], map}
 use Rattle.std.specs.Prelude.{slice_get, take}
 use Rattle.std.specs.List.{All, list_any}
 use Rattle.std.specs.Option.{option_map_or}
@@ -11,28 +11,35 @@ use Rattle.nc_names.specs.declared.path.Row.{Row}
 use Rattle.nc_names.specs.declared.path.Step.{Step}
 use Rattle.nc_message.specs.declared.tree.Elem.{Elem}
 use Rattle.nc_schema.specs.Tables.{Tables}
-use Rattle.nc_filter.specs.inner.Keys.{among, asked, has_all, keys_in}
+use Rattle.nc_filter.specs.inner.Instances.{asked_in, instance_keys}
+use Rattle.nc_filter.specs.inner.Keys.{among, has_all}
+use Rattle.nc_filter.specs.inner.Lists.{any_numbered}
+use Rattle.nc_filter.specs.inner.Sets.{bit_of, has}
 use Rattle.nc_filter.specs.inner.Tables.{has_text}
+use Rattle.nc_filter.specs.declared.members.Members.{Members}
 use Rattle.nc_filter.specs.declared.runs.Run.{Run}
 use Rattle.nc_filter.specs.declared.guards.Class.{Class}
 use Rattle.nc_filter.specs.declared.groups.Group.{Group}
+use Rattle.nc_filter.specs.declared.rows.Spot.{Spot}
+use Rattle.nc_filter.specs.declared.wants.Want.{Want}
 
--- the runs are those of the rows: each row is in one whose instance is at that depth above it
-abbrev pub AreRuns : ℕ → List Row → List Run → Type 0
-AreRuns depth rows runs = (f : List Step → Row → Bool) →
-    list_any (λ run. list_any (f run.above.now) (map (λ row. row.now) run.rows)) runs
-    ≡ list_any (λ row. f (take depth row.path.steps) row) rows
+-- the runs are those of the rows: each row is in one whose instance is at that depth above it, below the instance
+-- whose number the row has
+abbrev pub AreRuns : ℕ → List Spot → List Run → Type 0
+AreRuns depth spots runs = (f : ℕ → List Step → Row → Bool) →
+    list_any (λ run. list_any (f run.parent run.above.now) (map (λ row. row.now) run.rows)) runs
+    ≡ list_any (λ spot. f spot.number (take depth spot.row.now.path.steps) spot.row.now) spots
 
--- one of the rows directly in an instance has a key
-abbrev pub has_key : Tables → List Row → Run → List ℕ → Bool
-has_key tables all run wanted = among (keys_in tables all run.above.now) wanted
+-- an instance has a key
+abbrev pub has_key : Tables → List Row → Option ℕ → Run → List ℕ → Bool
+has_key tables all upper run wanted = among (instance_keys tables all upper run.above.now) wanted
 
--- a run has the keys of the rows directly in its instance
-abbrev pub IsKnown : Tables → List Row → Run → Type 0
-IsKnown tables all run = (wanted : List ℕ) → has_text run.keys wanted ≡ has_key tables all run wanted
+-- a run has the keys of its instance
+abbrev pub IsKnown : Tables → List Row → Option ℕ → Run → Type 0
+IsKnown tables all upper run = (wanted : List ℕ) → has_text run.keys wanted ≡ has_key tables all upper run wanted
 
-abbrev pub AreKnown : Tables → List Row → List Run → Type 0
-AreKnown tables all runs = All (IsKnown tables all) runs
+abbrev pub AreKnown : Tables → List Row → Option ℕ → List Run → Type 0
+AreKnown tables all upper runs = All (IsKnown tables all upper) runs
 
 abbrev pub Slots : Type 0
 Slots = BTreeMap (List ℕ) (List ℕ)
@@ -60,91 +67,141 @@ adds_keys before now keys number = Puts before now (among keys) number
 abbrev pub at_number : List Run → (Run → Bool) → ℕ → Bool
 at_number whole test number = option_map_or test (slice_get whole number) false
 
--- the table has the numbers of these instances in a list, by the keys of the rows directly in them
-abbrev pub IsTable : Tables → List Row → Slots → List Run → List Run → Type 0
-IsTable tables all items whole runs = (wanted : List ℕ) (test : Run → Bool) →
-    list_any (at_number whole test) (in_slot items wanted)
-    ≡ list_any (λ run. has_key tables all run wanted && test run) runs
+-- sets of numbers by keys
+abbrev pub Keyed : Type 0
+Keyed = BTreeMap (List ℕ) Members
+
+abbrev pub has_at : Keyed → List ℕ → ℕ → Bool
+has_at items wanted n = option_map_or (λ members. has members n) (get (slice_cmp nat_cmp) items wanted) false
+
+abbrev pub without_members : List ℕ → Keyed → Keyed → Type 0
+without_members gone before now =
+    (other : List ℕ) → get (slice_cmp nat_cmp) now other
+    ≡ cond (is_eq (slice_cmp nat_cmp gone other)) None (get (slice_cmp nat_cmp) before other)
+
+-- at each key for which a test says so, a number more
+abbrev pub Marks : Keyed → Keyed → (List ℕ → Bool) → ℕ → Type 0
+Marks before now here number =
+    (other : List ℕ) (n : ℕ) → has_at now other n ≡ (has_at before other n || (here other && (number == n)))
+
+abbrev pub marks_key : Keyed → Keyed → List ℕ → ℕ → Type 0
+marks_key before now wanted number = Marks before now (is_same_text wanted) number
+
+abbrev pub marks_keys : Keyed → Keyed → List (List ℕ) → ℕ → Type 0
+marks_keys before now keys number = Marks before now (among keys) number
+
+-- the table has the numbers of these instances in a list, by their keys
+abbrev pub IsTable : Tables → List Row → Option ℕ → Keyed → List Run → Type 0
+IsTable tables all upper items runs =
+    (wanted : List ℕ) (n : ℕ) → has_at items wanted n ≡ at_number runs (λ run. has_key tables all upper run wanted) n
+
+-- the table has their numbers by the keys that they have
+abbrev pub IsKeyed : Keyed → List Run → Type 0
+IsKeyed items runs =
+    (wanted : List ℕ) (n : ℕ) → has_at items wanted n ≡ at_number runs (λ run. has_text run.keys wanted) n
+
+-- a number has each of some keys
+abbrev pub has_keys : Keyed → List (List ℕ) → ℕ → Bool
+has_keys items keys n = has_all (λ wanted. has_at items wanted n) keys
 
 -- an instance has each of some keys
 abbrev pub holds_in : List (List ℕ) → Run → Bool
 holds_in keys run = has_all (λ wanted. has_text run.keys wanted) keys
 
--- of the instances of some numbers, those that have each of some keys
-abbrev pub AreHeldOf : List (List ℕ) → List Run → List ℕ → List ℕ → Type 0
-AreHeldOf keys whole some numbers = (test : Run → Bool) →
-    list_any (at_number whole test) numbers ≡ list_any (at_number whole (λ run. holds_in keys run && test run)) some
+-- bits are the numbers of those instances that pass a test
+abbrev pub IsFrom : List Run → (Run → Bool) → List ℕ → Type 0
+IsFrom whole here from = (n : ℕ) → bit_of from n ≡ at_number whole here n
 
--- of all instances, those that have each of some keys
-abbrev pub AreHeld : List (List ℕ) → List Run → List ℕ → Type 0
-AreHeld keys whole numbers = (test : Run → Bool) →
-    list_any (at_number whole test) numbers ≡ list_any (λ run. holds_in keys run && test run) whole
+-- a number is among bits, and its instance has each of some keys
+abbrev pub is_held : List (List ℕ) → List Run → List ℕ → ℕ → Bool
+is_held keys whole from n = bit_of from n && at_number whole (holds_in keys) n
+
+-- of some numbers, those that are held
+abbrev pub AreHeldOf : List (List ℕ) → List Run → List ℕ → List ℕ → List ℕ → Type 0
+AreHeldOf keys whole from some numbers =
+    (test : ℕ → Bool) → list_any test numbers ≡ list_any (λ n. is_held keys whole from n && test n) some
+
+-- of the instances that pass a test, those that have each of some keys: by a set of their numbers, and by a list
+abbrev pub AreHeld : List (List ℕ) → List Run → (Run → Bool) → Members → Type 0
+AreHeld keys whole here members = (n : ℕ) → has members n ≡ at_number whole (λ run. here run && holds_in keys run) n
+
+abbrev pub AreListed : List (List ℕ) → List Run → (Run → Bool) → List ℕ → Type 0
+AreListed keys whole here numbers =
+    (n : ℕ) → list_any (λ one. one == n) numbers ≡ at_number whole (λ run. here run && holds_in keys run) n
 
 -- what a class of elements says, each by a test, in an instance with these keys
 abbrev pub class_says : (List ℕ → Bool) → (Elem → Bool) → Class → Bool
 class_says has test class = has_all has class.keys && list_any test (map (λ elem. elem.now) class.elems)
 
-abbrev pub elem_says : (List ℕ → Bool) → (Elem → Bool) → Elem → Bool
-elem_says has test elem = has_all has (asked elem) && test elem
+abbrev pub elem_says : Option ℕ → (List ℕ → Bool) → (Elem → Bool) → Elem → Bool
+elem_says upper has test elem = has_all has (asked_in upper elem) && test elem
 
-abbrev pub IsClass : Class → Elem → Type 0
-IsClass class elem = (has : List ℕ → Bool) (test : Elem → Bool) → class_says has test class ≡ elem_says has test elem
+abbrev pub IsClass : Option ℕ → Class → Elem → Type 0
+IsClass upper class elem =
+    (has : List ℕ → Bool) (test : Elem → Bool) → class_says has test class ≡ elem_says upper has test elem
 
-abbrev pub AreClasses : List Elem → List Class → Type 0
-AreClasses elems classes = (has : List ℕ → Bool) (test : Elem → Bool) →
-    list_any (class_says has test) classes ≡ list_any (elem_says has test) elems
+abbrev pub AreClasses : Option ℕ → List Elem → List Class → Type 0
+AreClasses upper elems classes = (has : List ℕ → Bool) (test : Elem → Bool) →
+    list_any (class_says has test) classes ≡ list_any (elem_says upper has test) elems
 
 -- what a class says is added, in a class more or in another class
 abbrev pub AddsClass : List Class → List Class → Class → Type 0
 AddsClass before now class = (has : List ℕ → Bool) (test : Elem → Bool) →
     list_any (class_says has test) now ≡ (list_any (class_says has test) before || class_says has test class)
 
--- what a class says of the instances in which its keys are
-abbrev pub class_tells : List Run → (Run → Elem → Bool) → Class → Bool
-class_tells whole test class =
-    list_any (λ run. class_says (λ wanted. has_text run.keys wanted) (test run) class) whole
+-- what a class says of those instances that pass a test and in which its keys are
+abbrev pub class_tells : List Run → (Run → Bool) → (Run → Elem → Bool) → Class → Bool
+class_tells whole here test class =
+    list_any (λ run. here run && class_says (λ wanted. has_text run.keys wanted) (test run) class) whole
 
 -- what a group of elements says of its instances
 abbrev pub group_tells : List Run → (Run → Elem → Bool) → Group → Bool
 group_tells whole test group =
-    list_any (at_number whole (λ run. list_any (test run) (map (λ elem. elem.now) group.elems))) group.numbers
+    any_numbered (λ n run. has group.members n && list_any (test run) (map (λ elem. elem.now) group.elems)) whole
 
-abbrev pub AreGroups : List Run → List Class → List Group → Type 0
-AreGroups whole classes groups = (test : Run → Elem → Bool) →
-    list_any (group_tells whole test) groups ≡ list_any (class_tells whole test) classes
+-- what the elements of a want say of the instances below its own
+abbrev pub want_tells : List Run → Option ℕ → (Run → Elem → Bool) → Want → Bool
+want_tells whole upper test want =
+    list_any (λ run. has want.members run.parent &&
+    list_any (elem_says upper (λ wanted. has_text run.keys wanted) (test run)) (map (λ elem. elem.now) want.elems))
+    whole
+
+abbrev pub AddsWant : List Run → Option ℕ → Want → List Group → List Group → Type 0
+AddsWant whole upper want before now = (test : Run → Elem → Bool) →
+    list_any (group_tells whole test) now
+    ≡ (list_any (group_tells whole test) before || want_tells whole upper test want)
+
+abbrev pub AreGroups : List Run → Option ℕ → List Want → List Group → Type 0
+AreGroups whole upper wants groups = (test : Run → Elem → Bool) →
+    list_any (group_tells whole test) groups ≡ list_any (want_tells whole upper test) wants
 
 -- what a group says is added, in a group more or in another group
 abbrev pub AddsGroup : List Run → List Group → List Group → Group → Type 0
 AddsGroup whole before now group = (test : Run → Elem → Bool) →
     list_any (group_tells whole test) now ≡ (list_any (group_tells whole test) before || group_tells whole test group)
 
--- the rows of the instances of some numbers
-abbrev pub AreRowsAt : List Run → List ℕ → List Row → Type 0
-AreRowsAt whole numbers rows = (test : Row → Bool) →
-    list_any test rows
-    ≡ list_any (at_number whole (λ run. list_any test (map (λ row. row.now) run.rows))) numbers
+-- what classes say is added
+abbrev pub AddsGroups : List Run → (Run → Bool) → List Class → List Group → List Group → Type 0
+AddsGroups whole here classes before now = (test : Run → Elem → Bool) →
+    list_any (group_tells whole test) now
+    ≡ (list_any (group_tells whole test) before || list_any (class_tells whole here test) classes)
 
--- to what was found come the rows of the instance of a number
-abbrev pub PutsRowsAt : List Run → ℕ → List Row → List Row → Type 0
-PutsRowsAt whole number before now = (test : Row → Bool) →
-    list_any test now
-    ≡ (list_any test before || at_number whole (λ run. list_any test (map (λ row. row.now) run.rows)) number)
+abbrev pub AreSameGroups : List Group → List Group → Type 0
+AreSameGroups before now = (whole : List Run) (test : Run → Elem → Bool) →
+    list_any (group_tells whole test) now ≡ list_any (group_tells whole test) before
 
--- the numbers are those of all instances
-abbrev pub AreAll : List Run → List ℕ → Type 0
-AreAll whole numbers = (test : Run → Bool) → list_any (at_number whole test) numbers ≡ list_any test whole
+-- a number is added where it is held
+abbrev pub AddsHeld : List (List ℕ) → List Run → List ℕ → ℕ → List ℕ → List ℕ → Type 0
+AddsHeld keys whole from number before now = (test : ℕ → Bool) →
+    list_any test now ≡ (list_any test before || (is_held keys whole from number && test number))
 
--- a number is added where its instance has each of some keys
-abbrev pub AddsHeld : List (List ℕ) → List Run → ℕ → List ℕ → List ℕ → Type 0
-AddsHeld keys whole number before now = (test : ℕ → Bool) →
-    list_any test now ≡ (list_any test before || (at_number whole (holds_in keys) number && test number))
-
-abbrev pub IsGroup : List Run → Group → Class → Type 0
-IsGroup whole group class = (test : Run → Elem → Bool) → group_tells whole test group ≡ class_tells whole test class
+abbrev pub IsGroup : List Run → (Run → Bool) → Group → Class → Type 0
+IsGroup whole here group class =
+    (test : Run → Elem → Bool) → group_tells whole test group ≡ class_tells whole here test class
 
 -- what a group selects in its instances, by what its elements say of rows there and by a test of rows
 abbrev pub told_in : (Row → Elem → Bool) → List Run → (Row → Bool) → Group → Bool
-told_in says whole test group = list_any
-    (at_number whole (λ run. list_any
+told_in says whole test group = any_numbered
+    (λ n run. has group.members n && list_any
     (λ row. list_any (says row) (map (λ elem. elem.now) group.elems) && test row)
-    (map (λ row. row.now) run.rows))) group.numbers
+    (map (λ row. row.now) run.rows)) whole

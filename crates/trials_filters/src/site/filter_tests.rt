@@ -365,3 +365,29 @@ fn sets_of_entries_that_overlap(rt: HostRuntime) {
         assert!(rt; keeps(&rt, alloc, &schema, elements, TAGS, wanted));
     }
 }
+
+#[test]
+fn sets_of_entries_that_reach_the_same_rows(rt: HostRuntime) {
+    let alloc = rt.alloc();
+    let schema = schema(&rt, alloc);
+    let cases = [
+        (
+            "<top><users><user><name>a</name><route><via>1</via></route></user>\
+             <user><route><to>x</to><via/></route></user></users></top>",
+            "a a/3=a a/16:x a/16:x/17=x a/16:x/18=1 b b/3=b b/16:x b/16:x/17=x b/16:x/18=2",
+        ),
+        (
+            "<top><users><user><name>a</name><route><to/></route></user>\
+             <user><name>b</name><route><via/></route></user></users></top>",
+            "a a/3=a a/16:x a/16:x/17=x a/16:y a/16:y/17=y b b/3=b b/16:x b/16:x/17=x b/16:x/18=2",
+        ),
+        (
+            "<top><users><user><name>a</name><name/></user>\
+             <user><name>b</name><user><name>b</name></user></user></users></top>",
+            "a a/3=a b b/3=b",
+        ),
+    ];
+    for (elements, wanted) in cases {
+        assert!(rt; keeps(&rt, alloc, &schema, elements, ROUTES, wanted));
+    }
+}

@@ -1,9 +1,9 @@
 use Rattle.std.proofs.Common.{◌∙◌, ◌&&◌, ◌||◌, List, ℕ, ap, subst, sym}
 use Rattle.std.specs.Prelude.{map}
-use Rattle.std.specs.BTreeSet.{contains}
 use Rattle.std.specs.List.{list_any}
-use Rattle.std.specs.Ordering.{nat_cmp}
 use Rattle.nc_filter.specs.inner.Labels.{IsUnion, at}
+use Rattle.nc_filter.specs.inner.Runs.{in_slot}
+use Rattle.nc_filter.specs.inner.Sets.{bit_of}
 use Rattle.nc_filter.proofs.SpotLemmas.{label_done, label_no_rows}
 use Rattle.nc_filter.proofs.WalkLemmas.{none_there}
 use Rattle.nc_filter.proofs.flat.with_label.Goals as goal
@@ -15,8 +15,9 @@ returns-then-is_empty c = λ tables depth spotted wanted.
 
 pub returns : goal.returns
 returns c = λ tables depth spotted wanted.
-    label_done tables depth c.args.spots.now c.args.wants.now c.args.rows.now c.args.groups.now c.in_ok-set.set c.args.label.now (map (λ row. row.now) c.args.out)
+    label_done tables depth c.args.spots.now c.args.wants.now c.args.rows.now c.args.groups.now c.as_slice-numbers.result.now c.args.label.now (map (λ row. row.now) c.args.out)
     (map (λ row. row.now) c.in_ok-found.found) spotted wanted
-    (subst (λ (some : List ℕ). IsUnion c.in_ok-set.set c.args.wants.now some) c.slot-some.ensures c.in_ok-set.ensures)
+    (subst (λ (words : List ℕ). IsUnion words c.args.wants.now (in_slot c.args.groups.now c.args.label.now)) (sym c.as_slice-numbers.ensures)
+    (subst (λ (some : List ℕ). IsUnion c.in_ok-set.set c.args.wants.now some) c.slot-some.ensures c.in_ok-set.ensures))
     (λ test. c.in_ok-found.ensures test
-    ∙ ap (λ some. list_any test (map (λ row. row.now) c.args.out) || list_any (at c.args.spots.now (λ spot. contains nat_cmp c.in_ok-set.set spot.number && test spot.row.now)) some) c.slot-places.ensures)
+    ∙ ap (λ some. list_any test (map (λ row. row.now) c.args.out) || list_any (at c.args.spots.now (λ spot. bit_of c.as_slice-numbers.result.now spot.number && test spot.row.now)) some) c.slot-places.ensures)

@@ -1,8 +1,8 @@
 use Rattle.std.proofs.Common.{get_or, refl}
-use Rattle.nc_filter.proofs.GroupLemmas.{held_more}
+use Rattle.nc_filter.proofs.MemberLemmas.{held_more}
 use Rattle.nc_filter.proofs.groups.held.Goals as goal
 
 pub loop-number-preserved : goal.loop-number-preserved
 loop-number-preserved c =
-    held_more c.args.keys.now c.args.runs.now c.args.some.now c.loop-number.out c.in_ok-out.out c.loop-number.number-index (get_or c.args.some.now c.loop-number.number-index 0) 0
+    held_more c.args.keys.now c.args.runs.now c.args.from.now c.args.some.now c.loop-number.out c.in_ok-out.out c.loop-number.number-index (get_or c.args.some.now c.loop-number.number-index 0) 0
     c.loop-number-test.true refl c.in_ok-out.ensures c.loop-number.invariant

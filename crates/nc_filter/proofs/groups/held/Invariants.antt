@@ -3,4 +3,4 @@ use Rattle.nc_filter.specs.inner.Runs.{AreHeldOf}
 use Rattle.nc_filter.proofs.groups.held.Given as goal
 
 abbrev pub invariant-loop-number : goal.invariant-loop-number
-invariant-loop-number l = AreHeldOf l.keys l.runs (take l.number-index l.some) l.out
+invariant-loop-number l = AreHeldOf l.keys l.runs l.from (take l.number-index l.some) l.out

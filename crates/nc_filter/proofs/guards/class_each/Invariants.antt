@@ -4,4 +4,4 @@ use Rattle.nc_filter.specs.inner.Runs.{AreClasses}
 use Rattle.nc_filter.proofs.guards.class_each.Given as goal
 
 abbrev pub invariant-loop-elem : goal.invariant-loop-elem
-invariant-loop-elem l = AreClasses (map (λ elem. elem.now) (take l.elem-index l.elems)) l.out
+invariant-loop-elem l = AreClasses l.upper (map (λ elem. elem.now) (take l.elem-index l.elems)) l.out

@@ -8,7 +8,7 @@ use Rattle.nc_filter.proofs.guards.classes.Given as goal
 abbrev pub invariant-classes : goal.invariant-classes
 invariant-classes l =
     (has : List ℕ → Bool) (test : Elem → Bool) →
-    (list_any (class_says has test) l.out || list_any (class_says has test) l.rest) ≡ list_any (elem_says has test) (map (λ elem. elem.now) l.elems)
+    (list_any (class_says has test) l.out || list_any (class_says has test) l.rest) ≡ list_any (elem_says l.fn.upper has test) (map (λ elem. elem.now) l.elems)
 
 abbrev pub decreases-classes : goal.decreases-classes
 decreases-classes l = length l.rest

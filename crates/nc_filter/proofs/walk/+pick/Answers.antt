@@ -1,18 +1,11 @@
-use Rattle.std.proofs.Common.{◌∙◌, ◌&&◌, ◌||◌, ◌++◌, ◌==◌, ◌+◌, not, List, Option, ℕ, ap, sym, subst, length, arith}
+use Rattle.std.proofs.Common.{◌∙◌, ◌&&◌, ◌||◌, ◌++◌, ◌==◌, ◌+◌, List, Option, ℕ, ap, sym, subst, length, arith}
 use Rattle.std.specs.Prelude.{map}
 use Rattle.std.specs.List.{filter, list_any}
 use Rattle.std.proofs.lemmas.List.Sums.{prefix_len-le-length}
 use Rattle.nc_names.specs.declared.path.Row.{Row}
 use Rattle.nc_message.specs.declared.tree.Elem.{Elem}
 use Rattle.nc_model.specs.Filter.{is_containment}
-use Rattle.nc_filter.specs.declared.groups.Group.{Group}
-use Rattle.nc_filter.specs.declared.runs.Run.{Run}
-use Rattle.nc_filter.specs.inner.Labels.{is_flat}
 use Rattle.nc_filter.specs.inner.Picks.{Adds, has_node, is_matched, is_number, is_selection, node_at, opens, picked, picks_at, within}
-use Rattle.nc_filter.specs.inner.Runs.{AreClasses, AreGroups, AreKnown, AreRowsAt, AreRuns, told_in}
-use Rattle.nc_filter.proofs.FlatLemmas.{both_done}
-use Rattle.nc_filter.proofs.GroupLemmas.{group_step, groups_done, within_done}
-use Rattle.nc_filter.proofs.TableLemmas.{taken_all}
 use Rattle.nc_filter.proofs.WalkLemmas.{level_done, level_next, no_node, node_parts, node_whole, none_there, open_done, open_level, open_whole, shorter_rest, some_node, some_there}
 use Rattle.nc_filter.proofs.walk.+pick.Goals as goal
 
@@ -100,39 +93,3 @@ pick_open-returns t c = λ all index.
     (λ test. ap (λ rows. list_any test (map (λ row. row.now) rows)) c.as_slice-some.ensures ∙ c.in_ok-sorted.ensures test ∙ ap (list_any test) c.in_ok-copy.ensures)
     (subst (λ (some : List Elem). Adds (map (λ row. row.now) c.args.out) (map (λ row. row.now) c.in_ok-found-2.found) (picked c.args.schema.now all c.args.depth some) (map (λ row. row.now) c.as_slice-some.result.now))
     (ap (map (λ elem. elem.now)) c.in_ok-level.ensures.elems ∙ c.in_ok-below.ensures) (c.in_ok-found-2.ensures all index c.in_ok-level.ensures.names))
-
-pub pick_deep-loop-group-preserved : goal.pick_deep-loop-group-preserved
-pick_deep-loop-group-preserved t c = λ all index.
-    group_step c.args.schema.now all c.args.depth c.args.whole.now (opens c.args.schema.now all c.args.depth) (map (λ row. row.now) c.args.out) (map (λ row. row.now) c.loop-group.out) (map (λ row. row.now) c.in_ok-out.out)
-    (map (λ row. row.now) c.in_ok-held.held) c.as_slice-group-items.result.now c.loop-group.group-index c.group-item.result c.loop-group-test.true c.group-item.is
-    (subst (λ (numbers : List ℕ). AreRowsAt c.args.whole.now numbers (map (λ row. row.now) c.in_ok-held.held)) c.as_slice-in-loop-group.ensures c.in_ok-held.ensures)
-    (subst (λ (rows : List Row). Adds (map (λ row. row.now) c.loop-group.out) (map (λ row. row.now) c.in_ok-out.out)
-    (λ row. list_any (opens c.args.schema.now all c.args.depth row) (map (λ elem. elem.now) c.group-item.result.elems)) rows) (ap (map (λ row. row.now)) c.as_slice-here.ensures)
-    (subst (λ (some : List Elem). Adds (map (λ row. row.now) c.loop-group.out) (map (λ row. row.now) c.in_ok-out.out)
-    (λ row. list_any (opens c.args.schema.now all c.args.depth row) some) (map (λ row. row.now) c.as_slice-here.result.now)) (ap (map (λ elem. elem.now)) c.as_slice-some.ensures)
-    (c.in_ok-out.ensures all index)))
-    (c.loop-group.invariant all index)
-
-pub pick_deep-returns : goal.pick_deep-returns
-pick_deep-returns t c = λ all rows index runs known table.
-    let elems : List Elem = map (λ elem. elem.now) c.args.elems.now in
-    let out : List Row = map (λ row. row.now) c.args.out in
-    let now : List Row = map (λ row. row.now) c.loop-group.out in
-    within_done c.args.schema.now all c.args.depth out now rows (filter (λ elem. not (is_flat elem)) elems)
-    (groups_done c.args.schema.now all c.args.depth c.args.whole.now (opens c.args.schema.now all c.args.depth) out now rows
-    (filter (λ elem. not (is_flat elem)) elems) c.in_ok-classes.classes c.as_slice-group-items.result.now runs known
-    (subst (λ (some : List Elem). AreClasses some c.in_ok-classes.classes) (ap (map (λ elem. elem.now)) c.as_slice.ensures ∙ c.in_ok-deep.ensures) c.in_ok-classes.ensures)
-    (subst (λ (groups : List Group). AreGroups c.args.whole.now c.in_ok-classes.classes groups) (sym c.as_slice-group-items.ensures)
-    (c.in_ok-groups.ensures c.args.schema.now all known table))
-    (λ test. c.loop-group.invariant all index test
-    ∙ ap (λ groups. list_any test out || list_any (told_in (opens c.args.schema.now all c.args.depth) c.args.whole.now test) groups)
-    (taken_all c.as_slice-group-items.result.now c.loop-group.group-index c.loop-group-test.false)))
-
-pub pick_guarded-returns : goal.pick_guarded-returns
-pick_guarded-returns t c = λ all index.
-    let rows : List Row = map (λ row. row.now) c.args.rows.now in
-    let known = subst (λ (runs : List Run). AreKnown c.args.schema.now all runs) (sym c.as_slice-whole.ensures) (c.in_ok-runs.ensures.known all index) in
-    let runs = subst (λ (runs : List Run). AreRuns c.args.depth rows runs) (sym c.as_slice-whole.ensures) c.in_ok-runs.ensures.runs in
-    let table = c.in_ok-table.ensures all index in
-    both_done c.args.schema.now all c.args.depth (map (λ row. row.now) c.args.out) (map (λ row. row.now) c.in_ok-found.found) (map (λ row. row.now) c.in_ok-more.more) rows
-    (map (λ elem. elem.now) c.args.elems.now) (c.in_ok-found.ensures all rows runs known table) (c.in_ok-more.ensures all rows index runs known table)

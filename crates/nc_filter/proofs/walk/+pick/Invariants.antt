@@ -1,10 +1,9 @@
-use Rattle.std.proofs.Common.{◌≡◌, ◌&&◌, ◌||◌, ◌*◌, ◌+◌, ◌-◌, ◌^◌, Bool, List, length, take}
+use Rattle.std.proofs.Common.{◌≡◌, ◌&&◌, ◌||◌, ◌*◌, ◌+◌, ◌-◌, ◌^◌, Bool, List, length}
 use Rattle.std.specs.Prelude.{map}
 use Rattle.std.specs.List.{list_any}
 use Rattle.nc_names.specs.declared.path.Row.{Row}
 use Rattle.nc_filter.specs.inner.Names.{AreNames}
-use Rattle.nc_filter.specs.inner.Picks.{opens, picked}
-use Rattle.nc_filter.specs.inner.Runs.{told_in}
+use Rattle.nc_filter.specs.inner.Picks.{picked}
 use Rattle.nc_filter.specs.inner.Tables.{IsIndex}
 use Rattle.nc_filter.proofs.walk.+pick.Given as goal
 
@@ -20,9 +19,6 @@ decreases-pick_some l = 8 * (2 ^ 64 - l.depth) - 1
 abbrev pub decreases-pick_within : goal.decreases-pick_within
 decreases-pick_within l = 8 * (2 ^ 64 - l.depth) + 4
 
-abbrev pub decreases-pick_guarded : goal.decreases-pick_guarded
-decreases-pick_guarded l = 8 * (2 ^ 64 - l.depth) + 3
-
 abbrev pub decreases-pick_open : goal.decreases-pick_open
 decreases-pick_open l = 8 * (2 ^ 64 - l.depth) + 1
 
@@ -34,12 +30,3 @@ invariant-pick_level-nodes l =
 
 abbrev pub decreases-pick_level-nodes : goal.decreases-pick_level-nodes
 decreases-pick_level-nodes l = length l.rest
-
-abbrev pub decreases-pick_deep : goal.decreases-pick_deep
-decreases-pick_deep l = 8 * (2 ^ 64 - l.depth) + 2
-
-abbrev pub invariant-pick_deep-loop-group : goal.invariant-pick_deep-loop-group
-invariant-pick_deep-loop-group l =
-    (all : List Row) → IsIndex l.index.table all → (test : Row → Bool) →
-    list_any test (map (λ row. row.now) l.out)
-    ≡ (list_any test (map (λ row. row.now) l.fn.out) || list_any (told_in (opens l.schema all l.depth) l.whole test) (take l.group-index l.group-items))

@@ -1,12 +1,12 @@
 use Rattle.std.proofs.Common.{◌≡◌, ◌||◌, ℕ, Bool, List, length}
 use Rattle.std.specs.List.{list_any}
-use Rattle.nc_filter.specs.inner.Labels.{group_labels}
+use Rattle.nc_message.specs.declared.tree.Elem.{Elem}
+use Rattle.nc_filter.specs.inner.Labels.{group_wants, want_wants}
 use Rattle.nc_filter.proofs.wants.wants.Given as goal
 
 abbrev pub invariant-groups : goal.invariant-groups
-invariant-groups l = (test : List ℕ → List ℕ → Bool) →
-    (list_any (λ want. list_any (test want.numbers) want.labels) l.out || list_any (λ group. list_any (test group.numbers) (group_labels group)) l.rest)
-    ≡ list_any (λ group. list_any (test group.numbers) (group_labels group)) l.fn.groups
+invariant-groups l = (f : (ℕ → Bool) → List ℕ → Bool) (g : (ℕ → Bool) → List Elem → Bool) →
+    (list_any (want_wants f g) l.out || list_any (group_wants f g) l.rest) ≡ list_any (group_wants f g) l.fn.groups
 
 abbrev pub decreases-groups : goal.decreases-groups
 decreases-groups l = length l.rest

@@ -1,0 +1,8 @@
+use Rattle.std.proofs.Common.{◌∙◌, ◌==◌, ◌||◌}
+use Rattle.std.specs.List.{list_any}
+use Rattle.nc_filter.specs.inner.Sets.{bit_of}
+use Rattle.nc_filter.proofs.BitLemmas.{empty_bits}
+use Rattle.nc_filter.proofs.members.Members.new.Goals as goal
+
+pub returns : goal.returns
+returns c = λ n. (λ i. list_any (λ one. one == n) (c.new-few.ensures i) || bit_of (c.new-words.ensures i) n) ∙ empty_bits n

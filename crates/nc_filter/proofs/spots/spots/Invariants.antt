@@ -1,6 +1,0 @@
-use Rattle.std.proofs.Common.{◌≡◌, take}
-use Rattle.nc_filter.specs.inner.Labels.{AreSpots}
-use Rattle.nc_filter.proofs.spots.spots.Given as goal
-
-abbrev pub invariant-loop-run : goal.invariant-loop-run
-invariant-loop-run l = (l.number ≡ l.run-index) × AreSpots (take l.run-index l.whole) l.out

@@ -1,6 +1,8 @@
 //! The data nodes, choices and modules of a schema that modules define, and the rules on them.
+use crate::compiling::is_same;
+use crate::node_texts::{show_choice, show_node};
 use nc_names::{Bound, Many, Module};
-use nc_schema::{Case, Choice, Kind, Node, Schema};
+use nc_schema::Schema;
 use nc_yang_data::{DataFault, data_nodes, namespaces, prefixes};
 use nc_yang_nodes::{Features, plan_of};
 use nc_yang_scopes::Scopes;
@@ -34,87 +36,6 @@ fn features_of<'a>(rt: &impl Abort, alloc: Global, scopes: &Scopes<'a>) -> Featu
     features
 }
 
-/// What stands before a number, and the number, if there is one.
-fn show_number(rt: &impl Abort, shown: &mut String, before: &str, number: Option<u32>) {
-    if let Some(number) = number {
-        write!(shown, " {before}{number}").expect(rt, "memory")
-    }
-}
-
-/// Numbers after a word, if there are any.
-fn show_numbers(rt: &impl Abort, shown: &mut String, word: &str, numbers: &[u32]) {
-    if numbers.is_empty() {
-        return;
-    }
-    write!(shown, " {word}").expect(rt, "memory");
-    for number in numbers {
-        write!(shown, " {number}").expect(rt, "memory");
-    }
-}
-
-/// Cases, as the numbers of choice and case.
-fn show_cases(rt: &impl Abort, shown: &mut String, cases: &[Case]) {
-    for case in cases {
-        let choice = case.choice;
-        let number = case.case;
-        write!(shown, " {choice}.{number}").expect(rt, "memory");
-    }
-    shown.push_str("; ").expect(rt, "memory");
-}
-
-/// A kind of data node.
-fn word_of(kind: Kind) -> &'static str {
-    match kind {
-        Kind::Container { presence: false } => "container",
-        Kind::Container { presence: true } => "presence",
-        Kind::Leaf => "leaf",
-        Kind::LeafList => "leaf-list",
-        Kind::List => "list",
-    }
-}
-
-/// How many entries there may be, and in whose order.
-fn show_counts(rt: &impl Abort, shown: &mut String, node: &Node) {
-    let least = node.least;
-    if let Some(most) = node.most {
-        write!(shown, " {least}..{most}").expect(rt, "memory");
-    } else if least > 0 {
-        write!(shown, " {least}..").expect(rt, "memory");
-    }
-    if node.by_user {
-        shown.push_str(" by user").expect(rt, "memory");
-    }
-}
-
-/// A data node.
-fn show_node(rt: &impl Abort, shown: &mut String, node: &Node) {
-    let word = node.name.name.as_str();
-    let space = node.name.space.as_str();
-    let form = word_of(node.kind);
-    write!(shown, "{word}@{space} {form}").expect(rt, "memory");
-    show_number(rt, shown, "in ", node.parent);
-    if node.mandatory {
-        shown.push_str(" mandatory").expect(rt, "memory");
-    }
-    show_counts(rt, shown, node);
-    show_numbers(rt, shown, "key", node.keys.as_slice());
-    for leafs in node.uniques.as_slice() {
-        show_numbers(rt, shown, "unique", leafs.as_slice());
-    }
-    show_cases(rt, shown, node.cases.as_slice());
-}
-
-/// A choice.
-fn show_choice(rt: &impl Abort, shown: &mut String, choice: &Choice) {
-    shown.push_str("choice").expect(rt, "memory");
-    show_number(rt, shown, "in ", choice.parent);
-    if choice.mandatory {
-        shown.push_str(" mandatory").expect(rt, "memory");
-    }
-    show_number(rt, shown, "default ", choice.default_case);
-    show_cases(rt, shown, choice.within.as_slice());
-}
-
 /// A module.
 fn show_module(rt: &impl Abort, shown: &mut String, module: &Module) {
     let word = module.name.as_str();
@@ -139,9 +60,11 @@ fn show_modules(rt: &impl Abort, shown: &mut String, schema: &Schema) {
 fn show_nodes(rt: &impl Abort, shown: &mut String, schema: &Schema) {
     for number in 0..schema.nodes() {
         show_node(rt, shown, schema.node(number).expect(rt, "a node"));
+        shown.push_str("; ").expect(rt, "memory");
     }
     for choice in schema.choices() {
         show_choice(rt, shown, choice);
+        shown.push_str("; ").expect(rt, "memory");
     }
 }
 
@@ -214,11 +137,6 @@ fn prefixes_of(rt: &impl Abort, alloc: Global, texts: &[&str], text: usize) -> S
         show_bound(rt, &mut shown, bound);
     }
     shown
-}
-
-/// That is what is wanted.
-fn is_same(rt: &impl Abort, texts: &[&str], found: &str, wanted: &str) {
-    assert_eq!(rt; found, wanted, "in {texts:?}");
 }
 
 /// Texts, and their data nodes and choices.

@@ -4,7 +4,7 @@
 #[cfg(test)]
 mod circles_tests;
 #[cfg(test)]
-mod compile_tests;
+mod compiling;
 #[cfg(test)]
 mod data_tests;
 #[cfg(test)]
@@ -14,9 +14,9 @@ mod features_tests;
 #[cfg(test)]
 mod identities_tests;
 #[cfg(test)]
-mod leafs_tests;
-#[cfg(test)]
 mod loops_tests;
+#[cfg(test)]
+mod node_texts;
 #[cfg(test)]
 mod nodes_tests;
 #[cfg(test)]
@@ -26,6 +26,6 @@ mod scopes_tests;
 #[cfg(test)]
 mod statements_tests;
 #[cfg(test)]
-mod texts_tests;
+mod type_texts;
 #[cfg(test)]
 mod types_tests;

@@ -1,5 +1,6 @@
 //! Module texts that are read to their statements or not, and the first rule that one breaks (RFC 7950 5, 6, 7).
-use nc_names::{Bytes, Many, Memory, Text};
+use super::file;
+use nc_names::{Many, Memory};
 use nc_yang_scopes::Scopes;
 use nc_yang_statements::ModuleWhy;
 use nc_yang_texts::{CompileFault, ModuleText, first_break, read_texts};
@@ -32,13 +33,6 @@ fn outcome(alloc: Global, texts: &[ModuleText]) -> Result<String, Memory> {
             show(alloc, "unread", file as u64, line, why)
         }
         Err(CompileFault::Memory) => Err(Memory),
-    }
-}
-
-fn file(rt: &impl Abort, alloc: Global, bytes: &[u8]) -> ModuleText {
-    ModuleText {
-        file: Text::from_text(alloc, "m.yang").expect(rt, "memory"),
-        bytes: Bytes::from_slice(alloc, bytes).expect(rt, "memory"),
     }
 }
 

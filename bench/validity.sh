@@ -1,6 +1,7 @@
 #!/usr/bin/env bash
 # Times `nc_validate::first_structural` and `nc_refs::first_reference` over lists of 1,000, 10,000 and 100,000 entries
-# with two `unique` statements, `min-elements` and `max-elements`, and as many leafrefs into them.
+# with two `unique` statements, `min-elements` and `max-elements`, and as many leafrefs into them; and over 10,000 where
+# the schema has 20,000 data nodes more.
 set -euo pipefail
 exec "$(dirname "$0")/program" validity 'nc_names nc_schema nc_tree nc_validate nc_refs' <<'RT'
 //! Times the constraints over a list of ports with `unique`, `min-elements` and `max-elements`, and a list of links
@@ -82,7 +83,7 @@ fn uniques(alloc: Global) -> Result<Many<Many<u32>>, Memory> {
 
 fn put(schema: &mut Schema, node: Node) -> Result<(), Memory> {
     let count = schema.nodes();
-    if count > 1000 {
+    if count > 100_000 {
         return Err(Memory);
     }
     if let Some(above) = node.parent {
@@ -129,11 +130,24 @@ fn put_links(alloc: Global, schema: &mut Schema, to_port: u32) -> Result<(), Mem
     put(schema, leaf_node(alloc, name(alloc, "port")?, 4, to_port))
 }
 
-fn schema(alloc: Global) -> Result<Schema, Memory> {
+// A container that does not stand, and so many leafs in it.
+fn put_others(alloc: Global, schema: &mut Schema, count: u32) -> Result<(), Memory> {
+    let mut node = leaf_node(alloc, name(alloc, "others")?, 0, 0);
+    node.parent = None;
+    node.kind = Kind::Container { presence: true };
+    put(schema, node)?;
+    for number in 0..count {
+        put(schema, leaf_node(alloc, name(alloc, "other")?, 6, 0))?;
+    }
+    Ok(())
+}
+
+fn schema(alloc: Global, others: u32) -> Result<Schema, Memory> {
     let mut schema = Schema::new(alloc);
     let to_port = put_types(alloc, &mut schema)?;
     put_ports(alloc, &mut schema)?;
     put_links(alloc, &mut schema, to_port)?;
+    put_others(alloc, &mut schema, others)?;
     Ok(schema)
 }
 
@@ -223,12 +237,16 @@ fn timed(alloc: Global, rt: &HostRuntime, schema: &Schema, count: u64) -> io::Re
 
 fn main(rt: HostRuntime) -> io::Result<()> {
     let alloc = rt.alloc();
-    let Ok(schema) = schema(alloc) else {
+    let Ok(few) = schema(alloc, 0) else {
         return println!(rt; "out of memory");
     };
     for count in [1_000, 10_000, 100_000] {
-        timed(alloc, &rt, &schema, count)?;
+        timed(alloc, &rt, &few, count)?;
     }
-    Ok(())
+    let Ok(many) = schema(alloc, 20_000) else {
+        return println!(rt; "out of memory");
+    };
+    println!(rt; "with 20,000 data nodes more:")?;
+    timed(alloc, &rt, &many, 10_000)
 }
 RT

@@ -1,4 +1,5 @@
 pub mod ListLemmas
 pub mod PartsLemmas
 pub mod Runs
+pub mod SpanLemmas
 pub mod SpotsLemmas

@@ -1,4 +1,5 @@
 pub mod Below
 pub mod Lists
 pub mod Runs
+pub mod Spans
 pub mod Walks

@@ -5,11 +5,12 @@ ghost use Rattle.nc_schema.specs.InUse as uses;
 ghost use Rattle.nc_schema.specs.Places as places;
 ghost use Rattle.nc_defaults.specs.Within.{IsWithin, place_here};
 ghost use Rattle.nc_defaults.specs.inner.Below.{texts, values_among, values_at};
+ghost use Rattle.nc_defaults.specs.inner.Spans.{AreRuns};
 ghost use Rattle.nc_defaults.specs.inner.Walks.{places_at, places_under, places_with};
 
 use crate::children::Children;
 use crate::here::place_of;
-use crate::parts::{count_parts, next_of, run_end};
+use crate::spans::{Run, has_run, runs_of, step_of};
 use crate::spots::{
     Spot, copied_step, has_places, is_plain, is_same_number, node_there, steps_below,
 };
@@ -92,11 +93,18 @@ fn add_below<'a>(
     ensures { OnOk result (texts out.new ≡ texts out.old ++ values_among children.now leaf
         (places_under children.now (place_here config.now spot.now.steps spot.now.here) number)) }
 {
-    for child in children.in_parent(node_there(spot.steps.as_slice())) {
+    let steps = spot.steps.as_slice();
+    let numbers = children.in_parent(node_there(steps));
+    if !children.have_places(numbers) {
+        return Ok(());
+    }
+    let here = spot.here;
+    let runs = runs_of(out.alloc(), config, steps.len(), here.from, here.to)?;
+    for child in numbers {
         if *child < number {
             continue;
         }
-        add_child(out, children, config, spot, leaf, *child)?;
+        add_child(out, children, config, spot, leaf, runs.as_slice(), *child)?;
     }
     Ok(())
 }
@@ -109,16 +117,18 @@ fn add_child<'a>(
     config: &'a Config,
     spot: &Spot,
     leaf: u32,
+    runs: &[Run],
     number: u32,
 ) -> Result<(), Memory>
-    requires { IsWithin config.now spot.now.here }
+    requires here { IsWithin config.now spot.now.here }
+    requires runs { AreRuns (length spot.now.steps) config.now spot.now.here.from spot.now.here.to runs.now }
     ensures { OnOk result (texts out.new ≡ texts out.old ++ values_among children.now leaf
         (places_at children.now (place_here config.now spot.now.steps spot.now.here) number)) }
 {
     let Some(node) = children.node(number) else {
         return Ok(());
     };
-    add_parts(out, children, config, spot, leaf, (number, node))?;
+    add_parts(out, children, config, spot, leaf, runs, (number, node))?;
     Ok(())
 }
 
@@ -130,9 +140,11 @@ fn add_parts<'a>(
     config: &'a Config,
     spot: &Spot,
     leaf: u32,
+    runs: &[Run],
     child: (u32, &Node),
 ) -> Result<(), Memory>
     requires within { IsWithin config.now spot.now.here }
+    requires runs { AreRuns (length spot.now.steps) config.now spot.now.here.from spot.now.here.to runs.now }
     requires known { child.0 < length children.now.nodes }
     requires few { child.0 + 1 < 2 ^ 32 }
     ensures { OnOk result (texts out.new ≡ texts out.old ++ values_among children.now leaf
@@ -147,34 +159,33 @@ fn add_parts<'a>(
     }
     let steps = spot.steps.as_slice();
     let here = spot.here;
-    if is_plain(node.kind) && count_parts(config, steps.len(), here.from, here.to, number) == 0 {
+    if !has_run(runs, number) {
+        if !is_plain(node.kind) {
+            return Ok(());
+        }
         let step = Step {
             node: number,
             keys: Many::new(alloc),
         };
-        let below = place_of(schema, config, steps, here, node, (here.from, here.from));
         let spot = Spot {
             steps: steps_below(steps, alloc, step)?,
-            here: below,
+            here: place_of(schema, config, steps, here, node, (here.from, here.from)),
         };
         add_values(out, children, config, &spot, leaf, number + 1)?;
         return Ok(());
     }
-    let depth = steps.len();
-    let mut at = here.from;
-    'part: while at < here.to {
-        let end = run_end(config, depth, at, here.to);
-        if let Some(step) = next_of(config, depth, at) {
-            if step.node == number {
-                let below = place_of(schema, config, steps, here, node, (at, end));
-                let spot = Spot {
-                    steps: steps_below(steps, alloc, copied_step(step)?)?,
-                    here: below,
-                };
-                add_values(out, children, config, &spot, leaf, number + 1)?;
-            }
+    for run in runs {
+        if !is_same_number(run.node, Some(number)) {
+            continue;
         }
-        at = end;
+        let Some(step) = step_of(config, steps.len(), run) else {
+            continue;
+        };
+        let spot = Spot {
+            steps: steps_below(steps, alloc, copied_step(step)?)?,
+            here: place_of(schema, config, steps, here, node, (run.from, run.to)),
+        };
+        add_values(out, children, config, &spot, leaf, number + 1)?;
     }
     Ok(())
 }

@@ -1,11 +1,13 @@
 //! Which data nodes stand in which (RFC 7950 7.5, 7.8). It is found once for a schema, so that in each
 //! place of a configuration only the children of its data node are looked at.
 ghost use Rattle.std.specs.Prelude.{◌≡◌, ◌++◌, ◌∷◌, ◌+◌, ◌<◌, ◌^◌, [], length, replicate, slice_get, slice_set, IfOk, OnSome};
+ghost use Rattle.std.specs.List.{list_any};
 ghost use Rattle.std.specs.Option.{option_copied};
 ghost use Rattle.nc_schema.specs.Children.{HasLowerParents};
 ghost use Rattle.nc_defaults.specs.Children.{children_of};
 ghost use Rattle.nc_defaults.specs.inner.Lists as words;
 
+use crate::spots::has_places;
 use nc_names::{Many, Memory};
 use nc_schema::{Node, Schema};
 use std::alloc::Global;
@@ -116,5 +118,21 @@ impl<'a> Children<'a> {
         ensures few { OnSome result (number + 1 < 2 ^ 32) }
     {
         self.schema.node(number)
+    }
+
+    /// Whether instances of one of these data nodes are places.
+    pub(crate) fn have_places(&self, numbers: &[u32]) -> bool
+        ensures { result ≡ list_any (words.has_places_at self.now.nodes) numbers.now }
+    {
+        numbers.iter().any(|number| self.has_places_at(*number))
+    }
+
+    fn has_places_at(&self, number: u32) -> bool
+        ensures { result ≡ words.has_places_at self.now.nodes number }
+    {
+        match self.node(number) {
+            Some(node) => has_places(node.kind),
+            None => false,
+        }
     }
 }

@@ -13,6 +13,7 @@ mod cases;
 mod children;
 mod here;
 mod parts;
+mod spans;
 mod spots;
 mod value;
 mod values;

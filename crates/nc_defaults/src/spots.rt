@@ -5,11 +5,12 @@ ghost use Rattle.nc_schema.specs.Children.{is_same_number};
 ghost use Rattle.nc_schema.specs.Kinds as kinds;
 ghost use Rattle.nc_schema.specs.Places as places;
 ghost use Rattle.nc_defaults.specs.Within.{AreWithin, IsWithin, place_here, places_in};
+ghost use Rattle.nc_defaults.specs.inner.Spans.{AreRuns};
 ghost use Rattle.nc_defaults.specs.inner.Walks.{places_at, places_under, places_with};
 
 use crate::children::Children;
 use crate::here::{Here, place_of};
-use crate::parts::{count_parts, next_of, run_end};
+use crate::spans::{Run, has_run, runs_of, step_of};
 use nc_names::{Copies, Many, Memory, Step};
 use nc_schema::{Kind, Node};
 use nc_tree::Config;
@@ -130,11 +131,16 @@ fn add_below(
         ++ places_under children.now (place_here config.now steps.now here) number) }
     ensures within { AreWithin config.now out.old → AreWithin config.now out.new }
 {
-    for child in children.in_parent(node_there(steps)) {
+    let numbers = children.in_parent(node_there(steps));
+    if !children.have_places(numbers) {
+        return Ok(());
+    }
+    let runs = runs_of(out.alloc(), config, steps.len(), here.from, here.to)?;
+    for child in numbers {
         if *child < number {
             continue;
         }
-        add_child(out, children, config, steps, here, *child)?;
+        add_child(out, children, config, steps, here, runs.as_slice(), *child)?;
     }
     Ok(())
 }
@@ -147,9 +153,11 @@ fn add_child(
     config: &Config,
     steps: &[Step],
     here: Here,
+    runs: &[Run],
     number: u32,
 ) -> Result<(), Memory>
-    requires { IsWithin config.now here }
+    requires here { IsWithin config.now here }
+    requires runs { AreRuns (length steps.now) config.now here.from here.to runs.now }
     ensures places { OnOk result (places_in config.now out.new ≡ places_in config.now out.old
         ++ places_at children.now (place_here config.now steps.now here) number) }
     ensures within { AreWithin config.now out.old → AreWithin config.now out.new }
@@ -157,7 +165,7 @@ fn add_child(
     let Some(node) = children.node(number) else {
         return Ok(());
     };
-    add_parts(out, children, config, steps, here, (number, node))?;
+    add_parts(out, children, config, steps, here, runs, (number, node))?;
     Ok(())
 }
 
@@ -169,9 +177,11 @@ fn add_parts(
     config: &Config,
     steps: &[Step],
     here: Here,
+    runs: &[Run],
     child: (u32, &Node),
 ) -> Result<(), Memory>
     requires within { IsWithin config.now here }
+    requires runs { AreRuns (length steps.now) config.now here.from here.to runs.now }
     requires known { child.0 < length children.now.nodes }
     requires few { child.0 + 1 < 2 ^ 32 }
     ensures places { OnOk result (places_in config.now out.new ≡ places_in config.now out.old
@@ -185,34 +195,33 @@ fn add_parts(
     if !has_places(node.kind) {
         return Ok(());
     }
-    if is_plain(node.kind) && count_parts(config, steps.len(), here.from, here.to, number) == 0 {
+    if !has_run(runs, number) {
+        if !is_plain(node.kind) {
+            return Ok(());
+        }
         let step = Step {
             node: number,
             keys: Many::new(alloc),
         };
-        let below = place_of(schema, config, steps, here, node, (here.from, here.from));
         let spot = Spot {
             steps: steps_below(steps, alloc, step)?,
-            here: below,
+            here: place_of(schema, config, steps, here, node, (here.from, here.from)),
         };
         add_place(out, children, config, spot, number + 1)?;
         return Ok(());
     }
-    let depth = steps.len();
-    let mut at = here.from;
-    'part: while at < here.to {
-        let end = run_end(config, depth, at, here.to);
-        if let Some(step) = next_of(config, depth, at) {
-            if step.node == number {
-                let below = place_of(schema, config, steps, here, node, (at, end));
-                let spot = Spot {
-                    steps: steps_below(steps, alloc, copied_step(step)?)?,
-                    here: below,
-                };
-                add_place(out, children, config, spot, number + 1)?;
-            }
+    for run in runs {
+        if !is_same_number(run.node, Some(number)) {
+            continue;
         }
-        at = end;
+        let Some(step) = step_of(config, steps.len(), run) else {
+            continue;
+        };
+        let spot = Spot {
+            steps: steps_below(steps, alloc, copied_step(step)?)?,
+            here: place_of(schema, config, steps, here, node, (run.from, run.to)),
+        };
+        add_place(out, children, config, spot, number + 1)?;
     }
     Ok(())
 }

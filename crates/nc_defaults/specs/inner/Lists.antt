@@ -1,5 +1,7 @@
 -- The children of each data node, kept as lists of their numbers.
-use Rattle.std.specs.Prelude.{◌≡◌, ◌+◌, ◌<◌, ◌^◌, ℕ, List, [], Option, None, Some, length, slice_get, take, unwrap_or}
+use Rattle.std.specs.Prelude.{◌≡◌, ◌+◌, ◌<◌, ◌^◌, ℕ, Bool, false, List, [], Option, None, Some, length, slice_get, take, unwrap_or}
+use Rattle.std.specs.Option.{option_map_or}
+use Rattle.nc_schema.specs.Kinds.{holds_nodes}
 use Rattle.nc_schema.specs.declared.node.Node.{Node}
 use Rattle.nc_defaults.specs.Children.{children_of}
 
@@ -24,3 +26,7 @@ pub record AreListsSoFar (nodes : List Node) (number : ℕ) (lists : List (List 
 pub record AreLists (nodes : List Node) (lists : List (List ℕ)) : Type 0 where
   pub few : length nodes < 2 ^ 32
   pub children : HaveChildren nodes lists
+
+-- instances of the data node of a number are places
+abbrev pub has_places_at : List Node → ℕ → Bool
+has_places_at nodes number = option_map_or (λ node. holds_nodes node.kind) (slice_get nodes number) false

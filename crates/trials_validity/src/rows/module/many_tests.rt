@@ -1,5 +1,5 @@
-//! Many data nodes. In each place only those that stand in it are looked at: to look at all of them in
-//! each of these places would take a minute.
+//! Many data nodes. In each place only those that stand in it are looked at, and its rows are gone over
+//! once and not for each of them: either would take a minute here.
 use super::node;
 use crate::rows::{config, shown};
 use nc_names::Boxed;
@@ -66,4 +66,12 @@ fn places_look_at_their_own_data_nodes_alone(rt: HostRuntime) {
     let lines = entries(&rt, alloc, 10, 20);
     assert!(rt; first(&rt, alloc, schema.get(), lines.as_str()).as_str() == "valid");
     assert!(rt; first(&rt, alloc, schema.get(), "0:a 0:a/1=a").as_str() == "Mandatory /0:a/2");
+}
+
+#[test]
+fn rows_of_a_place_are_gone_over_once(rt: HostRuntime) {
+    let alloc = rt.alloc();
+    let schema = wide_schema(&rt, alloc, 2_000);
+    let lines = entries(&rt, alloc, 1_000, 1_500);
+    assert!(rt; first(&rt, alloc, schema.get(), lines.as_str()).as_str() == "valid");
 }

@@ -35,7 +35,6 @@ impl Known {
         if let Some(known) = self.names.get(&text) {
             return known.copy();
         }
-        let text = text.shared()?;
         self.names.insert(text.copy()?)?;
         Ok(text)
     }

@@ -97,7 +97,7 @@ fn bind(level: Level, prefix: Text, space: Text) -> Result<Option<Level>, Memory
         level.undeclare();
         return Ok(Some(level));
     }
-    Ok(Some(level.declare(prefix, space.shared()?)?))
+    Ok(Some(level.declare(prefix, space)?))
 }
 
 /// Declares what an attribute declares.

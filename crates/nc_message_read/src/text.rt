@@ -1,6 +1,6 @@
 //! What the bytes of text, of a quoted value and of a CDATA section stand for (XML 1.0, 2.4, 2.7,
 //! 2.11, 3.3.3, 4.6).
-ghost use Rattle.std.specs.Prelude.{◌≡◌, ◌==◌, ◌≤◌, true, false, Bool, ◌&&◌, List, [], ◌∷◌, ◌++◌, length, drop, None, Some, IfOk, IfSome, OnOk, MatchOption, encode_utf8};
+ghost use Rattle.std.specs.Prelude.{◌≡◌, ◌==◌, ◌≤◌, true, false, Bool, ◌&&◌, List, [], ◌∷◌, ◌++◌, length, drop, None, Some, IfOk, IfSome, OnOk, MatchOption, encode_utf8, string_bytes};
 ghost use Rattle.std.specs.List.{list_all};
 ghost use Rattle.std.specs.Str.{is_utf8, chars as chars_in};
 ghost use Rattle.nc_message.specs.Texts as texts;
@@ -18,14 +18,18 @@ pub(crate) fn is_char(c: char) -> bool
 }
 
 /// The text of these bytes, where they are UTF-8 of characters that may stand in a message.
-fn allowed(bytes: Bytes) -> Option<Text>
-    ensures { MatchOption result (texts.is_allowed bytes ≡ false) (λ text. (text ≡ bytes) × (texts.is_allowed bytes ≡ true)) }
+fn allowed(bytes: Bytes) -> Result<Option<Text>, Memory>
+    ensures { IfOk result (λ found. MatchOption found
+        (texts.is_allowed bytes ≡ false)
+        (λ text. (text ≡ bytes) × (texts.is_allowed bytes ≡ true))) }
 {
-    let text = as_utf8(bytes)?;
-    if !all_chars(text.as_str()) {
-        return None;
+    let Some(chars) = as_utf8(bytes) else {
+        return Ok(None);
+    };
+    if !all_chars(chars.as_str()) {
+        return Ok(None);
     }
-    Some(text)
+    Ok(Some(Text::from_string(chars)?))
 }
 
 /// Whether each character may stand in a message.
@@ -41,11 +45,11 @@ pub(crate) fn all_chars(text: &str) -> bool
 }
 
 #[tactic(auto, using(crate::proofs::Utf8::utf8_yes, crate::proofs::Utf8::utf8_no))]
-fn as_utf8(bytes: Bytes) -> Option<Text>
-    ensures { MatchOption result (is_utf8 bytes ≡ false) (λ text. (text ≡ bytes) × (is_utf8 bytes ≡ true)) }
+fn as_utf8(bytes: Bytes) -> Option<String>
+    ensures { MatchOption result (is_utf8 bytes ≡ false) (λ chars. (string_bytes chars ≡ bytes) × (is_utf8 bytes ≡ true)) }
 {
     match String::from_utf8(bytes.into_vec()) {
-        Ok(chars) => Some(Text::from_string(chars)),
+        Ok(chars) => Some(chars),
         Err(_) => None,
     }
 }
@@ -177,7 +181,7 @@ fn meaning(alloc: Global, refers: bool, in_value: bool, raw: &[u8]) -> Result<Op
         (λ text. texts.meant refers in_value raw.now ≡ Some text)) }
 {
     match resolve(alloc, refers, in_value, raw)? {
-        Some(bytes) => Ok(allowed(bytes)),
+        Some(bytes) => allowed(bytes),
         None => Ok(None),
     }
 }

@@ -4,30 +4,32 @@ ghost use Rattle.std.specs.Cmp.Lexicographic.{pointwise, slice_cmp};
 ghost use Rattle.std.specs.Ordering.{nat_cmp, as_partial_cmp};
 ghost use Rattle.std.specs.Hash as fed;
 
-use crate::{Copies, Memory, Shared};
+use crate::{Copies, Memory};
 use std::alloc::Global;
 use std::cmp::Ordering;
 use std::fmt;
 use std::hash::{Hash, Hasher};
 use std::marker::Model;
+use std::sync::Arc;
 
 /// A text that contracts see as the list of its UTF-8 bytes. Two texts are ordered by their bytes.
 ///
-/// A text owns its characters, or shares them with its copies: a copy of a shared text takes no memory,
-/// and one that is changed gets characters of its own first.
+/// A text shares its characters with its copies, so a copy takes no memory; one that is changed gets
+/// characters of its own first. It takes the room of one pointer.
 #[derive(Drop)]
 pub struct Text {
-    own: String,
-    common: Option<Shared<String>>,
+    alloc: Global,
+    chars: Option<Arc<String, Global>>,
 }
 
 impl Model for Text {
-    ghost use Rattle.std.specs.Prelude.{List, ℕ, string_bytes};
+    ghost use Rattle.std.specs.Prelude.{List, ℕ, [], string_bytes};
     ghost use Rattle.std.specs.Option.{option_map_or};
+    ghost use Rattle.std.specs.Arc.{arc_value};
 
     ghost Value = { List ℕ };
 
-    ghost view = { λ t. option_map_or string_bytes t.common (string_bytes t.own) };
+    ghost view = { λ t. option_map_or (λ chars. string_bytes (arc_value chars)) t.chars [] };
 }
 
 impl Text {
@@ -35,47 +37,33 @@ impl Text {
     pub fn new(alloc: Global) -> Text
         ensures { result ≡ [] }
     {
-        Text::from_string(String::new(alloc))
+        Text { alloc, chars: None }
     }
 
     /// A copy of a `&str`.
     pub fn from_text(alloc: Global, text: &str) -> Result<Text, Memory>
         ensures { IfOk result (λ it. it ≡ text.now) }
     {
-        Ok(Text::from_string(String::from_str(alloc, text)?))
+        Text::from_string(String::from_str(alloc, text)?)
     }
 
-    /// The text of a `String`. It takes no memory.
-    pub fn from_string(chars: String) -> Text
-        ensures { result ≡ string_bytes chars }
+    /// The text of a `String`, whose characters it takes.
+    pub fn from_string(chars: String) -> Result<Text, Memory>
+        ensures { IfOk result (λ it. it ≡ string_bytes chars) }
     {
-        Text {
-            own: chars,
-            common: None,
+        let alloc = *chars.allocator();
+        if chars.is_empty() {
+            return Ok(Text::new(alloc));
         }
-    }
-
-    /// The same text, with characters that its copies share.
-    pub fn shared(self) -> Result<Text, Memory>
-        ensures { IfOk result (λ it. it ≡ self) }
-    {
-        let Text { own, common } = self;
-        let alloc = *own.allocator();
-        match common {
-            Some(chars) => Ok(Text {
-                own,
-                common: Some(chars),
-            }),
-            None => Ok(Text {
-                own: String::new(alloc),
-                common: Some(Shared::new(alloc, own)?),
-            }),
-        }
+        Ok(Text {
+            alloc,
+            chars: Some(Arc::new(alloc, chars)?),
+        })
     }
 
     /// The allocator with which the text grows.
     pub fn alloc(&self) -> Global {
-        *self.own.allocator()
+        self.alloc
     }
 
     /// How many bytes the text has.
@@ -103,9 +91,9 @@ impl Text {
     pub fn as_str(&self) -> &str
         ensures { result.now ≡ self.now }
     {
-        match &self.common {
-            Some(chars) => chars.get().as_str(),
-            None => self.own.as_str(),
+        match &self.chars {
+            Some(chars) => chars.as_str(),
+            None => "",
         }
     }
 
@@ -114,15 +102,8 @@ impl Text {
         ensures ok { OnOk result (self.new ≡ self.old ++ encode_utf8 sign) }
         ensures err { OnErr result (self.new ≡ self.old) }
     {
-        if let Some(chars) = &self.common {
-            let mut own = chars.get().clone()?;
-            own.push(sign)?;
-            self.own = own;
-            self.common = None;
-            return Ok(());
-        }
-        self.own.push(sign)?;
-        Ok(())
+        let mut bytes = [0u8; 4];
+        self.push_str(sign.encode_utf8(&mut bytes))
     }
 
     /// Puts a text at the end.
@@ -130,14 +111,10 @@ impl Text {
         ensures ok { OnOk result (self.new ≡ self.old ++ text.now) }
         ensures err { OnErr result (self.new ≡ self.old) }
     {
-        if let Some(chars) = &self.common {
-            let mut own = chars.get().clone()?;
-            own.push_str(text)?;
-            self.own = own;
-            self.common = None;
-            return Ok(());
+        match &mut self.chars {
+            Some(chars) => Arc::make_mut(chars)?.push_str(text)?,
+            None => *self = Text::from_text(self.alloc, text)?,
         }
-        self.own.push_str(text)?;
         Ok(())
     }
 
@@ -145,20 +122,20 @@ impl Text {
     pub fn clear(&mut self)
         ensures { self.new ≡ [] }
     {
-        self.own.clear();
-        self.common = None;
+        self.chars = None;
     }
 }
 
 impl Copies for Text {
     fn copy(&self) -> Result<Text, Memory> {
-        match &self.common {
-            Some(chars) => Ok(Text {
-                own: String::new(self.alloc()),
-                common: Some(chars.copy()?),
-            }),
-            None => Text::from_text(self.alloc(), self.own.as_str()),
-        }
+        let chars = match &self.chars {
+            Some(chars) => Some(Arc::try_clone(chars)?),
+            None => None,
+        };
+        Ok(Text {
+            alloc: self.alloc,
+            chars,
+        })
     }
 }
 

@@ -10,7 +10,7 @@ use nc_schema::Schema;
 use nc_types::TypeFault;
 use std::alloc::Global;
 
-/// The canonical text of a value of a node's type, or `None` where the text is none. Its copies share it.
+/// The canonical text of a value of a node's type, or `None` where the text is none.
 pub(crate) fn canonical(
     alloc: Global,
     schema: &Schema,
@@ -21,7 +21,7 @@ pub(crate) fn canonical(
     ensures { IfOk result (λ it. it ≡ values.canonical schema.now number text.now bounds.now) }
 {
     match nc_types::canonical(alloc, schema, number, text, bounds) {
-        Ok(value) => Ok(Some(value.shared()?)),
+        Ok(value) => Ok(Some(value)),
         Err(TypeFault::NotInType) => Ok(None),
         Err(TypeFault::Memory) => Err(Memory),
     }

@@ -122,7 +122,7 @@ pub(crate) fn binary_text(alloc: Global, lengths: &[Between], text: &str) -> Res
     match STANDARD.decode(alloc, symbols.as_slice()) {
         Ok(octets) => {
             if is_among(lengths, octets.len() as i128) {
-                Ok(Text::from_string(STANDARD.encode(alloc, octets.as_slice())?))
+                Ok(Text::from_string(STANDARD.encode(alloc, octets.as_slice())?)?)
             } else {
                 Err(TypeFault::NotInType)
             }

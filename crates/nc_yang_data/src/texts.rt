@@ -38,12 +38,12 @@ pub(crate) fn space_at(alloc: Global, spaces: &[Text], text: usize) -> Result<Te
     }
 }
 
-// The namespace of the module of a text, to be shared.
+// The namespace of the module of a text.
 fn namespace_of<'a>(alloc: Global, scopes: &Scopes<'a>, text: usize) -> Result<Text, Memory>
     ensures { IfOk result (λ it. it ≡ namespace_at scopes.now.texts text) }
 {
     match root_of(scopes, text) {
-        Some(root) => Text::from_text(alloc, namespace_in(root))?.shared(),
+        Some(root) => Text::from_text(alloc, namespace_in(root)),
         None => Ok(Text::new(alloc)),
     }
 }

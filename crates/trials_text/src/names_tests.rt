@@ -83,7 +83,7 @@ fn lists_shrink(rt: HostRuntime) -> Result<(), Fail> {
 
 /// A text of some words, one of them put at the end of a copy of a shared text.
 fn joined(alloc: Global, first: &str, second: &str) -> Result<(Text, Text), Memory> {
-    let text = Text::from_text(alloc, first)?.shared()?;
+    let text = Text::from_text(alloc, first)?;
     let mut longer = text.copy()?;
     longer.push_str(second)?;
     longer.push('!')?;

@@ -8,7 +8,6 @@ pub mod Meaning
 pub mod Planned
 pub mod DataTypes
 pub mod Modules
-pub mod PrefixLemmas
 pub mod NamingLemmas
 pub mod AlikeNames
 pub mod ReadyLemmas

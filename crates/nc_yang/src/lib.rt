@@ -18,9 +18,7 @@
 mod features;
 mod laws;
 mod names;
-mod prefixes;
 mod schema;
-mod stop;
 mod supported;
 mod texts;
 

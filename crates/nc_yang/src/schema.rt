@@ -6,29 +6,28 @@ ghost use Rattle.nc_yang_data.specs.Data.{data_faults, data_tables};
 ghost use Rattle.nc_yang_defaults.specs.Defaults.{BreaksDefault, HasDefaults};
 ghost use Rattle.nc_yang_defaults.specs.Typed.{IsTyped as IsReady};
 ghost use Rattle.nc_yang_circles.specs.Circles.{BreaksCircle, HasNoCircle};
-ghost use Rattle.nc_yang_leafs.specs.Bases.{AllMeanWhole, ArePrefixes};
+ghost use Rattle.nc_yang_leafs.specs.Bases.{AllMeanWhole};
+ghost use Rattle.nc_yang_scopes.specs.Prefixes.{ArePrefixes, namespace_in};
 ghost use Rattle.nc_yang_leafs.specs.Conditions.{holds};
 ghost use Rattle.nc_yang_leafs.specs.Faults.{BreaksLeafref};
 ghost use Rattle.nc_yang_leafs.specs.Typings.{IsTyped};
 ghost use Rattle.nc_yang_meanings.specs.Faults.{KeepsTypes};
 ghost use Rattle.nc_yang_meanings.specs.Plans.{AreMeanings};
-ghost use Rattle.nc_yang_scopes.specs.Prefixes.{namespace_in};
 ghost use Rattle.nc_yang_texts.specs.Rules.{KeepsTexts};
+ghost use Rattle.nc_yang_statements.specs.Stops.{OnBroken};
 ghost use Rattle.nc_yang.specs.Schemas as schemas;
-ghost use Rattle.nc_yang.specs.inner.Stops.{OnFound};
 
 use crate::names::{Derived, Names};
-use crate::prefixes::all_prefixes;
-use crate::stop::Stop;
 use nc_names::{Bound, Many, Text};
 use nc_schema::Schema;
 use nc_yang_circles::first_circle;
-use nc_yang_data::{data_nodes, namespaces};
+use nc_yang_data::{all_prefixes, data_nodes, namespaces};
 use nc_yang_defaults::with_defaults;
 use nc_yang_leafs::typed;
 use nc_yang_meanings::{Meanings, defaults_of};
 use nc_yang_nodes::{Features, Plan};
-use nc_yang_scopes::Scopes;
+use nc_yang_scopes::{Scopes, TextFault};
+use nc_yang_statements::Stop;
 use std::alloc::Global;
 
 // Nothing where no leafref of a plan leads in a circle.
@@ -40,13 +39,13 @@ fn keep_straight<'a>(
     plan: &Plan,
     prefixes: &[Many<Bound>],
     untyped: &Schema,
-) -> Result<(), Stop>
+) -> Result<(), Stop<TextFault>>
     requires meanings { AreMeanings (holds scopes.now.texts (is_on features.now)) scopes.now meanings.now }
     requires untyped { untyped.now ≡ data_tables scopes.now (is_on features.now) plan.now }
     requires prefixes { ArePrefixes scopes.now.texts prefixes.now }
     ensures { MatchResult result
         (λ _. HasNoCircle (schemas.basis scopes.now (is_on features.now) plan.now))
-        (OnFound (BreaksCircle (schemas.basis scopes.now (is_on features.now) plan.now))) }
+        (OnBroken (BreaksCircle (schemas.basis scopes.now (is_on features.now) plan.now))) }
 {
     match first_circle(alloc, scopes, plan, meanings, prefixes, untyped)? {
         Some(found) => Err(Stop::Broken(found)),
@@ -64,7 +63,7 @@ fn with_types<'a>(
     spaces: &[Text],
     prefixes: &[Many<Bound>],
     untyped: Schema,
-) -> Result<Schema, Stop>
+) -> Result<Schema, Stop<TextFault>>
     requires meanings { AreMeanings (holds scopes.now.texts (is_on features.now)) scopes.now meanings.now }
     requires untyped { untyped ≡ data_tables scopes.now (is_on features.now) plan.now }
     requires whole { AllMeanWhole (schemas.basis scopes.now (is_on features.now) plan.now) }
@@ -72,16 +71,16 @@ fn with_types<'a>(
     requires prefixes { ArePrefixes scopes.now.texts prefixes.now }
     ensures { MatchResult result
         (IsTyped (schemas.AreNames scopes.now (is_on features.now)) (schemas.basis scopes.now (is_on features.now) plan.now))
-        (OnFound (BreaksLeafref (schemas.basis scopes.now (is_on features.now) plan.now))) }
+        (OnBroken (BreaksLeafref (schemas.basis scopes.now (is_on features.now) plan.now))) }
 {
     let names = Names::of(alloc, scopes, spaces)?;
     let derived = Derived {
         names: &names,
         features,
     };
-    Ok(typed(
+    typed(
         alloc, scopes, features, plan, meanings, prefixes, &derived, untyped,
-    )?)
+    )
 }
 
 // The schema with the defaults of leafs and leaf-lists.
@@ -91,13 +90,13 @@ fn finished(
     plan: &Plan,
     prefixes: &[Many<Bound>],
     typed: Schema,
-) -> Result<Schema, Stop>
+) -> Result<Schema, Stop<TextFault>>
     requires prefixes { ArePrefixes scopes.now.texts prefixes.now }
     requires ready { IsReady scopes.now plan.now typed }
-    ensures { MatchResult result (HasDefaults scopes.now plan.now typed) (OnFound (BreaksDefault scopes.now plan.now typed)) }
+    ensures { MatchResult result (HasDefaults scopes.now plan.now typed) (OnBroken (BreaksDefault scopes.now plan.now typed)) }
 {
     let defaults = defaults_of(alloc, scopes)?;
-    Ok(with_defaults(alloc, scopes, plan, defaults.as_slice(), prefixes, typed)?)
+    with_defaults(alloc, scopes, plan, defaults.as_slice(), prefixes, typed)
 }
 
 // The schema of a plan whose data nodes keep the rules in their places.
@@ -110,7 +109,7 @@ fn filled<'a>(
     spaces: &[Text],
     prefixes: &[Many<Bound>],
     untyped: Schema,
-) -> Result<Schema, Stop>
+) -> Result<Schema, Stop<TextFault>>
     requires meanings { AreMeanings (holds scopes.now.texts (is_on features.now)) scopes.now meanings.now }
     requires plan { IsPlan scopes.now (is_on features.now) plan.now }
     requires untyped { untyped ≡ data_tables scopes.now (is_on features.now) plan.now }
@@ -119,7 +118,7 @@ fn filled<'a>(
     requires spaces { spaces.now ≡ map namespace_in scopes.now.texts }
     requires prefixes { ArePrefixes scopes.now.texts prefixes.now }
     ensures { MatchResult result (schemas.IsSchemaOf scopes.now (is_on features.now) plan.now)
-        (OnFound (schemas.BreaksPlan scopes.now (is_on features.now) plan.now)) }
+        (OnBroken (schemas.BreaksPlan scopes.now (is_on features.now) plan.now)) }
 {
     keep_straight(alloc, scopes, features, meanings, plan, prefixes, &untyped)?;
     let typed = with_types(
@@ -135,13 +134,13 @@ pub(crate) fn schema_of<'a>(
     features: &Features<'a>,
     meanings: &Meanings,
     plan: &Plan,
-) -> Result<Schema, Stop>
+) -> Result<Schema, Stop<TextFault>>
     requires meanings { AreMeanings (holds scopes.now.texts (is_on features.now)) scopes.now meanings.now }
     requires texts { KeepsTexts scopes.now.texts }
     requires types { KeepsTypes (holds scopes.now.texts (is_on features.now)) scopes.now.texts }
     requires plan { IsPlan scopes.now (is_on features.now) plan.now }
     ensures { MatchResult result (schemas.IsSchemaOf scopes.now (is_on features.now) plan.now)
-        (OnFound (schemas.BreaksPlan scopes.now (is_on features.now) plan.now)) }
+        (OnBroken (schemas.BreaksPlan scopes.now (is_on features.now) plan.now)) }
 {
     let untyped = data_nodes(alloc, scopes, features, plan)?;
     let spaces = namespaces(alloc, scopes)?;

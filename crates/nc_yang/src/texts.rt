@@ -3,31 +3,36 @@ ghost use Rattle.std.specs.Prelude.{◌≡◌, List, IfOk, MatchResult};
 ghost use Rattle.nc_schema.specs.Proper.{IsProperSchema};
 ghost use Rattle.nc_yang_nodes.specs.FeaturesOn.{is_on};
 ghost use Rattle.nc_yang_nodes.specs.Supported.{AreOn};
+ghost use Rattle.nc_yang_statements.specs.Stops.{OnBroken};
 ghost use Rattle.nc_yang_texts.specs.Rules.{BreaksText, KeepsTexts};
 ghost use Rattle.nc_yang_texts.specs.Texts.{AreRead, OnModule};
 ghost use Rattle.nc_yang_texts.specs.declared.text.ModuleText.{ModuleText as TheModuleText};
 ghost use Rattle.nc_yang.specs.Features.{is_given};
 ghost use Rattle.nc_yang.specs.Laws.{HasCanonicalDefaults};
 ghost use Rattle.nc_yang.specs.Schemas as schemas;
-ghost use Rattle.nc_yang.specs.inner.Stops.{IsInFile, OnFound};
+ghost use Rattle.nc_yang.specs.inner.Stops.{IsInFile};
 
 use crate::features::given;
 use crate::schema::schema_of;
-use crate::stop::Stop;
 use crate::supported::Supported;
 use nc_names::{Memory, Text};
 use nc_schema::Schema;
 use nc_yang_meanings::meanings_of;
 use nc_yang_nodes::{Features, features_on, plan_of};
-use nc_yang_scopes::Scopes;
+use nc_yang_scopes::{Scopes, TextFault};
+use nc_yang_statements::Stop;
 use nc_yang_texts::{CompileFault, ModuleText, first_break, read_texts};
 use nc_yang_words::Statement;
 use std::alloc::Global;
 
 // Nothing where texts keep the rules that need no data node and no type.
-fn keep_texts<'a>(alloc: Global, roots: &'a [Statement], scopes: &Scopes<'a>) -> Result<(), Stop>
+fn keep_texts<'a>(
+    alloc: Global,
+    roots: &'a [Statement],
+    scopes: &Scopes<'a>,
+) -> Result<(), Stop<TextFault>>
     requires { scopes.now.texts ≡ roots.now }
-    ensures { MatchResult result (λ _. KeepsTexts roots.now) (OnFound (BreaksText roots.now)) }
+    ensures { MatchResult result (λ _. KeepsTexts roots.now) (OnBroken (BreaksText roots.now)) }
 {
     match first_break(alloc, roots, scopes)? {
         Some(found) => Err(Stop::Broken(found)),
@@ -48,10 +53,14 @@ fn features_of<'a>(
 }
 
 // The schema of texts that keep the rules which need no data node and no type.
-fn compiled<'a>(alloc: Global, scopes: &Scopes<'a>, features: &Features<'a>) -> Result<Schema, Stop>
+fn compiled<'a>(
+    alloc: Global,
+    scopes: &Scopes<'a>,
+    features: &Features<'a>,
+) -> Result<Schema, Stop<TextFault>>
     requires { KeepsTexts scopes.now.texts }
     ensures { MatchResult result (schemas.GivesSchema scopes.now (is_on features.now))
-        (OnFound (schemas.BreaksSchema scopes.now (is_on features.now))) }
+        (OnBroken (schemas.BreaksSchema scopes.now (is_on features.now))) }
 {
     let supported = Supported { scopes, features };
     let meanings = meanings_of(alloc, scopes, &supported)?;
@@ -60,10 +69,14 @@ fn compiled<'a>(alloc: Global, scopes: &Scopes<'a>, features: &Features<'a>) -> 
 }
 
 // The schema of modules by their statements.
-fn of_roots<'a>(alloc: Global, roots: &'a [Statement], lines: &'a [Text]) -> Result<Schema, Stop>
+fn of_roots<'a>(
+    alloc: Global,
+    roots: &'a [Statement],
+    lines: &'a [Text],
+) -> Result<Schema, Stop<TextFault>>
     ensures { (modules : List TheModuleText) → AreRead modules roots.now → MatchResult result
         (schemas.Defines modules lines.now)
-        (OnFound (λ found. schemas.Breaks modules lines.now found.text found.fault)) }
+        (OnBroken (λ found. schemas.Breaks modules lines.now found.text found.fault)) }
 {
     let scopes = Scopes::of(alloc, roots)?;
     keep_texts(alloc, roots, &scopes)?;
@@ -72,7 +85,7 @@ fn of_roots<'a>(alloc: Global, roots: &'a [Statement], lines: &'a [Text]) -> Res
 }
 
 // As a fault of a file.
-fn in_file(stop: Stop) -> CompileFault
+fn in_file(stop: Stop<TextFault>) -> CompileFault
     ensures { IsInFile stop result }
 {
     let Stop::Broken(found) = stop else {

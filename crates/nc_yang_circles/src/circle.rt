@@ -1,7 +1,8 @@
 //! The first leafref that leads in a circle.
 ghost use Rattle.std.specs.Prelude.{◌≡◌, Some, slice_get, option_map, IfOk, ℕ, Bool, List};
 ghost use Rattle.nc_yang_meanings.specs.Plans.{AreMeanings};
-ghost use Rattle.nc_yang_leafs.specs.Bases.{ArePrefixes, basis_on};
+ghost use Rattle.nc_yang_leafs.specs.Bases.{basis_on};
+ghost use Rattle.nc_yang_scopes.specs.Prefixes.{ArePrefixes};
 ghost use Rattle.nc_yang_circles.specs.Circles as circles;
 ghost use Rattle.nc_yang_circles.specs.inner.Links as words;
 

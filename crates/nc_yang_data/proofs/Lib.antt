@@ -2,6 +2,7 @@ mod WordLemmas
 mod LeafLemmas
 mod SeenLemmas
 mod PlaceLemmas
+mod PrefixLemmas
 mod DraftLemmas
 mod TextLemmas
 mod DefaultLemmas

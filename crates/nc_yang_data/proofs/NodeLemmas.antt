@@ -9,10 +9,10 @@ use Rattle.nc_yang_scopes.specs.Scopes.{Scoping}
 use Rattle.nc_yang_scopes.specs.declared.naming.TextFault.{TextFault}
 use Rattle.nc_yang_nodes.specs.declared.planned.Planned.{Planned}
 use Rattle.nc_yang_data.specs.Data.{node_at, nodes_from}
-use Rattle.nc_yang_data.specs.Faults.{OnFault}
 use Rattle.nc_yang_data.specs.Places.{faults_at, faults_from}
-use Rattle.nc_yang_data.specs.declared.stop.DataFault.{DataFault}
-use Rattle.nc_yang_data.specs.declared.stop.DataFault.TheVariants.{Broken, Memory}
+use Rattle.nc_yang_statements.specs.Stops.{OnBroken}
+use Rattle.nc_yang_statements.specs.declared.stop.Stop.{Stop}
+use Rattle.nc_yang_statements.specs.declared.stop.Stop.TheVariants.{Broken, Memory}
 
 pub next_is : (items : List Planned) (i : ℕ) (p : Planned) → i < length items → p ≡ get_or items i p → drop i items ≡ p ∷ drop (i + 1) items
 next_is items i p within is = drop_more items i p within ∙ ap (λ (z : Planned). z ∷ drop (i + 1) items) (sym is)
@@ -36,9 +36,9 @@ module _ (scoping : Scoping) (tables : Tables) (items : List Planned) (i n : ℕ
       ∙ first_none (faults_at scoping tables i p.statement) (faults_from scoping tables (i + 1) (drop (i + 1) items))
       (subst (λ k. first (faults_at scoping tables k p.statement) ≡ None) count none)
 
-  pub faults_stop : (whole : Option TextFault) (fault : DataFault) →
-      OnFault (λ (found : TextFault). Some found ≡ first (faults_at scoping tables n p.statement)) fault →
-      whole ≡ first (faults_from scoping tables i (drop i items)) → OnFault (λ (found : TextFault). Some found ≡ whole) fault
+  pub faults_stop : (whole : Option TextFault) (fault : Stop TextFault) →
+      OnBroken (λ (found : TextFault). Some found ≡ first (faults_at scoping tables n p.statement)) fault →
+      whole ≡ first (faults_from scoping tables i (drop i items)) → OnBroken (λ (found : TextFault). Some found ≡ whole) fault
   faults_stop whole Memory h old = _
   faults_stop whole (Broken found) h old =
       let here : first (faults_at scoping tables i p.statement) ≡ Some found = sym (subst (λ k. Some found ≡ first (faults_at scoping tables k p.statement)) count h) in

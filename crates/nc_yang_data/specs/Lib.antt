@@ -6,6 +6,5 @@ pub mod Places
 pub mod Defaults
 pub mod Conditions
 pub mod Data
-pub mod Faults
 pub mod Laws
 pub mod inner

@@ -90,3 +90,19 @@ pub fn prefixes<'a>(
     }
     Ok(found)
 }
+
+/// The prefixes of each text, with the namespaces for which they stand. The namespaces of all texts are given.
+pub fn all_prefixes<'a>(
+    alloc: Global,
+    scopes: &Scopes<'a>,
+    spaces: &[Text],
+) -> Result<Many<Many<Bound>>, Memory>
+    requires { spaces.now ≡ map words.namespace_in scopes.now.texts }
+    ensures { IfOk result (words.ArePrefixes scopes.now.texts) }
+{
+    let mut all = Many::new(alloc);
+    for text in 0..scopes.texts() {
+        all.push(prefixes(alloc, scopes, spaces, text)?)?;
+    }
+    Ok(all)
+}

@@ -7,7 +7,8 @@
 //! `data_nodes` promises exactly the defined tables where no rule is broken, and else the first rule that is;
 //! by the law `data_is_in_place` the data nodes and choices then are in place as those of a proper schema, and by
 //! `data_is_fixed` they do not depend on which plan of the modules is taken.
-//! `prefixes` promises the prefixes of a text with their namespaces, and `namespaces` those of all texts.
+//! `prefixes` promises the prefixes of a text with their namespaces, `all_prefixes` those of each text, and `namespaces`
+//! the namespaces of all texts.
 //! First each node is made by its statement alone; then each again, with the leafs that it names among those.
 //! The crate `trials_modules` tests it.
 #![tactic(auto)]
@@ -27,13 +28,11 @@ mod modules;
 mod naming;
 mod nodes;
 mod place;
-mod stop;
 mod tables;
 mod texts;
 mod words;
 
-pub use bounds::prefixes;
+pub use bounds::{all_prefixes, prefixes};
 pub use laws::{data_is_fixed, data_is_in_place};
-pub use stop::DataFault;
 pub use tables::data_nodes;
 pub use texts::namespaces;

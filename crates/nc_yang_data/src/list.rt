@@ -5,24 +5,23 @@ ghost use Rattle.nc_yang_statements.specs.Statements as statements;
 ghost use Rattle.nc_yang_data.specs.Lists as lists;
 ghost use Rattle.nc_yang_data.specs.Leafs as leafs;
 ghost use Rattle.nc_yang_data.specs.declared.naming.Naming.TheVariants.{Keys};
-ghost use Rattle.nc_yang_data.specs.inner.Stops.{OnBroken};
+ghost use Rattle.nc_yang_statements.specs.Stops.{OnBroken};
 
 use crate::again::has_again;
 use crate::leaf::leafs_by;
 use crate::naming::Naming;
-use crate::stop::DataStop;
 use nc_names::Many;
 use nc_schema::Schema;
 use nc_yang_scopes::Scopes;
-use nc_yang_statements::{Fault, Keyword, ModuleWhy, is_same_keyword, kind, name, part};
+use nc_yang_statements::{Fault, Keyword, ModuleWhy, Stop, is_same_keyword, kind, name, part};
 use nc_yang_words::Statement;
 use std::alloc::Global;
 
 /// That a statement breaks a rule.
-pub(crate) fn broken(statement: &Statement, why: ModuleWhy) -> DataStop
+pub(crate) fn broken(statement: &Statement, why: ModuleWhy) -> Stop<Fault>
     ensures { OnBroken (λ fault. Some fault ≡ rules.first (rules.at_if true statement.now why)) result }
 {
-    DataStop::Broken(Fault {
+    Stop::Broken(Fault {
         line: statement.line,
         why,
     })
@@ -43,7 +42,7 @@ fn keys_by<'a>(
     text: usize,
     number: u32,
     statement: &'a Statement,
-) -> Result<Many<u32>, DataStop>
+) -> Result<Many<u32>, Stop<Fault>>
     ensures { MatchResult result
         (λ it. (leafs.leafs_by Keys scopes.now.texts schema.now text number (statements.name statement.now) ≡ Some it)
         × (rules.first (lists.key_faults statement.now (Some it)) ≡ None))
@@ -71,7 +70,7 @@ pub(crate) fn keys_of<'a>(
     text: usize,
     number: u32,
     list: &'a Statement,
-) -> Result<Many<u32>, DataStop>
+) -> Result<Many<u32>, Stop<Fault>>
     ensures { MatchResult result
         (λ it. (lists.keys_of scopes.now.texts schema.now text number list.now ≡ Some it)
         × (rules.first (lists.keyless scopes.now.texts schema.now text number list.now) ≡ None))
@@ -94,7 +93,7 @@ fn with_unique<'a>(
     number: u32,
     found: Many<Many<u32>>,
     statement: &'a Statement,
-) -> Result<Many<Many<u32>>, DataStop>
+) -> Result<Many<Many<u32>>, Stop<Fault>>
     ensures { MatchResult result
         (λ it. (it ≡ found ++ lists.unique_leafs scopes.now.texts schema.now text number statement.now)
         × (lists.unique_fault scopes.now.texts schema.now text number statement.now ≡ []))
@@ -124,7 +123,7 @@ pub(crate) fn uniques_of<'a>(
     text: usize,
     number: u32,
     list: &'a Statement,
-) -> Result<Many<Many<u32>>, DataStop>
+) -> Result<Many<Many<u32>>, Stop<Fault>>
     ensures { MatchResult result
         (λ it. (it ≡ lists.uniques_of scopes.now.texts schema.now text number list.now)
         × (rules.first (lists.not_unique scopes.now.texts schema.now text number list.now) ≡ None))

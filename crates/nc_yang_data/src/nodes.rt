@@ -2,26 +2,25 @@
 ghost use Rattle.std.specs.Prelude.{◌≡◌, Some, None, List, map, MatchResult};
 ghost use Rattle.nc_yang_statements.specs.Rules as rules;
 ghost use Rattle.nc_yang_statements.specs.declared.fault.Fault.{Fault};
-ghost use Rattle.nc_yang_data.specs.Faults.{OnFault};
-ghost use Rattle.nc_yang_data.specs.inner.Stops.{OnBroken};
+ghost use Rattle.nc_yang_statements.specs.Stops.{OnBroken};
 ghost use Rattle.nc_yang_data.specs.Places as places;
 
 use crate::place::{Leafs, node_leafs};
-use crate::stop::{DataFault, DataStop};
 use nc_names::Many;
 use nc_schema::Schema;
 use nc_yang_scopes::{Scopes, TextFault};
+use nc_yang_statements::{Fault, Stop};
 use std::alloc::Global;
 
 // A fault in a text.
 #[tactic(auto, using(crate::proofs::PlaceLemmas::first_in_text))]
-fn in_text(text: usize, stop: DataStop) -> DataFault
+fn in_text(text: usize, stop: Stop<Fault>) -> Stop<TextFault>
     ensures { (faults : List Fault) → OnBroken (λ fault. Some fault ≡ rules.first faults) stop →
-        OnFault (λ found. Some found ≡ rules.first (map (places.in_text text) faults)) result }
+        OnBroken (λ found. Some found ≡ rules.first (map (places.in_text text) faults)) result }
 {
     match stop {
-        DataStop::Broken(fault) => DataFault::Broken(TextFault { text, fault }),
-        DataStop::Memory => DataFault::Memory,
+        Stop::Broken(fault) => Stop::Broken(TextFault { text, fault }),
+        Stop::Memory => Stop::Memory,
     }
 }
 
@@ -32,11 +31,11 @@ pub(crate) fn leafs_at<'a>(
     schema: &Schema,
     number: u32,
     at: usize,
-) -> Result<Leafs, DataFault>
+) -> Result<Leafs, Stop<TextFault>>
     ensures { MatchResult result
         (λ it. (it ≡ places.leafs_at scopes.now schema.now number at)
         × (rules.first (places.faults_at scopes.now schema.now number at) ≡ None))
-        (OnFault (λ found. Some found ≡ rules.first (places.faults_at scopes.now schema.now number at))) }
+        (OnBroken (λ found. Some found ≡ rules.first (places.faults_at scopes.now schema.now number at))) }
 {
     let (Some(text), Some(statement)) = (scopes.text(at), scopes.statement(at)) else {
         return Ok(Leafs {

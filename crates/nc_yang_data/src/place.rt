@@ -5,14 +5,13 @@ ghost use Rattle.nc_schema.specs.Kinds as kinds;
 ghost use Rattle.nc_yang_statements.specs.Rules as rules;
 ghost use Rattle.nc_yang_data.specs.Lists as lists;
 ghost use Rattle.nc_yang_data.specs.Places as places;
-ghost use Rattle.nc_yang_data.specs.inner.Stops.{OnBroken};
+ghost use Rattle.nc_yang_statements.specs.Stops.{OnBroken};
 
 use crate::list::{broken, keys_of, uniques_of};
-use crate::stop::DataStop;
 use nc_names::{Many, is_identifier};
 use nc_schema::{Kind, Schema};
 use nc_yang_scopes::Scopes;
-use nc_yang_statements::{Keyword, ModuleWhy, is_same_keyword, kind, name};
+use nc_yang_statements::{Fault, Keyword, ModuleWhy, Stop, is_same_keyword, kind, name};
 use nc_yang_words::Statement;
 use std::alloc::Global;
 
@@ -84,7 +83,7 @@ fn list_leafs<'a>(
     text: usize,
     number: u32,
     list: &'a Statement,
-) -> Result<Leafs, DataStop>
+) -> Result<Leafs, Stop<Fault>>
     ensures { MatchResult result
         (λ it. (it ≡ places.list_leafs scopes.now.texts schema.now text number list.now)
         × (rules.first (lists.list_faults scopes.now.texts schema.now text number list.now) ≡ None))
@@ -105,7 +104,7 @@ pub(crate) fn node_leafs<'a>(
     text: usize,
     number: u32,
     statement: &'a Statement,
-) -> Result<Leafs, DataStop>
+) -> Result<Leafs, Stop<Fault>>
     ensures { MatchResult result
         (λ it. (it ≡ places.node_leafs scopes.now.texts schema.now text number statement.now)
         × (rules.first (places.node_faults scopes.now.texts schema.now text number statement.now) ≡ None))

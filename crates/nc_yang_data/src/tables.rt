@@ -6,11 +6,11 @@ ghost use Rattle.nc_yang_statements.specs.Rules as rules;
 ghost use Rattle.nc_yang_scopes.specs.Prefixes.{namespace_in};
 ghost use Rattle.nc_yang_nodes.specs.FeaturesOn.{is_on};
 ghost use Rattle.nc_yang_nodes.specs.Plans.{IsPlan, IsSoundPlan};
+ghost use Rattle.nc_yang_statements.specs.Stops.{OnBroken};
 ghost use Rattle.nc_yang_data.specs.Conditions.{all_conditions};
 ghost use Rattle.nc_yang_data.specs.Data as tables;
 ghost use Rattle.nc_yang_data.specs.Defaults.{default_faults};
 ghost use Rattle.nc_yang_data.specs.Drafts as words;
-ghost use Rattle.nc_yang_data.specs.Faults.{OnFault};
 ghost use Rattle.nc_yang_data.specs.Modules.{modules_from};
 ghost use Rattle.nc_yang_data.specs.Places as places;
 
@@ -22,12 +22,12 @@ use crate::drafts::add_drafts;
 use crate::modules::add_modules;
 use crate::nodes::leafs_at;
 use crate::place::Leafs;
-use crate::stop::DataFault;
 use crate::texts::namespaces;
 use nc_names::{Memory, Text};
 use nc_schema::{Node, Schema};
 use nc_yang_nodes::{Features, Plan, Planned};
 use nc_yang_scopes::{Scopes, TextFault};
+use nc_yang_statements::Stop;
 use std::alloc::Global;
 
 // A planned node with these leafs.
@@ -58,7 +58,7 @@ fn add_node<'a>(
     drafts: &Schema,
     planned: &Planned,
     schema: &mut Schema,
-) -> Result<(), DataFault>
+) -> Result<(), Stop<TextFault>>
     requires numbered { planned.now.module < 2 ^ 32 }
     requires spaces { spaces.now ≡ map namespace_in scopes.now.texts }
     requires room { HasRoom schema.old.nodes }
@@ -70,7 +70,7 @@ fn add_node<'a>(
         })
         × (rules.first (places.faults_at scopes.now drafts.now (length schema.old.nodes) planned.now.statement)
         ≡ None))
-        (OnFault (λ found. Some found
+        (OnBroken (λ found. Some found
         ≡ rules.first (places.faults_at scopes.now drafts.now (length schema.old.nodes) planned.now.statement))) }
 {
     let leafs = leafs_at(alloc, scopes, drafts, schema.nodes(), planned.statement)?;
@@ -87,7 +87,7 @@ fn add_nodes<'a>(
     drafts: &Schema,
     plan: &Plan,
     schema: &mut Schema,
-) -> Result<(), DataFault>
+) -> Result<(), Stop<TextFault>>
     requires texts { length scopes.now.texts < 2 ^ 32 }
     requires spaces { spaces.now ≡ map namespace_in scopes.now.texts }
     requires sound { IsSoundPlan scopes.now plan.now }
@@ -95,7 +95,7 @@ fn add_nodes<'a>(
     ensures { MatchResult result
         (λ _. (schema.new ≡ record no_tables { nodes = tables.nodes_from scopes.now drafts.now 0 plan.now.nodes })
         × (rules.first (places.faults_from scopes.now drafts.now 0 plan.now.nodes) ≡ None))
-        (OnFault (λ found. Some found
+        (OnBroken (λ found. Some found
         ≡ rules.first (places.faults_from scopes.now drafts.now 0 plan.now.nodes))) }
 {
     for planned in plan.nodes.as_slice() {
@@ -132,7 +132,7 @@ fn add_placed<'a>(
     plan: &Plan,
     drafts: &mut Schema,
     schema: &mut Schema,
-) -> Result<(), DataFault>
+) -> Result<(), Stop<TextFault>>
     requires texts { length scopes.now.texts < 2 ^ 32 }
     requires sound { IsSoundPlan scopes.now plan.now }
     requires no_drafts { drafts.old ≡ no_tables }
@@ -141,7 +141,7 @@ fn add_placed<'a>(
         (λ _. (schema.new
         ≡ record no_tables { nodes = tables.nodes_from scopes.now (tables.drafts scopes.now plan.now) 0 plan.now.nodes })
         × (rules.first (places.faults_from scopes.now (tables.drafts scopes.now plan.now) 0 plan.now.nodes) ≡ None))
-        (OnFault (λ found. Some found
+        (OnBroken (λ found. Some found
         ≡ rules.first (places.faults_from scopes.now (tables.drafts scopes.now plan.now) 0 plan.now.nodes))) }
 {
     let spaces = namespaces(alloc, scopes)?;
@@ -150,11 +150,11 @@ fn add_placed<'a>(
 }
 
 // That there is no such fault.
-fn refuse(found: Option<TextFault>) -> Result<(), DataFault>
-    ensures { MatchResult result (λ _. found ≡ None) (λ fault. OnFault (λ it. found ≡ Some it) fault) }
+fn refuse(found: Option<TextFault>) -> Result<(), Stop<TextFault>>
+    ensures { MatchResult result (λ _. found ≡ None) (λ fault. OnBroken (λ it. found ≡ Some it) fault) }
 {
     match found {
-        Some(found) => Err(DataFault::Broken(found)),
+        Some(found) => Err(Stop::Broken(found)),
         None => Ok(()),
     }
 }
@@ -183,7 +183,7 @@ fn fill<'a>(
     plan: &Plan,
     drafts: &mut Schema,
     schema: &mut Schema,
-) -> Result<(), DataFault>
+) -> Result<(), Stop<TextFault>>
     requires texts { length scopes.now.texts < 2 ^ 32 }
     requires sound { IsSoundPlan scopes.now plan.now }
     requires no_drafts { drafts.old ≡ no_tables }
@@ -191,7 +191,7 @@ fn fill<'a>(
     ensures { MatchResult result
         (λ _. (schema.new ≡ tables.data_tables scopes.now (is_on features.now) plan.now)
         × (rules.first (tables.data_faults scopes.now (is_on features.now) plan.now) ≡ None))
-        (OnFault (λ found. Some found ≡ rules.first (tables.data_faults scopes.now (is_on features.now) plan.now))) }
+        (OnBroken (λ found. Some found ≡ rules.first (tables.data_faults scopes.now (is_on features.now) plan.now))) }
 {
     add_placed(alloc, scopes, plan, drafts, schema)?;
     add_rest(alloc, scopes, features, plan, schema)?;
@@ -210,16 +210,16 @@ pub fn data_nodes<'a>(
     scopes: &Scopes<'a>,
     features: &Features<'a>,
     plan: &Plan,
-) -> Result<Schema, DataFault>
+) -> Result<Schema, Stop<TextFault>>
     requires { IsPlan scopes.now (is_on features.now) plan.now }
     ensures ok { IfOk result (λ it. it ≡ tables.data_tables scopes.now (is_on features.now) plan.now) }
     ensures kept { OnOk result (tables.data_faults scopes.now (is_on features.now) plan.now ≡ []) }
-    ensures fault { IfErr result (OnFault (λ found. Some found
+    ensures fault { IfErr result (OnBroken (λ found. Some found
         ≡ rules.first (tables.data_faults scopes.now (is_on features.now) plan.now))) }
 {
     if scopes.texts() > u32::MAX as usize {
         // no machine has as many
-        return Err(DataFault::Memory);
+        return Err(Stop::Memory);
     }
     let mut drafts = Schema::new(alloc);
     let mut schema = Schema::new(alloc);

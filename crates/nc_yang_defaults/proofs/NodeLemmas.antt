@@ -15,10 +15,10 @@ use Rattle.nc_yang_nodes.specs.declared.planned.Planned.{Planned}
 use Rattle.nc_yang_nodes.specs.Expansion.{list_of}
 use Rattle.nc_yang_nodes.specs.Plans.{statement_of}
 use Rattle.nc_yang_scopes.specs.Numbers.{AreNumbers, OnNumber}
-use Rattle.nc_yang_defaults.specs.declared.fault.DefaultFault.{DefaultFault}
-use Rattle.nc_yang_defaults.specs.declared.fault.DefaultFault.TheVariants.{Broken, Memory as NoMemory}
+use Rattle.nc_yang_statements.specs.declared.stop.Stop.{Stop}
+use Rattle.nc_yang_statements.specs.declared.stop.Stop.TheVariants.{Broken, Memory as NoMemory}
 use Rattle.nc_yang_defaults.specs.Defaults.{AreDefaultsOf, AreValues, BreaksAt, BreaksDefault, bad_argument, blamed}
-use Rattle.nc_yang_defaults.specs.Faults.{OnBroken}
+use Rattle.nc_yang_statements.specs.Stops.{OnBroken}
 use Rattle.nc_yang_defaults.specs.Readings.{value_of}
 use Rattle.nc_yang_defaults.specs.Sources.{AreSources, Defined, IsDefined, brought, nothing, own, own_of}
 use Rattle.nc_yang_defaults.specs.Typed.{IsTyped}
@@ -111,7 +111,7 @@ module _ (scoping : Scoping) (plan : Plan) (tables : Tables) (number : ℕ) (d :
   pub plan_lost : slice_get plan.nodes number ≡ None → ⊥
   plan_lost none = let e : None ≡ Some d.statement = sym (ap (option_and_then (λ n. slice_get scoping.located n.statement)) (ap (slice_get plan.nodes) is ∙ none)) ∙ def.1 in cc
 
-  pub found_at : (node : Node) (planned : Planned) (r : Result (List (List ℕ)) DefaultFault) → slice_get tables.nodes number ≡ Some node → slice_get plan.nodes number ≡ Some planned → MeansIt scoping.texts d →
+  pub found_at : (node : Node) (planned : Planned) (r : Result (List (List ℕ)) (Stop TextFault)) → slice_get tables.nodes number ≡ Some node → slice_get plan.nodes number ≡ Some planned → MeansIt scoping.texts d →
       OnNumber scoping planned.statement (λ l. MeansIt scoping.texts (defined number node l) → FindsDefaults scoping tables (defined number node l) r) → FindsDefaults scoping tables d r
   found_at node planned r at plan_at means found =
       let same = same_defined d number node is (node_is node at) in
@@ -158,7 +158,7 @@ module _ (scoping : Scoping) (plan : Plan) (tables : Tables) (typed : IsTyped sc
             fault_is = f.is;
           }
 
-  pub found_stop : (fault : DefaultFault) → number < length tables.nodes →
+  pub found_stop : (fault : Stop TextFault) → number < length tables.nodes →
       ((d : Defined) → d.number ≡ number → IsDefined scoping plan tables d → MeansIt scoping.texts d → OnBroken (IsFault scoping.texts tables d) fault) → OnBroken (BreaksDefault scoping plan tables) fault
   found_stop (Broken fault) less here = found_bad fault less here
   found_stop NoMemory less here = tt

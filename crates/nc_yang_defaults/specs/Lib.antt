@@ -2,6 +2,5 @@ pub mod Sources
 pub mod Readings
 pub mod Defaults
 pub mod Typed
-pub mod Faults
 pub mod Laws
 pub mod inner

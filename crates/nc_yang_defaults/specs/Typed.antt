@@ -1,11 +1,9 @@
--- A schema before its leafs have their defaults, and the prefixes of module texts.
-use Rattle.std.specs.Prelude.{◌≡◌, ◌<◌, ℕ, Bool, true, List, [], length, Some, slice_get, IsSome}
-use Rattle.nc_names.specs.declared.name.Bound.{Bound}
+-- A schema before its leafs have their defaults.
+use Rattle.std.specs.Prelude.{◌≡◌, ◌<◌, ℕ, Bool, true, List, [], length, Some, IsSome}
 use Rattle.nc_schema.specs.Kinds.{has_value}
 use Rattle.nc_schema.specs.Tables.{Tables}
 use Rattle.nc_yang_words.specs.declared.statement.Statement.{Statement}
 use Rattle.nc_yang_statements.specs.declared.keyword.Keyword.TheVariants.{TypeName}
-use Rattle.nc_yang_scopes.specs.Prefixes.{prefixes_in}
 use Rattle.nc_yang_scopes.specs.Scopes.{Located, Scoping}
 use Rattle.nc_yang_nodes.specs.declared.planned.Plan.{Plan}
 use Rattle.nc_yang_nodes.specs.Plans.{statement_of}
@@ -28,8 +26,3 @@ pub record IsTyped (scoping : Scoping) (plan : Plan) (tables : Tables) : Type 0 
   pub meanings : (d : Defined) → IsDefined scoping plan tables d → has_value d.node.kind ≡ true
       → HasMeaning scoping.texts d.statement
   pub fresh : (d : Defined) → IsDefined scoping plan tables d → d.node.defaults ≡ []
-
--- the prefixes of each text
-pub record ArePrefixes (texts : List Statement) (prefixes : List (List Bound)) : Type 0 where
-  pub counted : length prefixes ≡ length texts
-  pub each : (text : ℕ) → text < length texts → slice_get prefixes text ≡ Some (prefixes_in texts text)

@@ -2,16 +2,17 @@
 ghost use Rattle.std.specs.Prelude.{◌≡◌, length, IfOk, MatchResult};
 ghost use Rattle.nc_yang_meanings.specs.Defaults.{AreDefaults};
 ghost use Rattle.nc_yang_defaults.specs.Defaults.{BreaksDefault};
-ghost use Rattle.nc_yang_defaults.specs.Faults.{OnBroken};
-ghost use Rattle.nc_yang_defaults.specs.Typed.{ArePrefixes, IsTyped};
+ghost use Rattle.nc_yang_statements.specs.Stops.{OnBroken};
+ghost use Rattle.nc_yang_defaults.specs.Typed.{IsTyped};
+ghost use Rattle.nc_yang_scopes.specs.Prefixes.{ArePrefixes};
 ghost use Rattle.nc_yang_defaults.specs.inner.Reading.{AreFound};
 
-use crate::fault::DefaultFault;
 use crate::node::defaults_at;
 use nc_names::{Bound, Many, Text};
 use nc_schema::Schema;
 use nc_yang_nodes::Plan;
-use nc_yang_scopes::Scopes;
+use nc_yang_scopes::{Scopes, TextFault};
+use nc_yang_statements::Stop;
 use std::alloc::Global;
 
 /// The defaults of each data node, or the first rule that they break.
@@ -22,7 +23,7 @@ pub(crate) fn all_defaults(
     defaults: &[Option<usize>],
     prefixes: &[Many<Bound>],
     schema: &Schema,
-) -> Result<Many<Many<Text>>, DefaultFault>
+) -> Result<Many<Many<Text>>, Stop<TextFault>>
     requires { AreDefaults scopes.now defaults.now }
     ensures found { ArePrefixes scopes.now.texts prefixes.now → IsTyped scopes.now plan.now schema.now →
         MatchResult result (AreFound scopes.now plan.now schema.now (length schema.now.nodes))

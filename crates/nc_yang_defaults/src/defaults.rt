@@ -2,16 +2,17 @@
 ghost use Rattle.std.specs.Prelude.{MatchResult};
 ghost use Rattle.nc_yang_meanings.specs.Defaults.{AreDefaults};
 ghost use Rattle.nc_yang_defaults.specs.Defaults.{BreaksDefault, HasDefaults};
-ghost use Rattle.nc_yang_defaults.specs.Faults.{OnBroken};
-ghost use Rattle.nc_yang_defaults.specs.Typed.{ArePrefixes, IsTyped};
+ghost use Rattle.nc_yang_statements.specs.Stops.{OnBroken};
+ghost use Rattle.nc_yang_defaults.specs.Typed.{IsTyped};
+ghost use Rattle.nc_yang_scopes.specs.Prefixes.{ArePrefixes};
 
 use crate::all::all_defaults;
-use crate::fault::DefaultFault;
 use crate::put::put_all;
 use nc_names::{Bound, Many};
 use nc_schema::Schema;
 use nc_yang_nodes::Plan;
-use nc_yang_scopes::Scopes;
+use nc_yang_scopes::{Scopes, TextFault};
+use nc_yang_statements::Stop;
 use std::alloc::Global;
 
 /// A schema whose leafs and leaf-lists have their types gets their defaults, as canonical texts: each its
@@ -28,7 +29,7 @@ pub fn with_defaults(
     defaults: &[Option<usize>],
     prefixes: &[Many<Bound>],
     typed: Schema,
-) -> Result<Schema, DefaultFault>
+) -> Result<Schema, Stop<TextFault>>
     requires { AreDefaults scopes.now defaults.now }
     ensures { ArePrefixes scopes.now.texts prefixes.now → IsTyped scopes.now plan.now typed →
         MatchResult result (HasDefaults scopes.now plan.now typed)

@@ -10,7 +10,6 @@
 
 mod all;
 mod defaults;
-mod fault;
 mod laws;
 mod node;
 mod put;
@@ -19,7 +18,6 @@ mod value;
 mod values;
 
 pub use defaults::with_defaults;
-pub use fault::DefaultFault;
 pub use laws::{
     defaults_are_canonical, defaults_are_fixed, defaults_keep_rules, leaf_has_one_default,
     outcome_is_canonical,

@@ -5,17 +5,16 @@ ghost use Rattle.nc_yang_scopes.specs.Numbers.{AreNumbers, OnNumber};
 ghost use Rattle.nc_yang_defaults.specs.Defaults.{bad_argument};
 ghost use Rattle.nc_yang_defaults.specs.Sources as sources;
 ghost use Rattle.nc_yang_defaults.specs.Sources.{Defined, IsDefined};
-ghost use Rattle.nc_yang_defaults.specs.Typed.{ArePrefixes};
+ghost use Rattle.nc_yang_scopes.specs.Prefixes.{ArePrefixes};
 ghost use Rattle.nc_yang_defaults.specs.inner.Reading.{FindsDefaults, MeansIt, defined};
 
-use crate::fault::{DefaultFault, Stop};
 use crate::sources::{brought, list_of, own_of};
 use crate::values::values_of;
 use nc_names::{Bound, Many, Text};
 use nc_schema::{Node, Schema};
 use nc_yang_nodes::Plan;
 use nc_yang_scopes::{Scopes, TextFault};
-use nc_yang_statements::{Fault, ModuleWhy};
+use nc_yang_statements::{Fault, ModuleWhy, Stop};
 use std::alloc::Global;
 
 // A bad argument of the statement of a number.
@@ -46,7 +45,7 @@ fn by_own(
     node: &Node,
     statement: usize,
     own: &[usize],
-) -> Result<Many<Text>, DefaultFault>
+) -> Result<Many<Text>, Stop<TextFault>>
     ensures { ArePrefixes scopes.now.texts prefixes.now → OnNumber scopes.now statement (λ l.
         own.now ≢ [] →
         AreNumbers scopes.now.located own.now (sources.own_of node.now.kind l) →
@@ -54,8 +53,8 @@ fn by_own(
 {
     match values_of(alloc, scopes, prefixes, schema, number, own) {
         Ok(values) => Ok(values),
-        Err(Stop::At(at)) => Err(DefaultFault::Broken(bad_argument(scopes, at))),
-        Err(Stop::Memory) => Err(DefaultFault::Memory),
+        Err(Stop::Broken(at)) => Err(Stop::Broken(bad_argument(scopes, at))),
+        Err(Stop::Memory) => Err(Stop::Memory),
     }
 }
 
@@ -69,7 +68,7 @@ fn by_type(
     number: u32,
     node: &Node,
     statement: usize,
-) -> Result<Many<Text>, DefaultFault>
+) -> Result<Many<Text>, Stop<TextFault>>
     requires { AreDefaults scopes.now defaults.now }
     ensures { ArePrefixes scopes.now.texts prefixes.now → OnNumber scopes.now statement (λ l.
         sources.own_of node.now.kind l ≡ [] →
@@ -79,8 +78,8 @@ fn by_type(
     let found = list_of(alloc, brought(scopes, defaults, number, node, statement))?;
     match values_of(alloc, scopes, prefixes, schema, number, found.as_slice()) {
         Ok(values) => Ok(values),
-        Err(Stop::At(_)) => Err(DefaultFault::Broken(bad_argument(scopes, statement))),
-        Err(Stop::Memory) => Err(DefaultFault::Memory),
+        Err(Stop::Broken(_)) => Err(Stop::Broken(bad_argument(scopes, statement))),
+        Err(Stop::Memory) => Err(Stop::Memory),
     }
 }
 
@@ -94,7 +93,7 @@ fn of_node(
     number: u32,
     node: &Node,
     statement: usize,
-) -> Result<Many<Text>, DefaultFault>
+) -> Result<Many<Text>, Stop<TextFault>>
     requires { AreDefaults scopes.now defaults.now }
     ensures { ArePrefixes scopes.now.texts prefixes.now → OnNumber scopes.now statement (λ l.
         MeansIt scopes.now.texts (defined number node.now l) →
@@ -128,7 +127,7 @@ pub(crate) fn defaults_at(
     prefixes: &[Many<Bound>],
     schema: &Schema,
     number: u32,
-) -> Result<Many<Text>, DefaultFault>
+) -> Result<Many<Text>, Stop<TextFault>>
     requires { AreDefaults scopes.now defaults.now }
     ensures { ArePrefixes scopes.now.texts prefixes.now → (d : Defined) → d.number ≡ number →
         IsDefined scopes.now plan.now schema.now d →

@@ -3,9 +3,8 @@ ghost use Rattle.std.specs.Prelude.{◌≡◌, ◌&&◌, ℕ, List, Option, [], 
 ghost use Rattle.std.specs.Str.Parse.{without_leading_sign};
 ghost use Rattle.nc_schema.specs.Values as values;
 ghost use Rattle.nc_yang_scopes.specs.Numbers.{OnNumber};
-ghost use Rattle.nc_yang_scopes.specs.Prefixes.{prefixes_in};
+ghost use Rattle.nc_yang_scopes.specs.Prefixes.{ArePrefixes, prefixes_in};
 ghost use Rattle.nc_yang_defaults.specs.Readings as readings;
-ghost use Rattle.nc_yang_defaults.specs.Typed.{ArePrefixes};
 ghost use Rattle.nc_yang_defaults.specs.inner.Reading.{IsReading};
 
 use nc_names::{Bound, Many, Memory, Text};

@@ -2,14 +2,14 @@
 ghost use Rattle.std.specs.Prelude.{◌<◌, ◌≤◌, List, length, IfOk, IfSome};
 ghost use Rattle.nc_yang_scopes.specs.Numbers.{AreNumbers};
 ghost use Rattle.nc_yang_scopes.specs.Scopes.{Located};
-ghost use Rattle.nc_yang_defaults.specs.Typed.{ArePrefixes};
+ghost use Rattle.nc_yang_scopes.specs.Prefixes.{ArePrefixes};
 ghost use Rattle.nc_yang_defaults.specs.inner.Reading.{AreRead, FindsValues, IsFirstAgain};
 
-use crate::fault::Stop;
 use crate::value::value;
 use nc_names::{Bound, Many, Memory, Text};
 use nc_schema::Schema;
 use nc_yang_scopes::{Scopes, Table};
+use nc_yang_statements::Stop;
 use std::alloc::Global;
 
 // The values of the `default` statements of these numbers up to the first that has none, and its number.
@@ -59,16 +59,16 @@ pub(crate) fn values_of(
     schema: &Schema,
     number: u32,
     defaults: &[usize],
-) -> Result<Many<Text>, Stop>
+) -> Result<Many<Text>, Stop<usize>>
     ensures { ArePrefixes scopes.now.texts prefixes.now →
         FindsValues scopes.now schema.now number defaults.now result }
 {
     let (values, stop) = read_all(alloc, scopes, prefixes, schema, number, defaults)?;
     if let Some(place) = first_again(alloc, values.as_slice())? {
-        return Err(Stop::At(defaults[place]));
+        return Err(Stop::Broken(defaults[place]));
     }
     match stop {
-        Some(at) => Err(Stop::At(at)),
+        Some(at) => Err(Stop::Broken(at)),
         None => Ok(values),
     }
 }

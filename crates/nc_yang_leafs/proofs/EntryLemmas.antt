@@ -8,7 +8,8 @@ use Rattle.nc_yang_scopes.specs.Scopes.{Located}
 use Rattle.nc_yang_meanings.specs.declared.planned.Planned.{Planned}
 use Rattle.nc_yang_meanings.specs.declared.planned.Planned.TheVariants.{Bases, Finished, Leafref}
 use Rattle.nc_yang_scopes.specs.Numbers.{AreNumbers}
-use Rattle.nc_yang_leafs.specs.declared.stop.LeafFault.{LeafFault}
+use Rattle.nc_yang_scopes.specs.declared.naming.TextFault.{TextFault}
+use Rattle.nc_yang_statements.specs.declared.stop.Stop.{Stop}
 use Rattle.nc_yang_leafs.specs.declared.table.Table.{Table}
 use Rattle.nc_yang_leafs.specs.inner.Tables.{Enters, IsLeafref, Work}
 use Rattle.nc_yang_leafs.proofs.AskLemmas.{asked_none}
@@ -25,6 +26,6 @@ module _ (derived : List Located → List QName → Type 0) (w : Work) (table : 
     fits = (names, refl, λ ls are. give ls (subst (λ z. AreNumbers z slice ls) (sym same) (subst (λ z. AreNumbers w.scoping.located z ls) (sym same_slice) are)));
   })
 
-  pub enters_leafref : (path : ℕ) (need : Bool) → planned ≡ Leafref path need → (result : Result ValueType LeafFault) → IfOk result (IsLeafref w path need) → IfOk result (Enters derived w planned table table)
+  pub enters_leafref : (path : ℕ) (need : Bool) → planned ≡ Leafref path need → (result : Result ValueType (Stop TextFault)) → IfOk result (IsLeafref w path need) → IfOk result (Enters derived w planned table table)
   enters_leafref path need is (Err stop) h = tt
   enters_leafref path need is (Ok entry) h = subst (λ z. Enters derived w z table table entry) (sym is) (record { numbers = []; asked = asked_none w table; fits = h })

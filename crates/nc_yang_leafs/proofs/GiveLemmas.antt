@@ -20,11 +20,12 @@ use Rattle.nc_yang_scopes.specs.Numbers.{OnNumber}
 use Rattle.nc_yang_meanings.specs.Plans.{AreMeanings}
 use Rattle.nc_yang_meanings.specs.Wholes.{MeansWhole}
 use Rattle.nc_yang_leafs.specs.declared.site.Site.{Site}
-use Rattle.nc_yang_leafs.specs.declared.stop.LeafFault.{LeafFault}
-use Rattle.nc_yang_leafs.specs.declared.stop.LeafFault.TheVariants.{Broken, Memory}
+use Rattle.nc_yang_statements.specs.declared.stop.Stop.{Stop}
+use Rattle.nc_yang_statements.specs.declared.stop.Stop.TheVariants.{Broken, Memory}
 use Rattle.nc_yang_leafs.specs.declared.table.Table.{Table}
 use Rattle.nc_yang_leafs.specs.Bases.{Basis, leads, type_of}
-use Rattle.nc_yang_leafs.specs.Faults.{BreaksLeafref, OnBroken}
+use Rattle.nc_yang_statements.specs.Stops.{OnBroken}
+use Rattle.nc_yang_leafs.specs.Faults.{BreaksLeafref}
 use Rattle.nc_yang_leafs.specs.Typings.{HasItsType, HasTypes, IsAmong, IsEntry, IsInUse, IsOfType, IsTyped, itself, none}
 use Rattle.nc_yang_leafs.specs.inner.Assembly.{HasKinds, HasSome, node_with, with_kind}
 use Rattle.nc_yang_leafs.specs.inner.Firsts.{plan_for}
@@ -45,7 +46,7 @@ pub if_err_on : {A E : Type 0} {P Q : E → Type 0} (r : Result A E) → ((x : E
 if_err_on (Ok x) f h = tt
 if_err_on (Err e) f h = f e h
 
-pub on_broken : {P Q : TextFault → Type 0} (stop : LeafFault) → ((fault : TextFault) → P fault → Q fault) → OnBroken stop P → OnBroken stop Q
+pub on_broken : {P Q : TextFault → Type 0} (stop : Stop TextFault) → ((fault : TextFault) → P fault → Q fault) → OnBroken P stop → OnBroken Q stop
 on_broken (Broken fault) f h = f fault h
 on_broken Memory f h = tt
 

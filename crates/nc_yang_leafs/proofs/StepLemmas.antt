@@ -21,9 +21,9 @@ use Rattle.nc_yang_meanings.specs.Plans.{AreMeanings, HasPlan, IsFinding, IsPlan
 use Rattle.nc_yang_meanings.specs.Wholes.{MeansWhole, UsesPath, itself, member, members_of, whole}
 use Rattle.nc_yang_leafs.specs.declared.table.Slot.{Slot}
 use Rattle.nc_yang_leafs.specs.declared.table.Table.{Table}
-use Rattle.nc_yang_leafs.specs.declared.stop.LeafFault.{LeafFault}
-use Rattle.nc_yang_leafs.specs.declared.stop.LeafFault.TheVariants.{Broken, Memory}
-use Rattle.nc_yang_leafs.specs.Faults.{OnBroken}
+use Rattle.nc_yang_statements.specs.declared.stop.Stop.{Stop}
+use Rattle.nc_yang_statements.specs.declared.stop.Stop.TheVariants.{Broken, Memory}
+use Rattle.nc_yang_statements.specs.Stops.{OnBroken}
 use Rattle.nc_yang_leafs.specs.Typings.{IsAmong, itself as among_itself, member as among_member}
 use Rattle.nc_yang_leafs.specs.Marks.{plan_at, plan_in}
 use Rattle.nc_yang_leafs.specs.inner.Firsts.{AreFirsts, plan_for}
@@ -212,10 +212,10 @@ module _ (derived : List Located → List QName → Type 0) (w : Work) where
   goes_none on top old way = record { adds = ([], sym (append-nil old.types)); kept = λ plan number e. e; on_way = way }
 
   -- a leafref that leads nowhere, as far as entries were added
-  pub lost_on : (plan : ℕ) (old cur : Table) (stop : LeafFault) → slice_get cur.plans (length cur.types) ≡ Some plan →
+  pub lost_on : (plan : ℕ) (old cur : Table) (stop : Stop TextFault) → slice_get cur.plans (length cur.types) ≡ Some plan →
       ((on : ℕ → List ℕ → Bool) → AreMeanings on w.scoping w.meanings → (top : Located) → IsAtStart derived on w top old → Goes derived on w top old cur) →
-      OnBroken stop (LosesPlan w plan) →
-      OnBroken stop (λ fault. (on : ℕ → List ℕ → Bool) → AreMeanings on w.scoping w.meanings → (top : Located) → IsAtStart derived on w top old → LosesPath on w top fault)
+      OnBroken (LosesPlan w plan) stop →
+      OnBroken (λ (fault : TextFault). (on : ℕ → List ℕ → Bool) → AreMeanings on w.scoping w.meanings → (top : Located) → IsAtStart derived on w top old → LosesPath on w top fault) stop
   lost_on plan old cur Memory next goes h = tt
   lost_on plan old cur (Broken fault) next goes h = λ on are top way.
       let g = goes on are top way in

@@ -1,12 +1,10 @@
 -- What the types of leafs and leaf-lists stand on (RFC 7950 7.6.3, 7.7.3, 9.9.2).
-use Rattle.std.specs.Prelude.{◌≡◌, ℕ, Bool, List, length, Option, Some, IsTrue, slice_get, option_and_then}
-use Rattle.nc_names.specs.declared.name.Bound.{Bound}
+use Rattle.std.specs.Prelude.{◌≡◌, ℕ, Bool, List, Option, Some, IsTrue, option_and_then}
 use Rattle.nc_schema.specs.declared.pattern.LeafrefEnd.{LeafrefEnd}
 use Rattle.nc_schema.specs.InstancePaths.{leafref_end}
 use Rattle.nc_schema.specs.Kinds.{has_value}
 use Rattle.nc_schema.specs.Proper.{EachNode}
 use Rattle.nc_schema.specs.Tables.{Tables}
-use Rattle.nc_yang_words.specs.declared.statement.Statement.{Statement}
 use Rattle.nc_yang_statements.specs.declared.keyword.Keyword.TheVariants.{TypeName}
 use Rattle.nc_yang_statements.specs.Statements.{name}
 use Rattle.nc_yang_scopes.specs.Prefixes.{prefixes_in}
@@ -41,11 +39,6 @@ type_of scoping plan number = option_and_then (part_of TypeName) (statement_of s
 -- where a `path` statement leads from a data node, with the prefixes of the text in which it stands (RFC 7950 9.9.2)
 abbrev pub leads : Scoping → Tables → ℕ → Located → Option LeafrefEnd
 leads scoping given number path = leafref_end given number (name path.statement) (prefixes_in scoping.texts path.place.text)
-
--- those are the prefixes of each text
-pub record ArePrefixes (texts : List Statement) (prefixes : List (List Bound)) : Type 0 where
-  pub counted : length prefixes ≡ length texts
-  pub each : (text : ℕ) (bounds : List Bound) → slice_get prefixes text ≡ Some bounds → bounds ≡ prefixes_in texts text
 
 -- each leaf and leaf-list has a type that means something with all its members
 abbrev pub AllMeanWhole : Basis → Type 0

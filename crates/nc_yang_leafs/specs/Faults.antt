@@ -8,8 +8,6 @@ use Rattle.nc_yang_scopes.specs.declared.naming.TextFault.{TextFault}
 use Rattle.nc_yang_scopes.specs.Scopes.{Located}
 use Rattle.nc_yang_meanings.specs.Wholes.{UsesPath}
 use Rattle.nc_yang_leafs.specs.Bases.{Basis, leads, type_of}
-use Rattle.nc_yang_leafs.specs.declared.stop.LeafFault.{LeafFault}
-use Rattle.nc_yang_leafs.specs.declared.stop.LeafFault.TheVariants.{Broken, Memory}
 
 -- at a `path` statement
 abbrev pub fault_at : Located → TextFault
@@ -28,8 +26,3 @@ pub record BreaksLeafref (b : Basis) (fault : TextFault) : Type 0 where
   pub uses : UsesPath b.on b.scoping.texts of_type path
   pub lost : leads b.scoping b.given number path ≡ None
   pub at : fault ≡ fault_at path
-
--- so it is with the fault that is given; of want of memory nothing is said
-abbrev pub OnBroken : LeafFault → (TextFault → Type 0) → Type 0
-OnBroken (Broken fault) P = P fault
-OnBroken Memory P = Unit {0}

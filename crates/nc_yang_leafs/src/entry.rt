@@ -1,23 +1,19 @@
 //! Entries of the table of types.
 ghost use Rattle.std.specs.Prelude.{◌≡◌, IfOk, IfErr};
-ghost use Rattle.nc_schema.specs.declared.value_type.ValueType.TheVariants.{Leafref as LeafrefType};
-ghost use Rattle.nc_yang_meanings.specs.declared.planned.Planned.TheVariants.{Leafref as LeafrefPlan};
-ghost use Rattle.nc_yang_scopes.specs.Scopes.{Located};
-ghost use Rattle.nc_yang_leafs.specs.Faults.{OnBroken};
+ghost use Rattle.nc_yang_statements.specs.Stops.{OnBroken};
 ghost use Rattle.nc_yang_leafs.specs.inner.Sites.{HasPrefixes, work};
 ghost use Rattle.nc_yang_leafs.specs.inner.Tables as words;
 
 use crate::copies::copied;
 use crate::derives::Derives;
 use crate::site::Site;
-use crate::stop::LeafFault;
 use crate::table::Table;
 use nc_names::Memory;
 use nc_paths::leafref_end;
 use nc_schema::{LeafrefEnd, ValueType};
 use nc_yang_meanings::Planned;
 use nc_yang_scopes::TextFault;
-use nc_yang_statements::{Fault, ModuleWhy, name};
+use nc_yang_statements::{Fault, ModuleWhy, Stop, name};
 use std::alloc::Global;
 
 // Where the `path` statement of a number leads from a data node.
@@ -38,20 +34,20 @@ fn end_of(alloc: Global, site: &Site, node: u32, path: usize) -> Result<Option<L
 }
 
 // The statement of a number leads nowhere.
-fn fault_at(site: &Site, path: usize) -> LeafFault
-    ensures { OnBroken result (words.IsAtNumber site.now.scopes.now path) }
+fn fault_at(site: &Site, path: usize) -> Stop<TextFault>
+    ensures { OnBroken (words.IsAtNumber site.now.scopes.now path) result }
 {
     let Some(statement) = site.scopes.statement(path) else {
-        return LeafFault::Memory;
+        return Stop::Memory;
     };
     let Some(text) = site.scopes.text(path) else {
-        return LeafFault::Memory;
+        return Stop::Memory;
     };
     let fault = Fault {
         line: statement.line,
         why: ModuleWhy::UnknownName,
     };
-    LeafFault::Broken(TextFault { text, fault })
+    Stop::Broken(TextFault { text, fault })
 }
 
 // The entry of a leafref for a data node.
@@ -61,10 +57,10 @@ fn leafref(
     node: u32,
     path: usize,
     required: bool,
-) -> Result<ValueType, LeafFault>
+) -> Result<ValueType, Stop<TextFault>>
     requires { HasPrefixes site.now }
     ensures ok { IfOk result (λ it. words.IsLeafref (work site.now node) path required it) }
-    ensures fault { IfErr result (λ stop. OnBroken stop (words.LosesNumber (work site.now node) path)) }
+    ensures fault { IfErr result (OnBroken (words.LosesNumber (work site.now node) path)) }
 {
     match end_of(alloc, site, node, path)? {
         Some(end) => Ok(ValueType::Leafref {
@@ -84,11 +80,11 @@ pub(crate) fn entry<D: Derives>(
     identities: &D,
     node: u32,
     planned: &Planned,
-) -> Result<ValueType, LeafFault>
+) -> Result<ValueType, Stop<TextFault>>
     requires prefixes { HasPrefixes site.now }
     requires located { D.located identities.now ≡ site.now.scopes.now.located }
     ensures ok { IfOk result (words.Enters (D.derived identities.now) (work site.now node) planned.now table.old table.new) }
-    ensures fault { IfErr result (λ stop. OnBroken stop (words.IsLost (work site.now node) planned.now)) }
+    ensures fault { IfErr result (OnBroken (words.IsLost (work site.now node) planned.now)) }
 {
     match planned {
         Planned::Finished(one) => Ok(copied(alloc, one)?),

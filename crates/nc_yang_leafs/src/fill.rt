@@ -2,15 +2,16 @@
 ghost use Rattle.std.specs.Prelude.{◌≡◌, OnOk, IfErr, ℕ, Bool, List};
 ghost use Rattle.nc_yang_scopes.specs.Scopes.{Located};
 ghost use Rattle.nc_yang_meanings.specs.Plans.{AreMeanings};
-ghost use Rattle.nc_yang_leafs.specs.Faults.{OnBroken};
+ghost use Rattle.nc_yang_statements.specs.Stops.{OnBroken};
 ghost use Rattle.nc_yang_leafs.specs.inner.Sites.{HasPrefixes, work};
 ghost use Rattle.nc_yang_leafs.specs.inner.Tables as words;
 
 use crate::derives::Derives;
 use crate::entry::entry;
 use crate::site::Site;
-use crate::stop::LeafFault;
 use crate::table::Table;
+use nc_yang_scopes::TextFault;
+use nc_yang_statements::Stop;
 use std::alloc::Global;
 
 impl Table {
@@ -22,14 +23,14 @@ impl Table {
         identities: &D,
         node: u32,
         plan: usize,
-    ) -> Result<(), LeafFault>
+    ) -> Result<(), Stop<TextFault>>
         requires prefixes { HasPrefixes site.now }
         requires located { D.located identities.now ≡ site.now.scopes.now.located }
         ensures ok { OnOk result (words.Adds (D.derived identities.now) (work site.now node) plan self.old self.new) }
-        ensures fault { IfErr result (λ stop. OnBroken stop (words.LosesPlan (work site.now node) plan)) }
+        ensures fault { IfErr result (OnBroken (words.LosesPlan (work site.now node) plan)) }
     {
         let Some(planned) = site.meanings.plans.get(plan) else {
-            return Err(LeafFault::Memory);
+            return Err(Stop::Memory);
         };
         let made = entry(alloc, self, site, identities, node, planned)?;
         self.types.push(made)?;
@@ -43,13 +44,13 @@ impl Table {
         site: &Site,
         identities: &D,
         node: u32,
-    ) -> Result<(), LeafFault>
+    ) -> Result<(), Stop<TextFault>>
         requires prefixes { HasPrefixes site.now }
         requires located { D.located identities.now ≡ site.now.scopes.now.located }
         ensures ok { OnOk result ((on : ℕ → List ℕ → Bool) → AreMeanings on site.now.scopes.now site.now.meanings.now
             → (top : Located) → words.IsAtStart (D.derived identities.now) on (work site.now node) top self.old
             → words.Fills (D.derived identities.now) on (work site.now node) top self.old self.new) }
-        ensures fault { IfErr result (λ stop. OnBroken stop (λ fault. (on : ℕ → List ℕ → Bool)
+        ensures fault { IfErr result (OnBroken (λ fault. (on : ℕ → List ℕ → Bool)
             → AreMeanings on site.now.scopes.now site.now.meanings.now → (top : Located)
             → words.IsAtStart (D.derived identities.now) on (work site.now node) top self.old
             → words.LosesPath on (work site.now node) top fault)) }
@@ -60,6 +61,6 @@ impl Table {
             };
             self.add(alloc, site, identities, node, plan)?;
         }
-        Err(LeafFault::Memory)
+        Err(Stop::Memory)
     }
 }

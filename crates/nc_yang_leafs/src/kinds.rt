@@ -1,16 +1,18 @@
 //! The types of all data nodes.
 ghost use Rattle.std.specs.Prelude.{◌≡◌, ℕ, Bool, List, length, IfOk, IfErr};
-ghost use Rattle.nc_yang_leafs.specs.Faults.{BreaksLeafref, OnBroken};
+ghost use Rattle.nc_yang_statements.specs.Stops.{OnBroken};
+ghost use Rattle.nc_yang_leafs.specs.Faults.{BreaksLeafref};
 ghost use Rattle.nc_yang_leafs.specs.inner.Nodes as nodes;
 ghost use Rattle.nc_yang_leafs.specs.inner.Sites.{HasFirsts, HasPrefixes};
 
 use crate::derives::Derives;
 use crate::site::Site;
-use crate::stop::LeafFault;
 use crate::table::Table;
 use nc_names::{Many, Memory};
 use nc_schema::ValueType;
 use nc_yang_nodes::Plan;
+use nc_yang_scopes::TextFault;
+use nc_yang_statements::Stop;
 use std::alloc::Global;
 
 /// A table of types, and for each data node the number of its type.
@@ -43,7 +45,7 @@ impl Table {
         site: &Site,
         identities: &D,
         plan: &Plan,
-    ) -> Result<Many<u32>, LeafFault>
+    ) -> Result<Many<u32>, Stop<TextFault>>
         requires prefixes { HasPrefixes site.now }
         requires located { D.located identities.now ≡ site.now.scopes.now.located }
         requires firsts { HasFirsts (D.derived identities.now) site.now }
@@ -52,14 +54,14 @@ impl Table {
             → nodes.IsKnown (nodes.basis_of on site.now plan.now) site.now.meanings.now site.now.marks.now
             → nodes.HaveKinds (D.derived identities.now) (nodes.basis_of on site.now plan.now) self.new.types
             (length site.now.schema.now.nodes) it) }
-        ensures fault { IfErr result (λ stop. OnBroken stop (λ fault. (on : ℕ → List ℕ → Bool)
+        ensures fault { IfErr result (OnBroken (λ fault. (on : ℕ → List ℕ → Bool)
             → nodes.IsKnown (nodes.basis_of on site.now plan.now) site.now.meanings.now site.now.marks.now
             → BreaksLeafref (nodes.basis_of on site.now plan.now) fault)) }
     {
         let mut kinds = Many::new(alloc);
         for number in 0..site.schema.nodes() {
             let Some(node) = site.schema.node(number) else {
-                return Err(LeafFault::Memory);
+                return Err(Stop::Memory);
             };
             kinds.push(self.kind_of(alloc, site, identities, plan, number, node.kind)?)?;
         }
@@ -73,7 +75,7 @@ pub(crate) fn all_types<D: Derives>(
     site: &Site,
     identities: &D,
     plan: &Plan,
-) -> Result<Found, LeafFault>
+) -> Result<Found, Stop<TextFault>>
     requires prefixes { HasPrefixes site.now }
     requires located { D.located identities.now ≡ site.now.scopes.now.located }
     requires firsts { HasFirsts (D.derived identities.now) site.now }
@@ -81,7 +83,7 @@ pub(crate) fn all_types<D: Derives>(
         → nodes.IsKnown (nodes.basis_of on site.now plan.now) site.now.meanings.now site.now.marks.now
         → nodes.HaveKinds (D.derived identities.now) (nodes.basis_of on site.now plan.now) it.types
         (length site.now.schema.now.nodes) it.kinds) }
-    ensures fault { IfErr result (λ stop. OnBroken stop (λ fault. (on : ℕ → List ℕ → Bool)
+    ensures fault { IfErr result (OnBroken (λ fault. (on : ℕ → List ℕ → Bool)
         → nodes.IsKnown (nodes.basis_of on site.now plan.now) site.now.meanings.now site.now.marks.now
         → BreaksLeafref (nodes.basis_of on site.now plan.now) fault)) }
 {

@@ -22,7 +22,6 @@ mod marks;
 mod named;
 mod node;
 mod site;
-mod stop;
 mod table;
 mod typing;
 
@@ -30,5 +29,4 @@ pub use derives::Derives;
 pub use laws::types_are_proper;
 pub use marks::{is_marked, marks_of, plan_at};
 pub use named::name_same;
-pub use stop::LeafFault;
 pub use typing::typed;

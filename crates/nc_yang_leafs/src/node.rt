@@ -3,7 +3,7 @@ ghost use Rattle.std.specs.Prelude.{◌≡◌, ℕ, Bool, List, Some, slice_get,
 ghost use Rattle.nc_schema.specs.Kinds as kinds;
 ghost use Rattle.nc_yang_scopes.specs.Scopes.{Located};
 ghost use Rattle.nc_yang_leafs.specs.Bases.{type_of};
-ghost use Rattle.nc_yang_leafs.specs.Faults.{OnBroken};
+ghost use Rattle.nc_yang_statements.specs.Stops.{OnBroken};
 ghost use Rattle.nc_yang_leafs.specs.inner.Nodes as nodes;
 ghost use Rattle.nc_yang_leafs.specs.inner.Sites.{HasPrefixes, work};
 ghost use Rattle.nc_yang_leafs.specs.inner.Tables.{IsReady, LosesPath};
@@ -13,12 +13,11 @@ ghost use Rattle.nc_yang_meanings.specs.Plans.{AreMeanings};
 use crate::derives::Derives;
 use crate::firsts::plan_for;
 use crate::site::Site;
-use crate::stop::LeafFault;
 use crate::table::Table;
 use nc_schema::Kind;
 use nc_yang_nodes::Plan;
-use nc_yang_scopes::{Scopes, part_of};
-use nc_yang_statements::Keyword;
+use nc_yang_scopes::{Scopes, TextFault, part_of};
+use nc_yang_statements::{Keyword, Stop};
 use std::alloc::Global;
 
 // Whether data nodes of a kind have values.
@@ -49,19 +48,19 @@ impl Table {
         identities: &D,
         node: u32,
         statement: usize,
-    ) -> Result<u32, LeafFault>
+    ) -> Result<u32, Stop<TextFault>>
         requires prefixes { HasPrefixes site.now }
         requires located { D.located identities.now ≡ site.now.scopes.now.located }
         ensures ok { IfOk result (λ it. (on : ℕ → List ℕ → Bool) → AreMeanings on site.now.scopes.now site.now.meanings.now
             → IsReady (D.derived identities.now) (work site.now node) self.old → OnNumber site.now.scopes.now statement
             (λ top. nodes.GivesNumber (D.derived identities.now) on (work site.now node) top self.old self.new it)) }
-        ensures fault { IfErr result (λ stop. OnBroken stop (λ fault. (on : ℕ → List ℕ → Bool)
+        ensures fault { IfErr result (OnBroken (λ fault. (on : ℕ → List ℕ → Bool)
             → AreMeanings on site.now.scopes.now site.now.meanings.now
             → IsReady (D.derived identities.now) (work site.now node) self.old → OnNumber site.now.scopes.now statement
             (λ top. LosesPath on (work site.now node) top fault))) }
     {
         let Some(plan) = plan_for(site, statement) else {
-            return Err(LeafFault::Memory);
+            return Err(Stop::Memory);
         };
         let number = self.ask(site.marks, node, plan)?;
         self.fill(alloc, site, identities, node)?;
@@ -77,13 +76,13 @@ impl Table {
         plan: &Plan,
         node: u32,
         kind: Kind,
-    ) -> Result<u32, LeafFault>
+    ) -> Result<u32, Stop<TextFault>>
         requires prefixes { HasPrefixes site.now }
         requires located { D.located identities.now ≡ site.now.scopes.now.located }
         ensures ok { IfOk result (λ it. (on : ℕ → List ℕ → Bool)
             → nodes.MayGive (D.derived identities.now) (nodes.basis_of on site.now plan.now) (work site.now node) kind self.old
             → nodes.Gives (D.derived identities.now) (nodes.basis_of on site.now plan.now) (work site.now node) kind self.old self.new it) }
-        ensures fault { IfErr result (λ stop. OnBroken stop (λ fault. (on : ℕ → List ℕ → Bool)
+        ensures fault { IfErr result (OnBroken (λ fault. (on : ℕ → List ℕ → Bool)
             → nodes.MayGive (D.derived identities.now) (nodes.basis_of on site.now plan.now) (work site.now node) kind self.old
             → nodes.BreaksAt (nodes.basis_of on site.now plan.now) (work site.now node) kind fault)) }
     {
@@ -91,7 +90,7 @@ impl Table {
             return Ok(0);
         }
         let Some(statement) = type_statement(site.scopes, plan, node) else {
-            return Err(LeafFault::Memory);
+            return Err(Stop::Memory);
         };
         self.give(alloc, site, identities, node, statement)
     }

@@ -2,9 +2,11 @@
 ghost use Rattle.std.specs.Prelude.{◌≡◌, ◌++◌, ℕ, Bool, List, [], length, IfOk, IfErr, OnOk, MatchResult};
 ghost use Rattle.nc_yang_meanings.specs.Plans.{AreMeanings};
 ghost use Rattle.nc_yang_nodes.specs.FeaturesOn.{is_on};
+ghost use Rattle.nc_yang_scopes.specs.Prefixes.{ArePrefixes};
 ghost use Rattle.nc_yang_leafs.specs.Bases as bases;
 ghost use Rattle.nc_yang_leafs.specs.Conditions.{holds};
-ghost use Rattle.nc_yang_leafs.specs.Faults.{BreaksLeafref, OnBroken};
+ghost use Rattle.nc_yang_statements.specs.Stops.{OnBroken};
+ghost use Rattle.nc_yang_leafs.specs.Faults.{BreaksLeafref};
 ghost use Rattle.nc_yang_leafs.specs.Typings.{IsTyped};
 ghost use Rattle.nc_yang_leafs.specs.inner.Assembly as assembly;
 ghost use Rattle.nc_yang_leafs.specs.inner.Nodes.{HaveKinds};
@@ -15,12 +17,12 @@ use crate::firsts::firsts_of;
 use crate::kinds::{Found, all_types};
 use crate::marks::marks_of;
 use crate::site::Site;
-use crate::stop::LeafFault;
 use nc_names::{Bound, Many, Memory};
 use nc_schema::{Schema, ValueType};
 use nc_yang_meanings::Meanings;
 use nc_yang_nodes::{Features, Plan};
-use nc_yang_scopes::Scopes;
+use nc_yang_scopes::{Scopes, TextFault};
+use nc_yang_statements::Stop;
 use std::alloc::Global;
 
 // With types.
@@ -75,14 +77,14 @@ fn types_of<D: Derives>(
     prefixes: &[Many<Bound>],
     identities: &D,
     schema: &Schema,
-) -> Result<Found, LeafFault>
-    requires prefixes { bases.ArePrefixes scopes.now.texts prefixes.now }
+) -> Result<Found, Stop<TextFault>>
+    requires prefixes { ArePrefixes scopes.now.texts prefixes.now }
     requires located { D.located identities.now ≡ scopes.now.located }
     ensures ok { IfOk result (λ it. (on : ℕ → List ℕ → Bool) → AreMeanings on scopes.now meanings.now
         → bases.AllMeanWhole (bases.basis_on on scopes.now plan.now schema.now)
         → HaveKinds (D.derived identities.now) (bases.basis_on on scopes.now plan.now schema.now) it.types
         (length schema.now.nodes) it.kinds) }
-    ensures fault { IfErr result (λ stop. OnBroken stop (λ fault. (on : ℕ → List ℕ → Bool)
+    ensures fault { IfErr result (OnBroken (λ fault. (on : ℕ → List ℕ → Bool)
         → AreMeanings on scopes.now meanings.now
         → bases.AllMeanWhole (bases.basis_on on scopes.now plan.now schema.now)
         → BreaksLeafref (bases.basis_on on scopes.now plan.now schema.now) fault)) }
@@ -118,15 +120,15 @@ pub fn typed<'a, D: Derives>(
     prefixes: &[Many<Bound>],
     identities: &D,
     schema: Schema,
-) -> Result<Schema, LeafFault>
+) -> Result<Schema, Stop<TextFault>>
     requires meanings { AreMeanings (holds scopes.now.texts (is_on features.now)) scopes.now meanings.now }
     requires whole { bases.AllMeanWhole (bases.basis features.now scopes.now plan.now schema) }
-    requires prefixes { bases.ArePrefixes scopes.now.texts prefixes.now }
+    requires prefixes { ArePrefixes scopes.now.texts prefixes.now }
     requires located { D.located identities.now ≡ scopes.now.located }
     requires blank { schema.types ≡ [] }
     ensures { MatchResult result
         (IsTyped (D.derived identities.now) (bases.basis features.now scopes.now plan.now schema))
-        (λ stop. OnBroken stop (BreaksLeafref (bases.basis features.now scopes.now plan.now schema))) }
+        (OnBroken (BreaksLeafref (bases.basis features.now scopes.now plan.now schema))) }
 {
     let Found { types, kinds } = types_of(
         alloc, scopes, plan, meanings, prefixes, identities, &schema,

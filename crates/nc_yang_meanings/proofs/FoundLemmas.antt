@@ -16,9 +16,9 @@ use Rattle.nc_yang_order.proofs.Lists.{take_next}
 use Rattle.nc_yang_scopes.specs.Scopes.{Located, Scoping}
 use Rattle.nc_yang_scopes.specs.inner.Naming.{HasNumber}
 use Rattle.nc_yang_types.specs.Entries.{own, own_faults}
-use Rattle.nc_yang_types.specs.Stops.{OnBroken}
-use Rattle.nc_yang_types.specs.declared.stop.TypeStop.{TypeStop}
-use Rattle.nc_yang_types.specs.declared.stop.TypeStop.TheVariants.{Broken as BrokenType}
+use Rattle.nc_yang_statements.specs.Stops.{OnBroken}
+use Rattle.nc_yang_statements.specs.declared.stop.Stop.{Stop}
+use Rattle.nc_yang_statements.specs.declared.stop.Stop.TheVariants.{Broken as BrokenType}
 use Rattle.nc_yang_meanings.specs.Features.{stands}
 use Rattle.nc_yang_meanings.specs.Meanings.{meant}
 use Rattle.nc_yang_meanings.specs.Numbers.{OnNumber}
@@ -60,10 +60,10 @@ module _ (scoping : Scoping) (n : ℕ) (s : Statement) (number : HasNumber scopi
     found_nothing field field_is kept ok =
         itself_nothing on scoping l one built plans (subst (λ z. own_faults one z ≡ []) (sym (statement_is scoping n s l number here)) kept) (subst (λ z. ArePlan scoping.located z (meant on one l)) field_is ok)
 
-    pub found_broken : (field : TypeStop) (fault : Fault) → field ≡ BrokenType fault → OnBroken field (λ f. first (own_faults one s) ≡ Some f) → IsFound on scoping plans l (Same (Broken fault))
+    pub found_broken : (field : Stop Fault) (fault : Fault) → field ≡ BrokenType fault → OnBroken (λ (f : Fault). first (own_faults one s) ≡ Some f) field → IsFound on scoping plans l (Same (Broken fault))
     found_broken field fault field_is is =
         itself_broken on scoping l one built plans fault
-        (subst (λ z. first (own_faults one z) ≡ Some fault) (sym (statement_is scoping n s l number here)) (subst (λ z. OnBroken z (λ f. first (own_faults one s) ≡ Some f)) field_is is))
+        (subst (λ z. first (own_faults one z) ≡ Some fault) (sym (statement_is scoping n s l number here)) (subst (λ z. OnBroken (λ (f : Fault). first (own_faults one s) ≡ Some f) z) field_is is))
 
   -- of a type over another
   pub look_type : (on : ℕ → List ℕ → Bool) (meanings : Meanings) (base : ℕ) (footing : Footing) → footing ≡ OnType base → (ss : List Statement) → ss ≡ below s → (r : Result Found Memory) → IfOk r (IsOverBase meanings base ss) →

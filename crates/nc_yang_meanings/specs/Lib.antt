@@ -6,6 +6,5 @@ pub mod Wholes
 pub mod Numbers
 pub mod Plans
 pub mod Defaults
-pub mod Stops
 pub mod Laws
 pub mod inner

@@ -2,13 +2,14 @@
 ghost use Rattle.std.specs.Prelude.{IfOk, IfErr, OnOk};
 ghost use Rattle.nc_yang_meanings.specs.Faults.{BreaksTypes, KeepsTypes};
 ghost use Rattle.nc_yang_meanings.specs.Plans.{AreMeanings};
-ghost use Rattle.nc_yang_meanings.specs.Stops.{OnBrokenType};
+ghost use Rattle.nc_yang_statements.specs.Stops.{OnBroken};
 
 use crate::check::first_ill_typed;
 use crate::features::Features;
-use crate::planned::{MeaningStop, Meanings};
+use crate::planned::Meanings;
 use crate::table::table;
-use nc_yang_scopes::Scopes;
+use nc_yang_scopes::{Scopes, TextFault};
+use nc_yang_statements::Stop;
 use std::alloc::Global;
 
 /// What the `type` statements of module texts mean, each by its own parts and those of the typedefs to which
@@ -19,15 +20,15 @@ pub fn meanings_of<'a, F: Features<'a>>(
     alloc: Global,
     scopes: &Scopes<'a>,
     features: &F,
-) -> Result<Meanings, MeaningStop>
+) -> Result<Meanings, Stop<TextFault>>
     ensures ok { IfOk result (AreMeanings (F.on features.now) scopes.now) }
     ensures kept { OnOk result (KeepsTypes (F.on features.now) scopes.now.texts) }
-    ensures fault { IfErr result (λ stop. OnBrokenType stop (λ it.
+    ensures fault { IfErr result (OnBroken (λ it.
         BreaksTypes (F.on features.now) scopes.now.texts it.text it.fault)) }
 {
     let found = table(alloc, scopes, features)?;
     match first_ill_typed(scopes, &found) {
-        Some(fault) => Err(MeaningStop::Broken(fault)),
+        Some(fault) => Err(Stop::Broken(fault)),
         None => Ok(found),
     }
 }

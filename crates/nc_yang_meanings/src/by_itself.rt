@@ -4,7 +4,7 @@ ghost use Rattle.nc_yang_statements.specs.declared.built_in.BuiltIn.TheVariants.
 ghost use Rattle.nc_yang_statements.specs.Rules as rules;
 ghost use Rattle.nc_yang_statements.specs.Statements as statements;
 ghost use Rattle.nc_yang_types.specs.Entries as entries;
-ghost use Rattle.nc_yang_types.specs.Stops.{OnBroken};
+ghost use Rattle.nc_yang_statements.specs.Stops.{OnBroken};
 ghost use Rattle.nc_yang_scopes.specs.inner.Naming.{HasNumber};
 ghost use Rattle.nc_yang_meanings.specs.Meanings as meanings;
 ghost use Rattle.nc_yang_meanings.specs.Numbers.{OnNumber};
@@ -15,8 +15,8 @@ use crate::planned::Planned;
 use nc_names::Memory;
 use nc_schema::ValueType;
 use nc_yang_scopes::{Scopes, part_of, parts_of};
-use nc_yang_statements::{BuiltIn, Keyword};
-use nc_yang_types::{TypeStop, own, required};
+use nc_yang_statements::{BuiltIn, Fault, Keyword, Stop};
+use nc_yang_types::{own, required};
 use nc_yang_words::Statement;
 use std::alloc::Global;
 
@@ -74,13 +74,13 @@ pub(crate) fn by_itself<'a, F: Features<'a>>(
     text: usize,
     one: BuiltIn,
     statement: &'a Statement,
-) -> Result<Option<Planned>, TypeStop>
+) -> Result<Option<Planned>, Stop<Fault>>
     requires statement { HasNumber scopes.now number statement.now }
     requires text { StandsInText scopes.now number text }
     ensures ok { IfOk result (λ it. OnNumber scopes.now number (λ l.
         ArePlan scopes.now.located it (meanings.meant (F.on features.now) one l))) }
     ensures kept { OnOk result (entries.own_faults one statement.now ≡ []) }
-    ensures fault { IfErr result (λ stop. OnBroken stop (λ fault.
+    ensures fault { IfErr result (OnBroken (λ fault.
         rules.first (entries.own_faults one statement.now) ≡ Some fault)) }
 {
     let conditions = InText { features, text };

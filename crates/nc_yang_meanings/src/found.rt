@@ -14,8 +14,7 @@ use crate::over::over;
 use crate::planned::{Finding, Meanings, Planned};
 use nc_names::Memory;
 use nc_yang_scopes::Scopes;
-use nc_yang_statements::BuiltIn;
-use nc_yang_types::TypeStop;
+use nc_yang_statements::{BuiltIn, Stop};
 use nc_yang_words::Statement;
 use std::alloc::Global;
 
@@ -46,8 +45,8 @@ fn on_built_in<'a, F: Features<'a>>(
     match by_itself(alloc, scopes, features, number, text, one, statement) {
         Ok(Some(planned)) => Ok(Found::New(planned)),
         Ok(None) => Ok(Found::Same(Finding::Nothing)),
-        Err(TypeStop::Broken(fault)) => Ok(Found::Same(Finding::Broken(fault))),
-        Err(TypeStop::Memory) => Err(Memory),
+        Err(Stop::Broken(fault)) => Ok(Found::Same(Finding::Broken(fault))),
+        Err(Stop::Memory) => Err(Memory),
     }
 }
 
@@ -77,8 +76,8 @@ fn on_plan(
     match over(alloc, planned, below) {
         Ok(Some(planned)) => Ok(Found::New(planned)),
         Ok(None) => Ok(Found::Same(Finding::Plan(place))),
-        Err(TypeStop::Broken(fault)) => Ok(Found::Same(Finding::Broken(fault))),
-        Err(TypeStop::Memory) => Err(Memory),
+        Err(Stop::Broken(fault)) => Ok(Found::Same(Finding::Broken(fault))),
+        Err(Stop::Memory) => Err(Memory),
     }
 }
 

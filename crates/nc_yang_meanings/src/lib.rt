@@ -30,4 +30,4 @@ pub use all::meanings_of;
 pub use defaults::{defaults_of, leaf_default};
 pub use features::Features;
 pub use laws::{meaning_keeps_rules, one_default, one_meaning};
-pub use planned::{Finding, MeaningStop, Meanings, Planned};
+pub use planned::{Finding, Meanings, Planned};

@@ -2,21 +2,22 @@
 ghost use Rattle.std.specs.Prelude.{◌≡◌, [], Some, IfOk, IfErr, OnOk, unwrap_or};
 ghost use Rattle.nc_yang_statements.specs.Rules as rules;
 ghost use Rattle.nc_yang_types.specs.Entries as entries;
-ghost use Rattle.nc_yang_types.specs.Stops.{OnBroken};
+ghost use Rattle.nc_yang_statements.specs.Stops.{OnBroken};
 ghost use Rattle.nc_yang_meanings.specs.declared.planned.Planned.TheVariants.{Finished};
 ghost use Rattle.nc_yang_meanings.specs.inner.Planning.{planned_over, shape_of};
 
 use crate::planned::Planned;
 use nc_names::Many;
 use nc_schema::ValueType;
-use nc_yang_types::{TypeStop, narrowed, required};
+use nc_yang_statements::{Fault, Stop};
+use nc_yang_types::{narrowed, required};
 use nc_yang_words::Statement;
 use std::alloc::Global;
 
 // The parts may stand in a type over one of that kind.
-fn takes_parts(alloc: Global, shape: ValueType, below: &[Statement]) -> Result<(), TypeStop>
+fn takes_parts(alloc: Global, shape: ValueType, below: &[Statement]) -> Result<(), Stop<Fault>>
     ensures kept { OnOk result (entries.narrowed_faults shape below.now ≡ []) }
-    ensures fault { IfErr result (λ stop. OnBroken stop (λ fault.
+    ensures fault { IfErr result (OnBroken (λ fault.
         rules.first (entries.narrowed_faults shape below.now) ≡ Some fault)) }
 {
     narrowed(alloc, &shape, below)?;
@@ -28,11 +29,11 @@ fn over_finished(
     alloc: Global,
     entry: &ValueType,
     below: &[Statement],
-) -> Result<Option<Planned>, TypeStop>
+) -> Result<Option<Planned>, Stop<Fault>>
     ensures ok { IfOk result (λ it. planned_over (Finished entry.now) below.now
         ≡ Some (unwrap_or it (Finished entry.now))) }
     ensures kept { OnOk result (entries.narrowed_faults entry.now below.now ≡ []) }
-    ensures fault { IfErr result (λ stop. OnBroken stop (λ fault.
+    ensures fault { IfErr result (OnBroken (λ fault.
         rules.first (entries.narrowed_faults entry.now below.now) ≡ Some fault)) }
 {
     match narrowed(alloc, entry, below)? {
@@ -46,10 +47,10 @@ pub(crate) fn over(
     alloc: Global,
     planned: &Planned,
     below: &[Statement],
-) -> Result<Option<Planned>, TypeStop>
+) -> Result<Option<Planned>, Stop<Fault>>
     ensures ok { IfOk result (λ it. planned_over planned.now below.now ≡ Some (unwrap_or it planned.now)) }
     ensures kept { OnOk result (entries.narrowed_faults (shape_of planned.now) below.now ≡ []) }
-    ensures fault { IfErr result (λ stop. OnBroken stop (λ fault.
+    ensures fault { IfErr result (OnBroken (λ fault.
         rules.first (entries.narrowed_faults (shape_of planned.now) below.now) ≡ Some fault)) }
 {
     match planned {

@@ -1,10 +1,7 @@
 //! What is kept of the meanings of `type` statements.
-ghost use Rattle.std.specs.Prelude.{◌≡◌};
-ghost use Rattle.nc_yang_meanings.specs.declared.planned.MeaningStop.TheVariants.{Memory as NoMemory};
 
-use nc_names::{Many, Memory};
+use nc_names::Many;
 use nc_schema::ValueType;
-use nc_yang_scopes::TextFault;
 use nc_yang_statements::Fault;
 
 /// What a `type` statement means. Other statements are named by their numbers in the `Scopes`.
@@ -41,21 +38,4 @@ pub struct Meanings {
     pub findings: Many<Finding>,
     /// The plans.
     pub plans: Many<Planned>,
-}
-
-/// Why there are no meanings.
-#[derive(Clone, Copy, Debug, PartialEq, Eq)]
-pub enum MeaningStop {
-    /// A `type` statement breaks a rule.
-    Broken(TextFault),
-    /// Memory ran out.
-    Memory,
-}
-
-impl From<Memory> for MeaningStop {
-    ghost from_gives = { λ _ stop. stop ≡ NoMemory };
-
-    fn from(_: Memory) -> MeaningStop {
-        MeaningStop::Memory
-    }
 }

@@ -11,8 +11,9 @@ use Rattle.nc_yang_nodes.specs.declared.context.Context.{Context}
 use Rattle.nc_yang_nodes.specs.declared.features.Features.{Features}
 use Rattle.nc_yang_nodes.specs.declared.planned.Plan.{Plan}
 use Rattle.nc_yang_nodes.specs.declared.planned.Planned.{Planned}
-use Rattle.nc_yang_nodes.specs.declared.planned.PlanStop.{PlanStop}
-use Rattle.nc_yang_nodes.specs.declared.planned.PlanStop.TheVariants.{TooMany, Memory}
+use Rattle.nc_yang_statements.specs.Stops.{OnBroken}
+use Rattle.nc_yang_statements.specs.declared.stop.Stop.{Stop}
+use Rattle.nc_yang_statements.specs.declared.stop.Stop.TheVariants.{Broken, Memory}
 use Rattle.nc_yang_nodes.specs.declared.role.Role.{Role}
 use Rattle.nc_yang_nodes.specs.declared.table.Entry.{Entry}
 use Rattle.nc_yang_nodes.specs.declared.table.Table.{Table}
@@ -21,7 +22,7 @@ use Rattle.nc_yang_nodes.specs.declared.walk.Walk.{Walk}
 use Rattle.nc_yang_nodes.specs.FeaturesOn.{is_on}
 use Rattle.nc_yang_nodes.specs.Roles.{FeatureTest, block, children, role}
 use Rattle.nc_yang_nodes.specs.Expansion.{Gives, Meets, Moment, added, after, at_top, inner, now}
-use Rattle.nc_yang_nodes.specs.Plans.{GivesTexts, HasRoom, IsPlan, IsStop, no_text, nothing}
+use Rattle.nc_yang_nodes.specs.Plans.{GivesTexts, HasRoom, IsFirstPast, IsPlan, no_text, nothing}
 use Rattle.nc_yang_nodes.specs.inner.Rooms.{fits}
 use Rattle.nc_yang_nodes.specs.inner.Tables.{Barren, IsTableOf, children_at, test_of}
 use Rattle.nc_yang_nodes.specs.inner.Walks.{AddsOrStops, AddsText, ComesTo, GoesOn, IsFaultAt, IsNext, Leads, Left, MeetsOn, Moves, Stops, StopsAt, StopsText, behind, block_frames, left_of, passed, stack, taken, with_frame}
@@ -125,9 +126,9 @@ module _ (scoping : Scoping) (on : FeatureTest) where
   comes_on old before mid new one two =
       record { leads = leads_on scoping on old (stack scoping mid.frames) (stack scoping new.frames) before mid.plan new.plan one.leads two.leads; room = two.room }
 
-  pub stops_on : (old : List Left) (before : Plan) (mid : Walk) (stop : PlanStop) → ComesTo scoping on old before mid → Stops scoping on (stack scoping mid.frames) mid.plan stop
+  pub stops_on : (old : List Left) (before : Plan) (mid : Walk) (stop : Stop TextFault) → ComesTo scoping on old before mid → Stops scoping on (stack scoping mid.frames) mid.plan stop
       → Stops scoping on old before stop
-  stops_on old before mid (TooMany fault) one h = record { moment = h.moment; meets = one.leads.meets h.moment h.meets; past = h.past; at = h.at }
+  stops_on old before mid (Broken fault) one h = record { moment = h.moment; meets = one.leads.meets h.moment h.meets; past = h.past; at = h.at }
   stops_on old before mid Memory one h = tt
 
   module _ (text number : ℕ) (within : text < length scoping.texts) (is_root : option_and_then (slice_get scoping.located) (Some number) ≡ root scoping.texts text) where
@@ -163,8 +164,8 @@ module _ (scoping : Scoping) (on : FeatureTest) where
     meets_first before m (inl h) = h
     meets_first before m (inr h) = absurd h.1.1
 
-    stops : (old : List Left) (before : Plan) (stop : PlanStop) → old ≡ first → Stops scoping on old before stop → StopsText scoping on text before stop
-    stops old before (TooMany fault) is h = record {
+    stops : (old : List Left) (before : Plan) (stop : Stop TextFault) → old ≡ first → Stops scoping on old before stop → StopsText scoping on text before stop
+    stops old before (Broken fault) is h = record {
       moment = h.moment;
       top = top;
       is_root = root_is;
@@ -174,15 +175,15 @@ module _ (scoping : Scoping) (on : FeatureTest) where
     }
     stops old before Memory is h = tt
 
-    pub adds_or_stops : (result : Result Unit PlanStop) (fs : List Frame) (c : Context) (before : Plan) (new : Walk) → c ≡ at_top text → fs ≡ []
+    pub adds_or_stops : (result : Result Unit (Stop TextFault)) (fs : List Frame) (c : Context) (before : Plan) (new : Walk) → c ≡ at_top text → fs ≡ []
         → Moves scoping on result (stack scoping (fs ++ record { number = number; place = 0; context = c } ∷ [])) before new
         → OnOk result (new.frames ≡ []) → AddsOrStops scoping on text result before new
     adds_or_stops (Ok u) fs c before new is none h ended = adds _ before new (frame_is fs c is none) h ended
     adds_or_stops (Err stop) fs c before new is none h ended = stops _ before stop (frame_is fs c is none) h
 
   -- a text's stop is one of all texts
-  pub stops_texts : (text : ℕ) (before : Plan) (stop : PlanStop) → GivesTexts scoping on text before → StopsText scoping on text before stop → IsStop scoping on stop
-  stops_texts text before (TooMany fault) gives h = record {
+  pub stops_texts : (text : ℕ) (before : Plan) (stop : Stop TextFault) → GivesTexts scoping on text before → StopsText scoping on text before stop → OnBroken (IsFirstPast scoping on) stop
+  stops_texts text before (Broken fault) gives h = record {
     moment = h.moment;
     meets = record { text = text; before = before; top = h.top; gives = gives; is_root = h.is_root; meets = h.meets };
     past = h.past;
@@ -198,11 +199,11 @@ pub begins : (scoping : Scoping) (on : FeatureTest) (walk : Walk) → walk.plan 
 begins scoping on walk is = (subst (GivesTexts scoping on 0) (sym is) no_text, subst HasRoom (sym is) nothing_fits)
 
 -- the stop of a table's statements is one of the texts'
-pub stops_here : (scoping : Scoping) (features : Features) (table : Table) (text : ℕ) (before : Plan) (stop : PlanStop) → IsTableOf scoping features table
-    → GivesTexts table.scopes.now (test_of table) text before → StopsText table.scopes.now (test_of table) text before stop → IsStop scoping (is_on features) stop
+pub stops_here : (scoping : Scoping) (features : Features) (table : Table) (text : ℕ) (before : Plan) (stop : Stop TextFault) → IsTableOf scoping features table
+    → GivesTexts table.scopes.now (test_of table) text before → StopsText table.scopes.now (test_of table) text before stop → OnBroken (IsFirstPast scoping (is_on features)) stop
 stops_here scoping features table text before stop is gives h =
-    subst (λ z. IsStop z (is_on features) stop) is.has_scopes
-    (subst (λ z. IsStop table.scopes.now (is_on z) stop) is.has_features (stops_texts table.scopes.now (test_of table) text before stop gives h))
+    subst (λ z. OnBroken (IsFirstPast z (is_on features)) stop) is.has_scopes
+    (subst (λ z. OnBroken (IsFirstPast table.scopes.now (is_on z)) stop) is.has_features (stops_texts table.scopes.now (test_of table) text before stop gives h))
 
 pub planned : (scoping : Scoping) (features : Features) (table : Table) (text : ℕ) (plan : Plan) → IsTableOf scoping features table
     → text ≡ length scoping.texts → GivesTexts table.scopes.now (test_of table) text plan → HasRoom plan → IsPlan scoping (is_on features) plan

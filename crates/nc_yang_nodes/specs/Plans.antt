@@ -10,8 +10,6 @@ use Rattle.nc_schema.specs.declared.node.Case.{Case as CaseNumber}
 use Rattle.nc_yang_nodes.specs.declared.planned.Plan.{Plan}
 use Rattle.nc_yang_nodes.specs.declared.planned.Planned.{Planned}
 use Rattle.nc_yang_nodes.specs.declared.planned.PlannedChoice.{PlannedChoice}
-use Rattle.nc_yang_nodes.specs.declared.planned.PlanStop.{PlanStop}
-use Rattle.nc_yang_nodes.specs.declared.planned.PlanStop.TheVariants.{TooMany, Memory}
 use Rattle.nc_yang_nodes.specs.declared.role.Role.{Role}
 use Rattle.nc_yang_nodes.specs.Roles.{FeatureTest, children, role}
 use Rattle.nc_yang_nodes.specs.Expansion.{Gives, Meets, Moment, added, at_top}
@@ -105,7 +103,3 @@ pub record IsFirstPast (scoping : Scoping) (on : FeatureTest) (fault : TextFault
   pub meets : MeetsInText scoping on moment
   pub past : IsPast scoping on moment
   pub at : fault ≡ fault_at moment
-
-abbrev pub IsStop : Scoping → FeatureTest → PlanStop → Type 0
-IsStop scoping on (TooMany fault) = IsFirstPast scoping on fault
-IsStop scoping on Memory = Unit {0}

@@ -31,5 +31,5 @@ pub use entries::is_supported_at;
 pub use features::Features;
 pub use laws::{plan_has_no_fault, plan_is_sound, plans_are_alike};
 pub use plan::plan_of;
-pub use planned::{Plan, PlanStop, Planned, PlannedChoice};
+pub use planned::{Plan, Planned, PlannedChoice};
 pub use supported::features_on;

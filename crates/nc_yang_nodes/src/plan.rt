@@ -1,13 +1,15 @@
 //! The data nodes and choices that modules define.
 ghost use Rattle.std.specs.Prelude.{MatchResult};
+ghost use Rattle.nc_yang_statements.specs.Stops.{OnBroken};
 ghost use Rattle.nc_yang_nodes.specs.FeaturesOn.{is_on};
-ghost use Rattle.nc_yang_nodes.specs.Plans.{IsPlan, IsStop};
+ghost use Rattle.nc_yang_nodes.specs.Plans.{IsFirstPast, IsPlan};
 
 use crate::features::Features;
-use crate::planned::{Plan, PlanStop};
+use crate::planned::Plan;
 use crate::table::Table;
 use crate::walk::Walk;
-use nc_yang_scopes::Scopes;
+use nc_yang_scopes::{Scopes, TextFault};
+use nc_yang_statements::Stop;
 use std::alloc::Global;
 
 /// The data nodes and choices of a configuration that modules define, with those features on: each module in
@@ -19,9 +21,9 @@ pub fn plan_of<'a>(
     alloc: Global,
     scopes: &Scopes<'a>,
     features: &Features<'a>,
-) -> Result<Plan, PlanStop>
+) -> Result<Plan, Stop<TextFault>>
     ensures { MatchResult result (IsPlan scopes.now (is_on features.now))
-        (IsStop scopes.now (is_on features.now)) }
+        (OnBroken (IsFirstPast scopes.now (is_on features.now))) }
 {
     let table = Table::of(alloc, scopes, features)?;
     let mut walk = Walk::new(alloc);

@@ -7,7 +7,6 @@ use crate::context::Context;
 use crate::role::Role;
 use nc_names::{Many, Memory};
 use nc_schema::Case;
-use nc_yang_scopes::TextFault;
 
 /// A data node (RFC 7950 3).
 #[derive(Debug, Drop, PartialEq, Eq)]
@@ -95,25 +94,5 @@ impl Plan {
             }),
             Role::Case | Role::Uses => Ok(()),
         }
-    }
-}
-
-/// Why there is no plan.
-#[derive(Clone, Copy, Debug, PartialEq, Eq)]
-pub enum PlanStop {
-    /// The first statement, as it is written, that gives one past a limit.
-    TooMany(TextFault),
-    /// Want of memory.
-    Memory,
-}
-
-impl From<Memory> for PlanStop {
-    ghost use Rattle.std.specs.Prelude.{◌≡◌};
-    ghost use Rattle.nc_yang_nodes.specs.declared.planned.PlanStop.TheVariants.{Memory as NoMemory};
-
-    ghost from_gives = { λ _ stop. stop ≡ NoMemory };
-
-    fn from(_: Memory) -> PlanStop {
-        PlanStop::Memory
     }
 }

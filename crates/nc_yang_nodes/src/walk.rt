@@ -6,12 +6,12 @@ ghost use Rattle.nc_yang_nodes.specs.inner.Tables.{IsTable, test_of};
 ghost use Rattle.nc_yang_nodes.specs.inner.Walks as walks;
 
 use crate::context::Context;
-use crate::planned::{Plan, PlanStop};
+use crate::planned::Plan;
 use crate::role::Role;
 use crate::table::{Entry, Table, child_of};
 use nc_names::{Many, Memory};
 use nc_yang_scopes::{Scopes, TextFault};
-use nc_yang_statements::{Fault, ModuleWhy};
+use nc_yang_statements::{Fault, ModuleWhy, Stop};
 use std::alloc::Global;
 
 /// The statements of a block that are still to be taken.
@@ -112,7 +112,7 @@ impl Walk {
         frame: Frame,
         child: usize,
         entry: Entry,
-    ) -> Result<(), PlanStop>
+    ) -> Result<(), Stop<TextFault>>
         requires room { HasRoom self.old.plan }
         requires next { walks.IsNext table.now.scopes.now (test_of table.now) frame child entry }
         ensures { walks.Moves table.now.scopes.now (test_of table.now) result
@@ -123,14 +123,14 @@ impl Walk {
             return Ok(());
         };
         if !self.plan.fits(&frame.context, role) {
-            return Err(PlanStop::TooMany(fault_at(table.scopes, child)?));
+            return Err(Stop::Broken(fault_at(table.scopes, child)?));
         }
         self.take(frame, child, role, entry.block)?;
         Ok(())
     }
 
     // Takes the next statement, and answers whether there was a block.
-    fn turn(&mut self, table: &Table) -> Result<bool, PlanStop>
+    fn turn(&mut self, table: &Table) -> Result<bool, Stop<TextFault>>
         requires table { IsTable table.now }
         requires room { HasRoom self.old.plan }
         ensures moves { walks.Moves table.now.scopes.now (test_of table.now) result
@@ -145,14 +145,14 @@ impl Walk {
         };
         let Some(entry) = table.entry(child) else {
             // each statement has an entry
-            return Err(PlanStop::Memory);
+            return Err(Stop::Memory);
         };
         self.meet(table, frame, child, entry)?;
         Ok(true)
     }
 
     // Goes on until nothing is left.
-    fn run(&mut self, table: &Table) -> Result<(), PlanStop>
+    fn run(&mut self, table: &Table) -> Result<(), Stop<TextFault>>
         requires table { IsTable table.now }
         requires room { HasRoom self.old.plan }
         ensures moves { walks.Moves table.now.scopes.now (test_of table.now) result
@@ -165,7 +165,7 @@ impl Walk {
             }
         }
         // no walk takes as many turns
-        Err(PlanStop::Memory)
+        Err(Stop::Memory)
     }
 
     /// Nothing planned, and no block. It takes no memory.
@@ -188,7 +188,7 @@ impl Walk {
         alloc: Global,
         table: &Table,
         text: usize,
-    ) -> Result<(), PlanStop>
+    ) -> Result<(), Stop<TextFault>>
         requires table { IsTable table.now }
         requires room { HasRoom self.old.plan }
         requires frames { self.old.frames ≡ [] }
@@ -198,7 +198,7 @@ impl Walk {
     {
         let Some(number) = table.scopes.root(text) else {
             // each text has one
-            return Err(PlanStop::Memory);
+            return Err(Stop::Memory);
         };
         self.frames.push(Frame {
             number,

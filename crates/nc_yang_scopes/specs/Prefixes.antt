@@ -1,5 +1,5 @@
--- What prefixes stand for in the text of a module, as namespaces (RFC 7950 7.1.3, 7.1.4, 7.1.5).
-use Rattle.std.specs.Prelude.{ℕ, List, [], ◌∷◌, ◌++◌, filter, option_map, slice_get}
+-- What prefixes stand for in the texts of modules, as namespaces (RFC 7950 7.1.3, 7.1.4, 7.1.5).
+use Rattle.std.specs.Prelude.{◌≡◌, ℕ, List, [], ◌∷◌, ◌++◌, Some, filter, length, option_map, slice_get}
 use Rattle.std.specs.List.{flat_map}
 use Rattle.std.specs.Option.{option_map_or}
 use Rattle.nc_names.specs.declared.name.Bound.{Bound}
@@ -36,3 +36,8 @@ prefixes_in texts text =
     record { prefix = []; space = namespace_at texts text }
     ∷ option_map_or (prefix_bound texts text) (slice_get texts text) []
     ++ import_bounds texts (top texts text)
+
+-- those are the prefixes of each text
+pub record ArePrefixes (texts : List Statement) (prefixes : List (List Bound)) : Type 0 where
+  pub counted : length prefixes ≡ length texts
+  pub each : (text : ℕ) (bounds : List Bound) → slice_get prefixes text ≡ Some bounds → bounds ≡ prefixes_in texts text

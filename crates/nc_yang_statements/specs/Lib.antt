@@ -4,4 +4,5 @@ pub mod BuiltIns
 pub mod Arguments
 pub mod Statements
 pub mod Rules
+pub mod Stops
 pub mod inner

@@ -19,6 +19,7 @@ mod path;
 mod place;
 mod rule;
 mod statement;
+mod stop;
 
 pub use built_in::{BuiltIn, built_in_of, built_in_word, built_ins};
 pub use check::first_fault;
@@ -28,3 +29,4 @@ pub use keyword::{
 };
 pub use place::{Count, count_of, is_never, is_once, is_single};
 pub use statement::{has, kind, name, part};
+pub use stop::Stop;

@@ -3,5 +3,4 @@ pub mod Parts
 pub mod Members
 pub mod Entries
 pub mod Laws
-pub mod Stops
 pub mod inner

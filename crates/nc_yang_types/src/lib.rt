@@ -24,7 +24,6 @@ mod over_type;
 mod part;
 mod range;
 mod restricted;
-mod stop;
 
 pub use bound::Counted;
 pub use conditions::{Always, Conditions};
@@ -34,4 +33,3 @@ pub use over_type::narrowed;
 pub use part::{misshapen, narrows, needs, takes};
 pub use range::restriction;
 pub use restricted::required;
-pub use stop::TypeStop;

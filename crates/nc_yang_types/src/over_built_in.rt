@@ -7,7 +7,7 @@ ghost use Rattle.nc_yang_types.specs.declared.bound.Counted.TheVariants.{Units, 
 ghost use Rattle.nc_yang_types.specs.declared.member.Listed.TheVariants.{Enums, Flags};
 ghost use Rattle.nc_yang_types.specs.Entries as entries;
 ghost use Rattle.nc_yang_types.specs.Members as members;
-ghost use Rattle.nc_yang_types.specs.Stops.{OnBroken};
+ghost use Rattle.nc_yang_statements.specs.Stops.{OnBroken};
 
 use crate::bound::Counted;
 use crate::conditions::Conditions;
@@ -16,19 +16,18 @@ use crate::listed::{bit_names, enum_names, ill_listed};
 use crate::member::Listed;
 use crate::part::misshapen;
 use crate::restricted::{digits_of, required, restricted};
-use crate::stop::TypeStop;
 use nc_names::{Many, Text};
 use nc_schema::{Between, ValueType};
-use nc_yang_statements::{BuiltIn, Keyword};
+use nc_yang_statements::{BuiltIn, Fault, Keyword, Stop};
 use nc_yang_words::Statement;
 use std::alloc::Global;
 
 // The lengths that are left.
-fn lengths_left(alloc: Global, below: &[Statement]) -> Result<Many<Between>, TypeStop>
+fn lengths_left(alloc: Global, below: &[Statement]) -> Result<Many<Between>, Stop<Fault>>
     ensures ok { IfOk result (λ it.
         entries.restricted Lengths LengthWord entries.lengths below.now ≡ Some it) }
     ensures kept { OnOk result (entries.misread Lengths LengthWord entries.lengths below.now ≡ []) }
-    ensures fault { IfErr result (λ stop. OnBroken stop (λ fault.
+    ensures fault { IfErr result (OnBroken (λ fault.
         rules.first (entries.misread Lengths LengthWord entries.lengths below.now) ≡ Some fault)) }
 {
     restricted(
@@ -45,12 +44,12 @@ fn integers_left(
     alloc: Global,
     built_in: BuiltIn,
     below: &[Statement],
-) -> Result<Many<Between>, TypeStop>
+) -> Result<Many<Between>, Stop<Fault>>
     ensures ok { IfOk result (λ it.
         entries.restricted (Units 0) RangeWord (entries.integers built_in) below.now ≡ Some it) }
     ensures kept { OnOk result
         (entries.misread (Units 0) RangeWord (entries.integers built_in) below.now ≡ []) }
-    ensures fault { IfErr result (λ stop. OnBroken stop (λ fault.
+    ensures fault { IfErr result (OnBroken (λ fault.
         rules.first (entries.misread (Units 0) RangeWord (entries.integers built_in) below.now)
         ≡ Some fault)) }
 {
@@ -65,10 +64,10 @@ fn integers_left(
 
 // The entry of a `decimal64`.
 #[tactic(auto, using(crate::proofs::Firsts::first_some, crate::proofs::Firsts::first_none, crate::proofs::Firsts::nothing_more))]
-fn decimal(alloc: Global, below: &[Statement]) -> Result<Option<ValueType>, TypeStop>
+fn decimal(alloc: Global, below: &[Statement]) -> Result<Option<ValueType>, Stop<Fault>>
     ensures ok { IfOk result (λ it. entries.decimal (entries.digits_of below.now) below.now ≡ it) }
     ensures kept { OnOk result (entries.ill_decimal below.now ≡ []) }
-    ensures fault { IfErr result (λ stop. OnBroken stop (λ fault.
+    ensures fault { IfErr result (OnBroken (λ fault.
         rules.first (entries.ill_decimal below.now) ≡ Some fault)) }
 {
     let Some(digits) = digits_of(below)? else {
@@ -85,14 +84,14 @@ fn enumeration<'a, C: Conditions<'a>>(
     alloc: Global,
     conditions: &C,
     below: &'a [Statement],
-) -> Result<Many<Text>, TypeStop>
+) -> Result<Many<Text>, Stop<Fault>>
     ensures ok { IfOk result (λ it. it ≡ members.enum_names (C.stands conditions.now) below.now) }
     ensures kept { OnOk result (members.ill_listed Enums below.now ≡ []) }
-    ensures fault { IfErr result (λ stop. OnBroken stop (λ fault.
+    ensures fault { IfErr result (OnBroken (λ fault.
         rules.first (members.ill_listed Enums below.now) ≡ Some fault)) }
 {
     if let Some(fault) = ill_listed(alloc, Listed::Enums, below)? {
-        return Err(TypeStop::Broken(fault));
+        return Err(Stop::Broken(fault));
     }
     Ok(enum_names(alloc, conditions, below)?)
 }
@@ -103,14 +102,14 @@ fn bits<'a, C: Conditions<'a>>(
     alloc: Global,
     conditions: &C,
     below: &'a [Statement],
-) -> Result<Many<Text>, TypeStop>
+) -> Result<Many<Text>, Stop<Fault>>
     ensures ok { IfOk result (λ it. it ≡ members.bit_names (C.stands conditions.now) below.now) }
     ensures kept { OnOk result (members.ill_listed Flags below.now ≡ []) }
-    ensures fault { IfErr result (λ stop. OnBroken stop (λ fault.
+    ensures fault { IfErr result (OnBroken (λ fault.
         rules.first (members.ill_listed Flags below.now) ≡ Some fault)) }
 {
     if let Some(fault) = ill_listed(alloc, Listed::Flags, below)? {
-        return Err(TypeStop::Broken(fault));
+        return Err(Stop::Broken(fault));
     }
     Ok(bit_names(alloc, conditions, below)?)
 }
@@ -121,10 +120,10 @@ fn entry<'a, C: Conditions<'a>>(
     conditions: &C,
     built_in: BuiltIn,
     below: &'a [Statement],
-) -> Result<Option<ValueType>, TypeStop>
+) -> Result<Option<ValueType>, Stop<Fault>>
     ensures ok { IfOk result (λ it. entries.own (C.stands conditions.now) built_in below.now ≡ it) }
     ensures kept { OnOk result (entries.misused built_in below.now ≡ []) }
-    ensures fault { IfErr result (λ stop. OnBroken stop (λ fault.
+    ensures fault { IfErr result (OnBroken (λ fault.
         rules.first (entries.misused built_in below.now) ≡ Some fault)) }
 {
     match built_in {
@@ -164,15 +163,15 @@ pub fn own<'a, C: Conditions<'a>>(
     conditions: &C,
     built_in: BuiltIn,
     statement: &'a Statement,
-) -> Result<Option<ValueType>, TypeStop>
+) -> Result<Option<ValueType>, Stop<Fault>>
     ensures ok { IfOk result (λ it.
         entries.own (C.stands conditions.now) built_in (statements.below statement.now) ≡ it) }
     ensures kept { OnOk result (entries.own_faults built_in statement.now ≡ []) }
-    ensures fault { IfErr result (λ stop. OnBroken stop (λ fault.
+    ensures fault { IfErr result (OnBroken (λ fault.
         rules.first (entries.own_faults built_in statement.now) ≡ Some fault)) }
 {
     if let Some(fault) = misshapen(built_in, statement) {
-        return Err(TypeStop::Broken(fault));
+        return Err(Stop::Broken(fault));
     }
     entry(alloc, conditions, built_in, statement.below.as_slice())
 }

@@ -3,15 +3,14 @@ ghost use Rattle.std.specs.Prelude.{◌≡◌, [], Some, IfOk, IfErr, OnOk, unwr
 ghost use Rattle.nc_schema.specs.declared.value_type.ValueType.TheVariants.{Whole, Decimal, Chars, Binary};
 ghost use Rattle.nc_yang_statements.specs.Rules as rules;
 ghost use Rattle.nc_yang_types.specs.Entries as entries;
-ghost use Rattle.nc_yang_types.specs.Stops.{OnBroken};
+ghost use Rattle.nc_yang_statements.specs.Stops.{OnBroken};
 
 use crate::bound::Counted;
 use crate::part::foreign_over;
 use crate::restricted::{narrower, required};
-use crate::stop::TypeStop;
 use nc_names::Many;
 use nc_schema::{Between, ValueType};
-use nc_yang_statements::Keyword;
+use nc_yang_statements::{Fault, Keyword, Stop};
 use nc_yang_words::Statement;
 use std::alloc::Global;
 
@@ -20,11 +19,11 @@ fn over_whole(
     alloc: Global,
     among: &Many<Between>,
     below: &[Statement],
-) -> Result<Option<ValueType>, TypeStop>
+) -> Result<Option<ValueType>, Stop<Fault>>
     ensures ok { IfOk result (λ it.
         entries.narrowed (Whole among.now) below.now ≡ Some (unwrap_or it (Whole among.now))) }
     ensures kept { OnOk result (entries.misnarrowed (Whole among.now) below.now ≡ []) }
-    ensures fault { IfErr result (λ stop. OnBroken stop (λ fault.
+    ensures fault { IfErr result (OnBroken (λ fault.
         rules.first (entries.misnarrowed (Whole among.now) below.now) ≡ Some fault)) }
 {
     let counted = Counted::Units(0);
@@ -40,12 +39,12 @@ fn over_decimal(
     digits: u32,
     among: &Many<Between>,
     below: &[Statement],
-) -> Result<Option<ValueType>, TypeStop>
+) -> Result<Option<ValueType>, Stop<Fault>>
     ensures ok { IfOk result (λ it.
         entries.narrowed (Decimal digits among.now) below.now
         ≡ Some (unwrap_or it (Decimal digits among.now))) }
     ensures kept { OnOk result (entries.misnarrowed (Decimal digits among.now) below.now ≡ []) }
-    ensures fault { IfErr result (λ stop. OnBroken stop (λ fault.
+    ensures fault { IfErr result (OnBroken (λ fault.
         rules.first (entries.misnarrowed (Decimal digits among.now) below.now) ≡ Some fault)) }
 {
     let counted = Counted::Units(digits);
@@ -61,12 +60,12 @@ fn over_chars(
     lengths: &Many<Between>,
     starless: bool,
     below: &[Statement],
-) -> Result<Option<ValueType>, TypeStop>
+) -> Result<Option<ValueType>, Stop<Fault>>
     ensures ok { IfOk result (λ it.
         entries.narrowed (Chars lengths.now starless) below.now
         ≡ Some (unwrap_or it (Chars lengths.now starless))) }
     ensures kept { OnOk result (entries.misnarrowed (Chars lengths.now starless) below.now ≡ []) }
-    ensures fault { IfErr result (λ stop. OnBroken stop (λ fault.
+    ensures fault { IfErr result (OnBroken (λ fault.
         rules.first (entries.misnarrowed (Chars lengths.now starless) below.now) ≡ Some fault)) }
 {
     let counted = Counted::Lengths;
@@ -81,11 +80,11 @@ fn over_binary(
     alloc: Global,
     lengths: &Many<Between>,
     below: &[Statement],
-) -> Result<Option<ValueType>, TypeStop>
+) -> Result<Option<ValueType>, Stop<Fault>>
     ensures ok { IfOk result (λ it.
         entries.narrowed (Binary lengths.now) below.now ≡ Some (unwrap_or it (Binary lengths.now))) }
     ensures kept { OnOk result (entries.misnarrowed (Binary lengths.now) below.now ≡ []) }
-    ensures fault { IfErr result (λ stop. OnBroken stop (λ fault.
+    ensures fault { IfErr result (OnBroken (λ fault.
         rules.first (entries.misnarrowed (Binary lengths.now) below.now) ≡ Some fault)) }
 {
     let counted = Counted::Lengths;
@@ -100,10 +99,10 @@ fn entry_over(
     alloc: Global,
     base: &ValueType,
     below: &[Statement],
-) -> Result<Option<ValueType>, TypeStop>
+) -> Result<Option<ValueType>, Stop<Fault>>
     ensures ok { IfOk result (λ it. entries.narrowed base.now below.now ≡ Some (unwrap_or it base.now)) }
     ensures kept { OnOk result (entries.misnarrowed base.now below.now ≡ []) }
-    ensures fault { IfErr result (λ stop. OnBroken stop (λ fault.
+    ensures fault { IfErr result (OnBroken (λ fault.
         rules.first (entries.misnarrowed base.now below.now) ≡ Some fault)) }
 {
     match base {
@@ -136,14 +135,14 @@ pub fn narrowed(
     alloc: Global,
     base: &ValueType,
     below: &[Statement],
-) -> Result<Option<ValueType>, TypeStop>
+) -> Result<Option<ValueType>, Stop<Fault>>
     ensures ok { IfOk result (λ it. entries.narrowed base.now below.now ≡ Some (unwrap_or it base.now)) }
     ensures kept { OnOk result (entries.narrowed_faults base.now below.now ≡ []) }
-    ensures fault { IfErr result (λ stop. OnBroken stop (λ fault.
+    ensures fault { IfErr result (OnBroken (λ fault.
         rules.first (entries.narrowed_faults base.now below.now) ≡ Some fault)) }
 {
     if let Some(fault) = foreign_over(base, below) {
-        return Err(TypeStop::Broken(fault));
+        return Err(Stop::Broken(fault));
     }
     entry_over(alloc, base, below)
 }

@@ -3,15 +3,14 @@ ghost use Rattle.std.specs.Prelude.{◌≡◌, [], Some, IfOk, IfErr, OnOk, unwr
 ghost use Rattle.nc_yang_statements.specs.Arguments as arguments;
 ghost use Rattle.nc_yang_statements.specs.Rules as rules;
 ghost use Rattle.nc_yang_types.specs.Entries as entries;
-ghost use Rattle.nc_yang_types.specs.Stops.{OnBroken};
+ghost use Rattle.nc_yang_statements.specs.Stops.{OnBroken};
 
 use crate::bound::Counted;
 use crate::part::fault;
 use crate::range::restriction;
-use crate::stop::TypeStop;
 use nc_names::Many;
 use nc_schema::{Between, read_number};
-use nc_yang_statements::{Keyword, ModuleWhy, name, part};
+use nc_yang_statements::{Fault, Keyword, ModuleWhy, Stop, name, part};
 use nc_yang_words::Statement;
 use std::alloc::Global;
 
@@ -23,11 +22,11 @@ pub(crate) fn narrower(
     keyword: Keyword,
     base: &[Between],
     below: &[Statement],
-) -> Result<Option<Many<Between>>, TypeStop>
+) -> Result<Option<Many<Between>>, Stop<Fault>>
     ensures ok { IfOk result (λ it. entries.restricted counted keyword base.now below.now
         ≡ Some (unwrap_or it base.now)) }
     ensures kept { OnOk result (entries.misread counted keyword base.now below.now ≡ []) }
-    ensures fault { IfErr result (λ stop. OnBroken stop (λ fault.
+    ensures fault { IfErr result (OnBroken (λ fault.
         rules.first (entries.misread counted keyword base.now below.now) ≡ Some fault)) }
 {
     let Some(given) = part(below, keyword) else {
@@ -35,7 +34,7 @@ pub(crate) fn narrower(
     };
     match restriction(alloc, counted, base, name(given))? {
         Some(parts) => Ok(Some(parts)),
-        None => Err(TypeStop::Broken(fault(given, ModuleWhy::BadArgument))),
+        None => Err(Stop::Broken(fault(given, ModuleWhy::BadArgument))),
     }
 }
 
@@ -46,10 +45,10 @@ pub(crate) fn restricted(
     keyword: Keyword,
     base: Many<Between>,
     below: &[Statement],
-) -> Result<Many<Between>, TypeStop>
+) -> Result<Many<Between>, Stop<Fault>>
     ensures ok { IfOk result (λ it. entries.restricted counted keyword base below.now ≡ Some it) }
     ensures kept { OnOk result (entries.misread counted keyword base below.now ≡ []) }
-    ensures fault { IfErr result (λ stop. OnBroken stop (λ fault.
+    ensures fault { IfErr result (OnBroken (λ fault.
         rules.first (entries.misread counted keyword base below.now) ≡ Some fault)) }
 {
     match narrower(alloc, counted, keyword, base.as_slice(), below)? {
@@ -71,10 +70,10 @@ fn digits_in(number: Option<i128>) -> Option<u32>
 }
 
 /// How many fraction digits there are; `None` where there is no such part.
-pub(crate) fn digits_of(below: &[Statement]) -> Result<Option<u32>, TypeStop>
+pub(crate) fn digits_of(below: &[Statement]) -> Result<Option<u32>, Stop<Fault>>
     ensures ok { IfOk result (λ it. entries.digits_of below.now ≡ it) }
     ensures kept { OnOk result (entries.ill_digits below.now ≡ []) }
-    ensures fault { IfErr result (λ stop. OnBroken stop (λ fault.
+    ensures fault { IfErr result (OnBroken (λ fault.
         rules.first (entries.ill_digits below.now) ≡ Some fault)) }
 {
     let Some(given) = part(below, Keyword::FractionDigits) else {
@@ -82,7 +81,7 @@ pub(crate) fn digits_of(below: &[Statement]) -> Result<Option<u32>, TypeStop>
     };
     match digits_in(read_number(name(given))) {
         Some(digits) => Ok(Some(digits)),
-        None => Err(TypeStop::Broken(fault(given, ModuleWhy::BadArgument))),
+        None => Err(Stop::Broken(fault(given, ModuleWhy::BadArgument))),
     }
 }
 

@@ -1,14 +1,12 @@
 //! Leafrefs that lead in a circle (RFC 7950 9.9.2).
-ghost use Rattle.std.specs.Prelude.{◌≡◌, map, true, IfOk};
-ghost use Rattle.nc_yang_leafs.specs.Bases.{ArePrefixes};
+ghost use Rattle.std.specs.Prelude.{true};
 ghost use Rattle.nc_yang_nodes.specs.FeaturesOn.{is_on};
 ghost use Rattle.nc_yang_nodes.specs.Plans.{IsPlan};
-ghost use Rattle.nc_yang_scopes.specs.Prefixes.{namespace_in};
 
-use nc_names::{Bound, Many, Memory, Text};
+use nc_names::Many;
 use nc_schema::Schema;
 use nc_yang_circles::first_circle;
-use nc_yang_data::{data_nodes, namespaces, prefixes};
+use nc_yang_data::{all_prefixes, data_nodes, namespaces};
 use nc_yang_meanings::{Features as Conditions, Meanings, meanings_of};
 use nc_yang_nodes::{Features, Plan, plan_of};
 use nc_yang_scopes::{Scopes, TextFault};
@@ -69,22 +67,6 @@ fn nodes<'a>(
         Ok(schema) => schema,
         Err(_) => panic!(rt; "no data nodes"),
     }
-}
-
-/// The prefixes of each text, where the namespaces of the texts are these.
-fn all_prefixes<'a>(
-    alloc: Global,
-    scopes: &Scopes<'a>,
-    spaces: &[Text],
-) -> Result<Many<Many<Bound>>, Memory>
-    requires { spaces.now ≡ map namespace_in scopes.now.texts }
-    ensures { IfOk result (ArePrefixes scopes.now.texts) }
-{
-    let mut all = Many::new(alloc);
-    for text in 0..scopes.texts() {
-        all.push(prefixes(alloc, scopes, spaces, text)?)?;
-    }
-    Ok(all)
 }
 
 /// The first circle.

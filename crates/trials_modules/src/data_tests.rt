@@ -3,10 +3,10 @@ use crate::compiling::is_same;
 use crate::node_texts::{show_choice, show_node};
 use nc_names::{Bound, Many, Module};
 use nc_schema::Schema;
-use nc_yang_data::{DataFault, data_nodes, namespaces, prefixes};
+use nc_yang_data::{data_nodes, namespaces, prefixes};
 use nc_yang_nodes::{Features, plan_of};
-use nc_yang_scopes::Scopes;
-use nc_yang_statements::{Keyword, kind, name};
+use nc_yang_scopes::{Scopes, TextFault};
+use nc_yang_statements::{Keyword, Stop, kind, name};
 use nc_yang_words::{Statement, statements};
 use std::alloc::Global;
 use std::process::Abort;
@@ -69,15 +69,15 @@ fn show_nodes(rt: &impl Abort, shown: &mut String, schema: &Schema) {
 }
 
 /// Why there are none.
-fn show_fault(rt: &impl Abort, shown: &mut String, fault: DataFault) {
+fn show_fault(rt: &impl Abort, shown: &mut String, fault: Stop<TextFault>) {
     match fault {
-        DataFault::Broken(found) => {
+        Stop::Broken(found) => {
             let text = found.text;
             let line = found.fault.line;
             let why = found.fault.why;
             write!(shown, "{why:?} {text}:{line}").expect(rt, "memory")
         }
-        DataFault::Memory => shown.push_str("no memory").expect(rt, "memory"),
+        Stop::Memory => shown.push_str("no memory").expect(rt, "memory"),
     }
 }
 
@@ -86,10 +86,10 @@ fn schema_of<'a>(
     alloc: Global,
     scopes: &Scopes<'a>,
     features: &Features<'a>,
-) -> Result<Schema, DataFault> {
+) -> Result<Schema, Stop<TextFault>> {
     match plan_of(alloc, scopes, features) {
         Ok(plan) => data_nodes(alloc, scopes, features, &plan),
-        Err(_) => Err(DataFault::Memory),
+        Err(_) => Err(Stop::Memory),
     }
 }
 

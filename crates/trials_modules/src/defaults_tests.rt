@@ -1,11 +1,11 @@
 //! The defaults of leafs and leaf-lists, as canonical texts.
 use nc_names::{Bound, Many, Module, QName, Text};
 use nc_schema::{Between, Deny, Kind, Node, Schema, ValueType};
-use nc_yang_defaults::{DefaultFault, with_defaults};
+use nc_yang_defaults::with_defaults;
 use nc_yang_meanings::defaults_of;
 use nc_yang_nodes::{Features, Plan, Planned, plan_of};
-use nc_yang_scopes::Scopes;
-use nc_yang_statements::{Keyword, kind, name, part};
+use nc_yang_scopes::{Scopes, TextFault};
+use nc_yang_statements::{Keyword, Stop, kind, name, part};
 use nc_yang_words::{Statement, statements};
 use std::alloc::Global;
 use std::process::Abort;
@@ -191,15 +191,15 @@ fn show(rt: &impl Abort, shown: &mut String, schema: &Schema) {
 }
 
 /// Where a rule is broken, and which.
-fn show_fault(rt: &impl Abort, shown: &mut String, fault: DefaultFault) {
+fn show_fault(rt: &impl Abort, shown: &mut String, fault: Stop<TextFault>) {
     match fault {
-        DefaultFault::Broken(found) => {
+        Stop::Broken(found) => {
             let text = found.text;
             let line = found.fault.line;
             let why = found.fault.why;
             write!(shown, "{text}:{line} {why:?}").expect(rt, "memory");
         }
-        DefaultFault::Memory => write!(shown, "no memory").expect(rt, "memory"),
+        Stop::Memory => write!(shown, "no memory").expect(rt, "memory"),
     }
 }
 

@@ -1,11 +1,9 @@
 //! The data nodes and choices that modules define.
 use nc_names::Many;
 use nc_schema::Case;
-use nc_yang_nodes::{
-    Features, Plan, PlanStop, Planned, PlannedChoice, case_of, features_on, plan_of,
-};
-use nc_yang_scopes::Scopes;
-use nc_yang_statements::{Keyword, kind, name};
+use nc_yang_nodes::{Features, Plan, Planned, PlannedChoice, case_of, features_on, plan_of};
+use nc_yang_scopes::{Scopes, TextFault};
+use nc_yang_statements::{Keyword, Stop, kind, name};
 use nc_yang_words::{Statement, statements};
 use std::alloc::Global;
 use std::process::Abort;
@@ -74,14 +72,14 @@ fn show_plan(rt: &impl Abort, shown: &mut String, scopes: &Scopes, plan: &Plan) 
 }
 
 /// Why there is no plan.
-fn show_stop(rt: &impl Abort, shown: &mut String, stop: PlanStop) {
+fn show_stop(rt: &impl Abort, shown: &mut String, stop: Stop<TextFault>) {
     match stop {
-        PlanStop::TooMany(found) => {
+        Stop::Broken(found) => {
             let text = found.text;
             let line = found.fault.line;
             write!(shown, "too many at {text}:{line}").expect(rt, "memory")
         }
-        PlanStop::Memory => shown.push_str("no memory").expect(rt, "memory"),
+        Stop::Memory => shown.push_str("no memory").expect(rt, "memory"),
     }
 }
 

@@ -8,8 +8,8 @@ mod meanings_tests;
 
 use nc_names::Text;
 use nc_schema::{Between, ValueType};
-use nc_yang_statements::{Keyword, built_in_of, has, name};
-use nc_yang_types::{Always, Conditions, TypeStop, narrowed, own};
+use nc_yang_statements::{Fault, Keyword, Stop, built_in_of, has, name};
+use nc_yang_types::{Always, Conditions, narrowed, own};
 use nc_yang_words::{Statement, statements};
 use std::alloc::Global;
 use std::process::Abort;
@@ -68,16 +68,16 @@ fn shown_entry(rt: &impl Abort, alloc: Global, entry: &ValueType) -> String {
 fn shown(
     rt: &impl Abort,
     alloc: Global,
-    found: Result<Option<ValueType>, TypeStop>,
+    found: Result<Option<ValueType>, Stop<Fault>>,
     nothing: &str,
 ) -> String {
     match found {
         Ok(Some(entry)) => shown_entry(rt, alloc, &entry),
         Ok(None) => format!(in alloc; "{nothing}").expect(rt, "memory"),
-        Err(TypeStop::Broken(fault)) => {
+        Err(Stop::Broken(fault)) => {
             format!(in alloc; "{} {:?}", fault.line, fault.why).expect(rt, "memory")
         }
-        Err(TypeStop::Memory) => format!(in alloc; "memory").expect(rt, "memory"),
+        Err(Stop::Memory) => format!(in alloc; "memory").expect(rt, "memory"),
     }
 }
 
@@ -87,7 +87,7 @@ fn own_of<'a, C: Conditions<'a>>(
     alloc: Global,
     conditions: &C,
     root: &'a Statement,
-) -> Result<Option<ValueType>, TypeStop> {
+) -> Result<Option<ValueType>, Stop<Fault>> {
     let built_in = built_in_of(name(root)).expect(rt, "a built-in type");
     own(alloc, conditions, built_in, root)
 }

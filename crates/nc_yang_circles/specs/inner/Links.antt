@@ -7,7 +7,8 @@ use Rattle.nc_schema.specs.Tables.{Tables}
 use Rattle.nc_yang_scopes.specs.declared.naming.TextFault.{TextFault}
 use Rattle.nc_yang_scopes.specs.Scopes.{Located, Scoping}
 use Rattle.nc_yang_meanings.specs.Plans.{AreMeanings}
-use Rattle.nc_yang_leafs.specs.Bases.{ArePrefixes, Basis, basis_on, leads}
+use Rattle.nc_yang_leafs.specs.Bases.{Basis, basis_on, leads}
+use Rattle.nc_yang_scopes.specs.Prefixes.{ArePrefixes}
 use Rattle.nc_yang_leafs.specs.Marks.{AreMarks}
 use Rattle.nc_yang_circles.specs.declared.site.Site.{Site}
 use Rattle.nc_yang_circles.specs.declared.link.Link.{Link}

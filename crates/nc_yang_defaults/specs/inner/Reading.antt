@@ -11,11 +11,9 @@ use Rattle.nc_yang_scopes.specs.Scopes.{Located, Scoping}
 use Rattle.nc_yang_scopes.specs.declared.naming.TextFault.{TextFault}
 use Rattle.nc_yang_nodes.specs.declared.planned.Plan.{Plan}
 use Rattle.nc_yang_scopes.specs.Numbers.{AreNumbers}
-use Rattle.nc_yang_defaults.specs.declared.fault.DefaultFault.{DefaultFault}
-use Rattle.nc_yang_defaults.specs.declared.fault.Stop.{Stop}
-use Rattle.nc_yang_defaults.specs.declared.fault.Stop.TheVariants.{At, Memory}
+use Rattle.nc_yang_statements.specs.declared.stop.Stop.{Stop}
 use Rattle.nc_yang_defaults.specs.Defaults.{AreDefaultsOf, AreValues, BreaksAt, StopsAt, bad_argument, blamed}
-use Rattle.nc_yang_defaults.specs.Faults.{OnBroken}
+use Rattle.nc_yang_statements.specs.Stops.{OnBroken}
 use Rattle.nc_yang_defaults.specs.Readings.{value_of}
 use Rattle.nc_yang_defaults.specs.Sources.{BringsTo, Defined, IsDefined, own_of}
 use Rattle.nc_yang_defaults.specs.Typed.{HasMeaning}
@@ -57,11 +55,6 @@ abbrev pub IsFirstAgain : List (List ℕ) → Option ℕ → Type 0
 IsFirstAgain values None = AllPairs (λ one later. one ≢ later) values
 IsFirstAgain values (Some place) = IsAgain values place
 
--- so it is with the number of the statement; of want of memory nothing is said
-abbrev pub OnStop : (ℕ → Type 0) → Stop → Type 0
-OnStop P (At number) = P number
-OnStop P Memory = Unit {0}
-
 -- the statement of a number is the first that breaks a rule
 pub record IsStop (scoping : Scoping) (tables : Tables) (number : ℕ) (defaults : List Located)
     (stop : ℕ) : Type 0 where
@@ -70,10 +63,10 @@ pub record IsStop (scoping : Scoping) (tables : Tables) (number : ℕ) (defaults
   pub stops : StopsAt scoping.texts tables number defaults default
 
 -- what is found of `default` statements that have these numbers
-abbrev pub FindsValues : Scoping → Tables → ℕ → List ℕ → Result (List (List ℕ)) Stop → Type 0
+abbrev pub FindsValues : Scoping → Tables → ℕ → List ℕ → Result (List (List ℕ)) (Stop ℕ) → Type 0
 FindsValues scoping tables number numbers result =
     (defaults : List Located) → AreNumbers scoping.located numbers defaults → MatchResult result
-    (AreValues scoping.texts tables number defaults) (OnStop (IsStop scoping tables number defaults))
+    (AreValues scoping.texts tables number defaults) (OnBroken (IsStop scoping tables number defaults))
 
 -- the number of the default that a type brings to a data node, or that it brings none
 abbrev pub IsBrought : Scoping → Defined → Option ℕ → Type 0
@@ -95,7 +88,7 @@ abbrev pub MeansIt : List Statement → Defined → Type 0
 MeansIt texts d = has_value d.node.kind ≡ true → HasMeaning texts d.statement
 
 -- what is found of a data node
-abbrev pub FindsDefaults : Scoping → Tables → Defined → Result (List (List ℕ)) DefaultFault → Type 0
+abbrev pub FindsDefaults : Scoping → Tables → Defined → Result (List (List ℕ)) (Stop TextFault) → Type 0
 FindsDefaults scoping tables d result =
     MatchResult result (AreDefaultsOf scoping.texts tables d) (OnBroken (IsFault scoping.texts tables d))
 

@@ -3,7 +3,7 @@ use Rattle.std.specs.Prelude.{ℕ, List}
 use Rattle.nc_names.specs.declared.name.QName.{QName}
 use Rattle.nc_yang_scopes.specs.Scopes.{Located}
 use Rattle.nc_yang_leafs.specs.declared.site.Site.{Site}
-use Rattle.nc_yang_leafs.specs.Bases.{ArePrefixes}
+use Rattle.nc_yang_scopes.specs.Prefixes.{ArePrefixes}
 use Rattle.nc_yang_leafs.specs.inner.Firsts.{AreFirsts}
 use Rattle.nc_yang_leafs.specs.inner.Tables.{Work}
 

@@ -6,8 +6,8 @@ use Rattle.nc_yang_scopes.specs.Scopes.{Located, Scoping, root}
 use Rattle.nc_yang_scopes.specs.declared.naming.TextFault.{TextFault}
 use Rattle.nc_yang_nodes.specs.declared.context.Context.{Context}
 use Rattle.nc_yang_nodes.specs.declared.planned.Plan.{Plan}
-use Rattle.nc_yang_nodes.specs.declared.planned.PlanStop.{PlanStop}
-use Rattle.nc_yang_nodes.specs.declared.planned.PlanStop.TheVariants.{TooMany, Memory}
+use Rattle.nc_yang_statements.specs.declared.stop.Stop.{Stop}
+use Rattle.nc_yang_statements.specs.Stops.{OnBroken}
 use Rattle.nc_yang_nodes.specs.declared.role.Role.{Role}
 use Rattle.nc_yang_nodes.specs.declared.table.Entry.{Entry}
 use Rattle.nc_yang_nodes.specs.declared.walk.Frame.{Frame}
@@ -83,9 +83,8 @@ pub record StopsAt (scoping : Scoping) (on : FeatureTest) (old : List Left) (bef
   pub past : IsPast scoping on moment
   pub at : fault ≡ fault_at moment
 
-abbrev pub Stops : Scoping → FeatureTest → List Left → Plan → PlanStop → Type 0
-Stops scoping on old before (TooMany fault) = StopsAt scoping on old before fault
-Stops scoping on old before Memory = Unit {0}
+abbrev pub Stops : Scoping → FeatureTest → List Left → Plan → Stop TextFault → Type 0
+Stops scoping on old before = OnBroken (StopsAt scoping on old before)
 
 -- what a walk has come to
 pub record ComesTo (scoping : Scoping) (on : FeatureTest) (old : List Left) (before : Plan) (walk : Walk) : Type 0 where
@@ -107,7 +106,7 @@ abbrev pub with_frame : Scoping → Frame → Walk → List Left
 with_frame scoping frame walk = left_of scoping frame ∷ stack scoping walk.frames
 
 -- what was left goes on to what is left now, or stops
-abbrev pub Moves : {T : Type 0} → Scoping → FeatureTest → Result T PlanStop → List Left → Plan → Walk → Type 0
+abbrev pub Moves : {T : Type 0} → Scoping → FeatureTest → Result T (Stop TextFault) → List Left → Plan → Walk → Type 0
 Moves scoping on result old before walk =
     MatchResult result (λ _. ComesTo scoping on old before walk) (Stops scoping on old before)
 
@@ -129,10 +128,9 @@ pub record StopsInText (scoping : Scoping) (on : FeatureTest) (text : ℕ) (befo
   pub past : IsPast scoping on moment
   pub at : fault ≡ fault_at moment
 
-abbrev pub StopsText : Scoping → FeatureTest → ℕ → Plan → PlanStop → Type 0
-StopsText scoping on text before (TooMany fault) = StopsInText scoping on text before fault
-StopsText scoping on text before Memory = Unit {0}
+abbrev pub StopsText : Scoping → FeatureTest → ℕ → Plan → Stop TextFault → Type 0
+StopsText scoping on text before = OnBroken (StopsInText scoping on text before)
 
-abbrev pub AddsOrStops : {T : Type 0} → Scoping → FeatureTest → ℕ → Result T PlanStop → Plan → Walk → Type 0
+abbrev pub AddsOrStops : {T : Type 0} → Scoping → FeatureTest → ℕ → Result T (Stop TextFault) → Plan → Walk → Type 0
 AddsOrStops scoping on text result before walk =
     MatchResult result (λ _. AddsText scoping on text before walk) (StopsText scoping on text before)

@@ -4,8 +4,9 @@ ghost use Rattle.nc_names.specs.Same.{is_same_text};
 
 use super::shown_entry;
 use nc_names::Many;
-use nc_yang_meanings::{Features, Finding, MeaningStop, Meanings, Planned, meanings_of};
+use nc_yang_meanings::{Features, Finding, Meanings, Planned, meanings_of};
 use nc_yang_scopes::Scopes;
+use nc_yang_statements::Stop;
 use nc_yang_words::{Statement, statements};
 use std::alloc::Global;
 use std::process::Abort;
@@ -96,11 +97,11 @@ fn meant(rt: &impl Abort, alloc: Global, texts: &[&str]) -> String {
     let scopes = Scopes::of(alloc, roots.as_slice()).expect(rt, "memory");
     match meanings_of(alloc, &scopes, &AllButOff) {
         Ok(meanings) => shown_all(rt, alloc, &scopes, &meanings),
-        Err(MeaningStop::Broken(found)) => {
+        Err(Stop::Broken(found)) => {
             let fault = found.fault;
             format!(in alloc; "{}:{} {:?}", found.text, fault.line, fault.why).expect(rt, "memory")
         }
-        Err(MeaningStop::Memory) => format!(in alloc; "memory").expect(rt, "memory"),
+        Err(Stop::Memory) => format!(in alloc; "memory").expect(rt, "memory"),
     }
 }
 

@@ -3,7 +3,7 @@ use Rattle.std.specs.Prelude.{MatchResult}
 use Rattle.std.proofs.lemmas.List.{length-append}
 use Rattle.std.proofs.lemmas.Result.{err_from_is_err_and}
 use Rattle.nc_yang_defaults.specs.Defaults.{BreaksDefault}
-use Rattle.nc_yang_defaults.specs.Faults.{OnBroken}
+use Rattle.nc_yang_statements.specs.Stops.{OnBroken}
 use Rattle.nc_yang_defaults.specs.inner.Reading.{AreFound}
 use Rattle.nc_yang_defaults.proofs.NodeLemmas.{found_more, found_stop}
 use Rattle.nc_yang_defaults.proofs.all.all_defaults.Goals as goal

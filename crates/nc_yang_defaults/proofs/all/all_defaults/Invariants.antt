@@ -1,5 +1,6 @@
 use Rattle.std.proofs.Common.{◌≡◌, length}
-use Rattle.nc_yang_defaults.specs.Typed.{ArePrefixes, IsTyped}
+use Rattle.nc_yang_defaults.specs.Typed.{IsTyped}
+use Rattle.nc_yang_scopes.specs.Prefixes.{ArePrefixes}
 use Rattle.nc_yang_defaults.specs.inner.Reading.{AreFound}
 use Rattle.nc_yang_defaults.proofs.all.all_defaults.Given as goal
 

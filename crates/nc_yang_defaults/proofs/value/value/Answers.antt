@@ -1,7 +1,6 @@
 use Rattle.std.proofs.Common.{sym}
 use Rattle.nc_schema.specs.Values.{canonical}
-use Rattle.nc_yang_scopes.specs.Prefixes.{prefixes_in}
-use Rattle.nc_yang_defaults.specs.Typed.{ArePrefixes}
+use Rattle.nc_yang_scopes.specs.Prefixes.{ArePrefixes, prefixes_in}
 use Rattle.nc_yang_defaults.proofs.ValueLemmas.{value_read}
 use Rattle.nc_yang_defaults.proofs.value.value.Goals as goal
 

@@ -3,7 +3,7 @@ use Rattle.std.specs.Prelude.{Some}
 use Rattle.nc_yang_scopes.specs.Numbers.{AreNumbers}
 use Rattle.nc_yang_scopes.specs.Scopes.{Located}
 use Rattle.nc_yang_defaults.specs.Readings.{value_of}
-use Rattle.nc_yang_defaults.specs.Typed.{ArePrefixes}
+use Rattle.nc_yang_scopes.specs.Prefixes.{ArePrefixes}
 use Rattle.nc_yang_defaults.proofs.values.read_all.Given as goal
 
 abbrev pub invariant-loop-default : goal.invariant-loop-default

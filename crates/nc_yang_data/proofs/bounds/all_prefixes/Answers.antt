@@ -1,6 +1,6 @@
 use Rattle.std.proofs.Common.{arith}
-use Rattle.nc_yang.proofs.PrefixLemmas.{all_are, one_more}
-use Rattle.nc_yang.proofs.prefixes.all_prefixes.Goals as goal
+use Rattle.nc_yang_data.proofs.PrefixLemmas.{all_are, one_more}
+use Rattle.nc_yang_data.proofs.bounds.all_prefixes.Goals as goal
 
 pub loop-text-preserved : goal.loop-text-preserved
 loop-text-preserved c =

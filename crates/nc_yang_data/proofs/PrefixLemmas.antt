@@ -1,13 +1,11 @@
 -- The prefixes of the texts, one after another.
-use Rattle.std.proofs.Common.{inl, inr, ◌≡◌, ◌<◌, ◌+◌, ℕ, List, [], ◌∷◌, ◌++◌, length, refl, sym, ap, subst, ◌∙◌}
+use Rattle.std.proofs.Common.{inl, inr, ◌≡◌, ◌+◌, ℕ, List, [], ◌∷◌, ◌++◌, length, refl, sym, ap, ◌∙◌}
 use Rattle.std.specs.Prelude.{Some, slice_get}
 use Rattle.std.proofs.lemmas.List.{length_push}
 use Rattle.nc_names.specs.declared.name.Bound.{Bound}
 use Rattle.nc_yang_words.specs.declared.statement.Statement.{Statement}
-use Rattle.nc_yang_scopes.specs.Prefixes.{prefixes_in}
-use Rattle.nc_yang_nodes.proofs.ListLemmas.{get_push, got}
-use Rattle.nc_yang_leafs.specs.Bases.{ArePrefixes}
-use Rattle.nc_yang_defaults.specs.Typed.{ArePrefixes as AreForDefaults}
+use Rattle.nc_yang_scopes.specs.Prefixes.{ArePrefixes, prefixes_in}
+use Rattle.nc_yang_nodes.proofs.ListLemmas.{get_push}
 
 -- those of the first so many
 pub record AreFirst (texts : List Statement) (count : ℕ) (all : List (List Bound)) : Type 0 where
@@ -29,10 +27,3 @@ one_more texts count all new bounds so_far is new_is = record {
 
 pub all_are : (texts : List Statement) (count : ℕ) (all : List (List Bound)) → AreFirst texts count all → count ≡ length texts → ArePrefixes texts all
 all_are texts count all so_far past = record { counted = so_far.counted ∙ past; each = so_far.each }
-
--- as defaults are read with them
-pub for_defaults : (texts : List Statement) (all : List (List Bound)) → ArePrefixes texts all → AreForDefaults texts all
-for_defaults texts all are = record {
-  counted = are.counted;
-  each = λ text less. let g = got all text (subst (λ n. text < n) (sym are.counted) less) in g.1 ∙ ap Some (are.each text g.0 g.1);
-}

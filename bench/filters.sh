@@ -1,8 +1,9 @@
 #!/usr/bin/env bash
 # Times `nc_filter::select` over a list of 10,000 entries: a filter of 1,000 entries by their keys, and filters of 4 MB
 # that are made to be slow; over 100 entries with 90 of 100 tags each, with an element for each of many triples of tags; over
-# 50 such entries with 90 rows more in a container, with an element for each triple that selects one of them; and over 450
-# entries with the same 20 tags, with an element for each of many sets of seven.
+# 50 such entries with 90 rows more in a container, with an element for each triple that selects one of them; over 450
+# entries with the same 20 tags, with an element for each of many sets of seven; and over 10,000 and 40,000 entries with a
+# container each, with an element for each that names it by its key and asks for what is in the container.
 set -euo pipefail
 exec "$(dirname "$0")/program" filters 'nc_names nc_message nc_message_read nc_schema nc_tree nc_filter' <<'RT'
 //! Times filters over a list of 10,000 entries, each with a key and a leaf, and over one of 100 entries with many tags.
@@ -120,6 +121,7 @@ enum More {
     Tags,
     TagsAndInner,
     TwentyTags,
+    OneInner,
 }
 
 fn push_value(
@@ -179,6 +181,7 @@ fn push_more(
         More::Nothing => Ok(()),
         More::Tags => push_tags(alloc, rows, name, user, 100),
         More::TwentyTags => push_tags(alloc, rows, name, user, 20),
+        More::OneInner => push_value(alloc, rows, name, true, 1),
         More::TagsAndInner => {
             push_tags(alloc, rows, name, user, 100)?;
             push_inner(alloc, rows, name)
@@ -420,6 +423,16 @@ fn time_sevens(alloc: Global, rt: &HostRuntime, schema: &Schema) -> io::Result<(
     Ok(())
 }
 
+fn time_nested(alloc: Global, rt: &HostRuntime, schema: &Schema) -> io::Result<()> {
+    for count in [10_000, 40_000] {
+        let Ok(list) = config(alloc, schema, count, More::OneInner) else {
+            return println!(rt; "out of memory");
+        };
+        timed(alloc, rt, schema, &list, "<user><name>u#</name><c><x/></c></user>", count)?;
+    }
+    Ok(())
+}
+
 fn main(rt: HostRuntime) -> io::Result<()> {
     let alloc = rt.alloc();
     let Ok(schema) = schema(alloc) else {
@@ -428,6 +441,7 @@ fn main(rt: HostRuntime) -> io::Result<()> {
     time_lists(alloc, &rt, &schema)?;
     time_tags(alloc, &rt, &schema)?;
     time_inner(alloc, &rt, &schema)?;
-    time_sevens(alloc, &rt, &schema)
+    time_sevens(alloc, &rt, &schema)?;
+    time_nested(alloc, &rt, &schema)
 }
 RT

@@ -20,4 +20,5 @@ pub mod KeptLemmas
 pub mod BitLemmas
 pub mod NumberLemmas
 pub mod MemberLemmas
+pub mod BelowLemmas
 pub mod InstanceLemmas

@@ -17,14 +17,14 @@ use Rattle.nc_filter.specs.declared.members.Members.{Members}
 use Rattle.nc_filter.specs.declared.runs.Run.{Run}
 use Rattle.nc_filter.specs.inner.Keys.{among, has_all}
 use Rattle.nc_filter.specs.inner.Lists.{AddsOne, any_numbered}
-use Rattle.nc_filter.specs.inner.Runs.{AddsHeld, AreHeld, AreHeldOf, AreKnown, AreListed, IsFrom, IsGroup, IsKeyed, IsTable, Keyed, Marks, at_number, has_at, has_key, has_keys, holds_in, is_held, without_members}
+use Rattle.nc_filter.specs.inner.Runs.{AddsIf, AreHeld, AreKnown, AreListed, AreNumbered, AreOf, IsFrom, IsGroup, IsKeyed, IsTable, Keyed, Marks, at_number, has_at, has_key, has_keys, holds_in, is_held, without_members}
 use Rattle.nc_filter.specs.inner.Sets.{bit_of, has}
 use Rattle.nc_filter.specs.inner.Tables.{has_text}
 use Rattle.nc_filter.proofs.BitLemmas.{empty_bits, no_bit, nothing_at}
 use Rattle.nc_filter.proofs.KeyLemmas.{first_of, second_of}
 use Rattle.nc_filter.proofs.NumberLemmas.{any_equal, at_more, numbered_at}
 use Rattle.nc_filter.proofs.TableLemmas.{eq_text, taken_all}
-use Rattle.nc_filter.proofs.Unions.{and_assoc, any_same, or_and, or_assoc, or_false}
+use Rattle.nc_filter.proofs.Unions.{and_assoc, and_swap, any_same, or_and, or_assoc, or_false}
 
 -- ---- a table with a number more
 pub member_put : (before gone now : Keyed) (wanted : List ℕ) (inside more : Members) (number : ℕ) → without_members wanted before gone →
@@ -104,20 +104,35 @@ few_at items key members None same is = tt
 few_at items key members (Some few) same is = λ n. is n ∙ same n
 
 -- ---- the instances in which keys are
-pub held_there : (keys : List (List ℕ)) (whole : List Run) (from : List ℕ) (number : ℕ) (before now : List ℕ) → true ≡ is_held keys whole from number → AddsOne before now number →
-    AddsHeld keys whole from number before now
-held_there keys whole from number before now holds adds test = adds test ∙ ap (λ b. list_any test before || (b && test number)) holds
+pub number_added : (before now : List ℕ) (passes : Bool) (number : ℕ) → passes ≡ true → AddsOne before now number → AddsIf passes number before now
+number_added before now passes number is adds test = adds test ∙ ap (λ b. list_any test before || (b && test number)) (sym is)
 
-pub held_not : (keys : List (List ℕ)) (whole : List Run) (from : List ℕ) (number : ℕ) (before : List ℕ) → false ≡ is_held keys whole from number → AddsHeld keys whole from number before before
-held_not keys whole from number before holds test = sym (or_false (list_any test before)) ∙ ap (λ b. list_any test before || (b && test number)) holds
+pub number_left : (before : List ℕ) (passes : Bool) (number : ℕ) → passes ≡ false → AddsIf passes number before before
+number_left before passes number is test = sym (or_false (list_any test before)) ∙ ap (λ b. list_any test before || (b && test number)) (sym is)
 
-pub held_more : (keys : List (List ℕ)) (whole : List Run) (from some before now : List ℕ) (i number d : ℕ) → i < length some → number ≡ get_or some i d →
-    AddsHeld keys whole from number before now → AreHeldOf keys whole from (take i some) before → AreHeldOf keys whole from (take (i + 1) some) now
-held_more keys whole from some before now i number d within is adds so_far test =
+pub of_more : (passes : ℕ → Bool) (some before now : List ℕ) (i number d : ℕ) (there : Bool) → i < length some → number ≡ get_or some i d → there ≡ passes number →
+    AddsIf there number before now → AreOf passes (take i some) before → AreOf passes (take (i + 1) some) now
+of_more passes some before now i number d there within is same adds so_far test =
     adds test
-    ∙ ap (λ b. b || (is_held keys whole from number && test number)) (so_far test)
-    ∙ ap (λ n. list_any (λ n. is_held keys whole from n && test n) (take i some) || (is_held keys whole from n && test n)) is
-    ∙ sym (list_any_more (λ n. is_held keys whole from n && test n) some i d within)
+    ∙ (λ k. so_far test k || (same k && test number))
+    ∙ ap (λ n. list_any (λ n. passes n && test n) (take i some) || (passes n && test n)) is
+    ∙ sym (list_any_more (λ n. passes n && test n) some i d within)
+
+pub of_all : (passes : ℕ → Bool) (some numbers : List ℕ) (i : ℕ) → length some ≤ i → AreOf passes (take i some) numbers → AreOf passes some numbers
+of_all passes some numbers i past so_far test = so_far test ∙ ap (list_any (λ n. passes n && test n)) (taken_all some i past)
+
+-- those of a list that have some keys
+pub holding_listed : (keys : List (List ℕ)) (whole : List Run) (here : Run → Bool) (some found : List ℕ) → AreOf (at_number whole (holds_in keys)) some found → AreNumbered whole here some →
+    AreListed keys whole here found
+holding_listed keys whole here some found of_those are n =
+    of_those (λ one. one == n)
+    ∙ any_equal (at_number whole (holds_in keys)) n some
+    ∙ ap (λ b. at_number whole (holds_in keys) n && b) (are n)
+    ∙ by (slice_get whole n)
+  where
+    by : (o : Option Run) → (option_map_or (holds_in keys) o false && option_map_or here o false) ≡ option_map_or (λ run. here run && holds_in keys run) o false
+    by None = refl
+    by (Some run) = and_swap (holds_in keys run) (here run)
 
 -- all keys are there, so one of them is
 one_there : (keys : List (List ℕ)) (i : ℕ) (wanted : List ℕ) (has : List ℕ → Bool) → i < length keys → wanted ≡ get_or keys i wanted → has_all has keys ≡ true → has wanted ≡ true
@@ -128,7 +143,7 @@ one_there keys i wanted has within is every = by (has wanted) refl
     by false e = let clash : true ≡ false = sym every ∙ ap not (list_any_at (λ key. not (has key)) keys i wanted within (ap (λ key. not (has key)) (sym is) ∙ ap not e)) in cc
 
 pub listed : (keys : List (List ℕ)) (items : Keyed) (whole : List Run) (here : Run → Bool) (from some found : List ℕ) (i : ℕ) (wanted : List ℕ) → i < length keys → wanted ≡ get_or keys i wanted →
-    ((n : ℕ) → list_any (λ one. one == n) some ≡ has_at items wanted n) → AreHeldOf keys whole from some found → IsFrom whole here from → IsKeyed items whole → AreListed keys whole here found
+    ((n : ℕ) → list_any (λ one. one == n) some ≡ has_at items wanted n) → AreOf (is_held keys whole from) some found → IsFrom whole here from → IsKeyed items whole → AreListed keys whole here found
 listed keys items whole here from some found i wanted within is few held among_those keys_are n =
     held (λ one. one == n)
     ∙ any_equal (is_held keys whole from) n some

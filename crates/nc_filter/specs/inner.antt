@@ -6,5 +6,6 @@ pub mod Tables
 pub mod Picks
 pub mod Instances
 pub mod Runs
+pub mod Below
 pub mod Names
 pub mod Labels

@@ -18,6 +18,13 @@ use nc_names::{Many, Memory};
 use std::alloc::Global;
 use std::collections::BTreeSet;
 
+/// The numbers of some instances, as a list where they are few.
+#[derive(Drop)]
+pub(crate) enum Reached {
+    Few(Many<usize>),
+    Bits(Many<u64>),
+}
+
 /// Elements that hold in the same instances, which are given by their numbers in a list.
 #[derive(Drop)]
 pub(crate) struct Group<'a> {
@@ -78,17 +85,11 @@ fn with_once(numbers: Many<usize>, number: usize) -> Result<Many<usize>, Memory>
     Ok(more)
 }
 
-// Some numbers and one more, where that is in a set and its instance has each of some keys.
-fn with_held(
-    runs: &[Run],
-    from: &[u64],
-    number: usize,
-    keys: &[Many<u8>],
-    numbers: Many<usize>,
-) -> Result<Many<usize>, Memory>
-    ensures { IfOk result (λ it. inner.AddsHeld keys.now runs.now from.now number numbers it) }
+// Some numbers and one more, or not.
+fn with_number_if(numbers: Many<usize>, passes: bool, number: usize) -> Result<Many<usize>, Memory>
+    ensures { IfOk result (λ it. inner.AddsIf passes number numbers it) }
 {
-    if is_held(runs, from, number, keys) {
+    if passes {
         let more = with_once(numbers, number)?;
         return Ok(more);
     }
@@ -103,11 +104,28 @@ fn held(
     some: &[usize],
     keys: &[Many<u8>],
 ) -> Result<Many<usize>, Memory>
-    ensures { IfOk result (λ it. inner.AreHeldOf keys.now runs.now from.now some.now it) }
+    ensures { IfOk result (λ it. inner.AreOf (inner.is_held keys.now runs.now from.now) some.now it) }
 {
     let mut out = Many::new(alloc);
     for number in some {
-        out = with_held(runs, from, *number, keys, out)?;
+        out = with_number_if(out, is_held(runs, from, *number, keys), *number)?;
+    }
+    Ok(out)
+}
+
+// Those of some numbers whose instances have each of some keys.
+fn holding(
+    alloc: Global,
+    runs: &[Run],
+    some: &[usize],
+    keys: &[Many<u8>],
+) -> Result<Many<usize>, Memory>
+    ensures { IfOk result (λ it. (here : Run → Bool) → inner.AreNumbered runs.now here some.now →
+        inner.AreListed keys.now runs.now here it) }
+{
+    let mut out = Many::new(alloc);
+    for number in some {
+        out = with_number_if(out, holds_at(runs, *number, keys), *number)?;
     }
     Ok(out)
 }
@@ -223,8 +241,8 @@ fn members_by(
     }
 }
 
-// The numbers of a set whose instances have each of some keys.
-fn members_of(
+// The numbers of a set of bits whose instances have each of some keys.
+fn members_in(
     alloc: Global,
     table: &Table,
     runs: &[Run],
@@ -243,14 +261,34 @@ fn members_of(
     Ok(found)
 }
 
+// The numbers of a set whose instances have each of some keys.
+fn members_of(
+    alloc: Global,
+    table: &Table,
+    runs: &[Run],
+    from: &Reached,
+    keys: &[Many<u8>],
+) -> Result<Members, Memory>
+    ensures { IfOk result (λ it. (here : Run → Bool) → inner.AreReached runs.now here from.now →
+        inner.IsKeyed table.now.items runs.now → inner.AreHeld keys.now runs.now here it) }
+{
+    match from {
+        Reached::Few(few) => {
+            let found = holding(alloc, runs, few.as_slice(), keys)?;
+            Ok(Members::of_list(alloc, found))
+        }
+        Reached::Bits(words) => Ok(members_in(alloc, table, runs, words.as_slice(), keys)?),
+    }
+}
+
 fn group_of<'a>(
     alloc: Global,
     table: &Table,
     runs: &[Run<'a>],
-    from: &[u64],
+    from: &Reached,
     class: Class<'a>,
 ) -> Result<Group<'a>, Memory>
-    ensures { IfOk result (λ it. (here : Run → Bool) → inner.IsFrom runs.now here from.now →
+    ensures { IfOk result (λ it. (here : Run → Bool) → inner.AreReached runs.now here from.now →
         inner.IsKeyed table.now.items runs.now → inner.IsGroup runs.now here it class.entry) }
 {
     let Class { keys, elems } = class;
@@ -328,11 +366,11 @@ pub(crate) fn group_each<'a>(
     alloc: Global,
     table: &Table,
     runs: &[Run<'a>],
-    from: &[u64],
+    from: &Reached,
     classes: Many<Class<'a>>,
     out: Many<Group<'a>>,
 ) -> Result<Many<Group<'a>>, Memory>
-    ensures { IfOk result (λ it. (here : Run → Bool) → inner.IsFrom runs.now here from.now →
+    ensures { IfOk result (λ it. (here : Run → Bool) → inner.AreReached runs.now here from.now →
         inner.IsKeyed table.now.items runs.now → inner.AddsGroups runs.now here classes.entry out.entry it) }
 {
     let mut rest = classes;

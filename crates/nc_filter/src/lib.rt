@@ -11,6 +11,7 @@
 #![tactic(auto)]
 
 mod asked;
+mod below;
 mod bits;
 mod descent;
 mod element;

@@ -17,6 +17,8 @@ use Rattle.nc_filter.specs.inner.Lists.{any_numbered}
 use Rattle.nc_filter.specs.inner.Sets.{bit_of, has}
 use Rattle.nc_filter.specs.inner.Tables.{has_text}
 use Rattle.nc_filter.specs.declared.members.Members.{Members}
+use Rattle.nc_filter.specs.declared.groups.Reached.{Reached}
+use Rattle.nc_filter.specs.declared.groups.Reached.TheVariants.{Few, Bits}
 use Rattle.nc_filter.specs.declared.runs.Run.{Run}
 use Rattle.nc_filter.specs.declared.guards.Class.{Class}
 use Rattle.nc_filter.specs.declared.groups.Group.{Group}
@@ -112,22 +114,29 @@ holds_in keys run = has_all (λ wanted. has_text run.keys wanted) keys
 abbrev pub IsFrom : List Run → (Run → Bool) → List ℕ → Type 0
 IsFrom whole here from = (n : ℕ) → bit_of from n ≡ at_number whole here n
 
+-- a list has the numbers of those instances that pass a test
+abbrev pub AreNumbered : List Run → (Run → Bool) → List ℕ → Type 0
+AreNumbered whole here numbers = (n : ℕ) → list_any (λ one. one == n) numbers ≡ at_number whole here n
+
+abbrev pub AreReached : List Run → (Run → Bool) → Reached → Type 0
+AreReached whole here (Few numbers) = AreNumbered whole here numbers
+AreReached whole here (Bits words) = IsFrom whole here words
+
 -- a number is among bits, and its instance has each of some keys
 abbrev pub is_held : List (List ℕ) → List Run → List ℕ → ℕ → Bool
 is_held keys whole from n = bit_of from n && at_number whole (holds_in keys) n
 
--- of some numbers, those that are held
-abbrev pub AreHeldOf : List (List ℕ) → List Run → List ℕ → List ℕ → List ℕ → Type 0
-AreHeldOf keys whole from some numbers =
-    (test : ℕ → Bool) → list_any test numbers ≡ list_any (λ n. is_held keys whole from n && test n) some
+-- of some numbers, those that pass a test
+abbrev pub AreOf : (ℕ → Bool) → List ℕ → List ℕ → Type 0
+AreOf passes some numbers =
+    (test : ℕ → Bool) → list_any test numbers ≡ list_any (λ n. passes n && test n) some
 
 -- of the instances that pass a test, those that have each of some keys: by a set of their numbers, and by a list
 abbrev pub AreHeld : List (List ℕ) → List Run → (Run → Bool) → Members → Type 0
 AreHeld keys whole here members = (n : ℕ) → has members n ≡ at_number whole (λ run. here run && holds_in keys run) n
 
 abbrev pub AreListed : List (List ℕ) → List Run → (Run → Bool) → List ℕ → Type 0
-AreListed keys whole here numbers =
-    (n : ℕ) → list_any (λ one. one == n) numbers ≡ at_number whole (λ run. here run && holds_in keys run) n
+AreListed keys whole here numbers = AreNumbered whole (λ run. here run && holds_in keys run) numbers
 
 -- what a class of elements says, each by a test, in an instance with these keys
 abbrev pub class_says : (List ℕ → Bool) → (Elem → Bool) → Class → Bool
@@ -190,10 +199,10 @@ abbrev pub AreSameGroups : List Group → List Group → Type 0
 AreSameGroups before now = (whole : List Run) (test : Run → Elem → Bool) →
     list_any (group_tells whole test) now ≡ list_any (group_tells whole test) before
 
--- a number is added where it is held
-abbrev pub AddsHeld : List (List ℕ) → List Run → List ℕ → ℕ → List ℕ → List ℕ → Type 0
-AddsHeld keys whole from number before now = (test : ℕ → Bool) →
-    list_any test now ≡ (list_any test before || (is_held keys whole from number && test number))
+-- a number is added, or not
+abbrev pub AddsIf : Bool → ℕ → List ℕ → List ℕ → Type 0
+AddsIf passes number before now = (test : ℕ → Bool) →
+    list_any test now ≡ (list_any test before || (passes && test number))
 
 abbrev pub IsGroup : List Run → (Run → Bool) → Group → Class → Type 0
 IsGroup whole here group class =

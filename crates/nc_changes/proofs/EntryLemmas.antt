@@ -3,7 +3,7 @@ use Rattle.std.proofs.Common.{◌≡◌, ℕ, Bool, true, false, cond, not, List
 use Rattle.std.proofs.lemmas.List.Sums.{take_while-cons}
 use Rattle.std.specs.List.{last_or, take_while}
 use Rattle.nc_names.specs.Same.{is_same_keys}
-use Rattle.nc_model.specs.Changes.{entry_above}
+use Rattle.nc_protocol.specs.Changes.{entry_above}
 use Rattle.nc_changes.specs.inner.Entries.{entry_from}
 
 from_is : (keys : List (List ℕ)) (above : Option (List (List ℕ))) (order : List (List (List ℕ))) →

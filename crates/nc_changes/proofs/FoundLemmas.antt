@@ -7,7 +7,7 @@ use Rattle.nc_names.specs.declared.path.Row.{Row}
 use Rattle.nc_names.specs.declared.path.Step.{Step}
 use Rattle.nc_schema.specs.Blocks.{row_at}
 use Rattle.nc_schema.specs.Standing.{has_row}
-use Rattle.nc_model.specs.Changes.{is_missing}
+use Rattle.nc_protocol.specs.Changes.{is_missing}
 
 lacks : (rows : List Row) (steps : List Step) → is_none (row_at rows steps) ≡ not (has_row rows steps)
 lacks [] steps = refl

@@ -1,14 +1,14 @@
 //! The paths at which two configurations differ.
 ghost use Rattle.std.specs.Prelude.{◌≡◌, ◌||◌, not, List, IfOk, map};
 ghost use Rattle.std.specs.List.{filter};
-ghost use Rattle.nc_model.specs.Changes as meant;
+ghost use Rattle.nc_protocol.specs.Changes as meant;
 ghost use Rattle.nc_names.specs.Same as same;
 ghost use Rattle.nc_names.specs.declared.path.Row.{Row};
 ghost use Rattle.nc_tree.specs.Finding.{Finds};
 
 use crate::moved::has_moved;
-use nc_model::Changes;
 use nc_names::{Copies, Many, Memory, Path, Row, Text};
+use nc_protocol::Changes;
 use nc_schema::Schema;
 use nc_tree::{Config, RowsByPath};
 use std::alloc::Global;

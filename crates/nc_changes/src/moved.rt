@@ -1,8 +1,7 @@
 //! Whether an entry that the user orders has moved from one configuration to another (RFC 7950 7.7.7).
 ghost use Rattle.std.specs.Prelude.{◌≡◌, ℕ, List, not, IfOk, None};
 ghost use Rattle.std.specs.Option.{option_copied};
-ghost use Rattle.nc_model.specs.Changes as changes;
-ghost use Rattle.nc_names.specs.Same as same;
+ghost use Rattle.nc_protocol.specs.Changes as changes;
 ghost use Rattle.nc_changes.specs.inner.Entries as inner;
 ghost use Rattle.nc_schema.specs.Standing as standing;
 
@@ -11,12 +10,6 @@ use nc_schema::Schema;
 use nc_tree::{Config, last_step};
 use std::alloc::Global;
 use std::collections::BTreeSet;
-
-fn is_same_keys(keys: &Many<Text>, others: &Many<Text>) -> bool
-    ensures { result ≡ same.is_same_keys keys.now others.now }
-{
-    same_keys(keys.as_slice(), others.as_slice())
-}
 
 // The entries, to be looked up.
 fn known_entries<'a>(
@@ -62,7 +55,7 @@ fn entry_from<'a>(keys: &Many<Text>, order: &'a [Many<Text>]) -> Option<&'a Many
 {
     let mut above: Option<&Many<Text>> = None;
     for entry in order {
-        if is_same_keys(entry, keys) {
+        if same_keys(entry, keys) {
             return above;
         }
         above = Some(entry);
@@ -82,7 +75,7 @@ fn is_same_entry(entry: Option<&Many<Text>>, other: Option<&Many<Text>>) -> bool
 {
     match (entry, other) {
         (None, None) => true,
-        (Some(keys), Some(others)) => is_same_keys(keys, others),
+        (Some(keys), Some(others)) => same_keys(keys, others),
         _ => false,
     }
 }

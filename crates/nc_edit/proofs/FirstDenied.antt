@@ -13,12 +13,12 @@ use Rattle.nc_names.specs.declared.path.Row.{Row}
 use Rattle.nc_names.specs.declared.path.Step.{Step}
 use Rattle.nc_schema.specs.Blocks.{entries_beside, row_at}
 use Rattle.nc_schema.specs.Standing.{has_row, is_by_user}
-use Rattle.nc_model.specs.Changes.{has_moved, moves_between}
+use Rattle.nc_protocol.specs.Changes.{has_moved, moves_between}
 use Rattle.nc_schema.specs.Tables.{Tables}
-use Rattle.nc_model.specs.Edited.{Change, change_at, changes_by, earlier, first_cause, first_denied, left_by, new_block}
-use Rattle.nc_model.specs.declared.access.Decision.{Decision}
-use Rattle.nc_model.specs.declared.edit.Edit.{Edit}
-use Rattle.nc_model.specs.declared.request.Cause.{Cause}
+use Rattle.nc_protocol.specs.Edited.{Change, change_at, changes_by, earlier, first_cause, first_denied, left_by, new_block}
+use Rattle.nc_protocol.specs.declared.access.Decision.{Decision}
+use Rattle.nc_protocol.specs.declared.edit.Edit.{Edit}
+use Rattle.nc_protocol.specs.declared.request.Cause.{Cause}
 use Rattle.nc_edit.specs.inner.Denied.{dropped, first_among, first_of, is_dropped, is_ordered, next_denied, stands_ordered}
 
 module _ (tables : Tables) (rights : Path → Right → Decision) (rows : List Row) where

@@ -10,8 +10,8 @@ use Rattle.nc_names.specs.declared.path.Step.{Step}
 use Rattle.nc_schema.specs.Blocks.{row_at}
 use Rattle.nc_schema.specs.Standing.{block_at}
 use Rattle.nc_schema.specs.Tables.{Tables}
-use Rattle.nc_model.specs.Changes.{has_moved}
-use Rattle.nc_model.specs.Edited.{change_at}
+use Rattle.nc_protocol.specs.Changes.{has_moved}
+use Rattle.nc_protocol.specs.Edited.{change_at}
 use Rattle.nc_changes.proofs.FoundLemmas.{missing_is}
 
 -- the row at a path below a node is one of those at and below it

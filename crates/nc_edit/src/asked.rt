@@ -1,8 +1,8 @@
 //! The first change of an edit that is denied (RFC 8341 3.4.5).
 ghost use Rattle.std.specs.Prelude.{◌≡◌, List, IfOk, None, fold, map, option_map};
 ghost use Rattle.std.specs.List.{filter_map, list_any};
-ghost use Rattle.nc_model.specs.Changes as changes;
-ghost use Rattle.nc_model.specs.Edited as meant;
+ghost use Rattle.nc_protocol.specs.Changes as changes;
+ghost use Rattle.nc_protocol.specs.Edited as meant;
 ghost use Rattle.nc_schema.specs.Blocks as blocks;
 ghost use Rattle.nc_schema.specs.Standing as standing;
 ghost use Rattle.nc_names.specs.Same as same;
@@ -12,8 +12,8 @@ ghost use Rattle.std.specs.Option.{option_copied};
 ghost use Rattle.nc_edit.specs.inner.Denied as denied;
 
 use nc_changes::differs;
-use nc_model::Rights;
 use nc_names::{Copies, Many, Memory, Path, Right, Row};
+use nc_protocol::Rights;
 use nc_schema::Schema;
 use nc_tree::{Config, RowsByPath, excludes, node_of};
 use std::alloc::Global;

@@ -1,12 +1,11 @@
 //! Why an edit is refused.
 ghost use Rattle.std.specs.Prelude.{◌≡◌, ◌∷◌, [], IfOk};
-ghost use Rattle.nc_model.specs.Edited as meant;
-ghost use Rattle.nc_model.specs.Words as words;
-ghost use Rattle.nc_schema.specs.Kinds as kinds;
+ghost use Rattle.nc_protocol.specs.Edited as meant;
+ghost use Rattle.nc_protocol.specs.Words as words;
 
-use nc_model::{By, Cause};
 use nc_names::{CauseKind, Copies, Many, Memory, Path, Right, Text};
-use nc_schema::{Kind, Node, Schema};
+use nc_protocol::{By, Cause};
+use nc_schema::{Node, Schema};
 use nc_tree::node_of;
 use std::alloc::Global;
 
@@ -14,77 +13,73 @@ use std::alloc::Global;
 pub(crate) fn cause_at(kind: CauseKind, path: &Path, names: Many<Text>) -> Result<Cause, Memory>
     ensures { IfOk result (λ it. it ≡ meant.cause_at kind path.now names) }
 {
-    Ok(Cause {
-        kind,
-        path: Some(path.copy()?),
-        names,
-    })
+    Ok(Cause::at(kind, path.copy()?, names))
 }
 
-#[tactic(auto, unfolding(nc_model::specs::Words::key_word))]
+#[tactic(auto, unfolding(nc_protocol::specs::Words::key_word))]
 fn key_word() -> &'static str
     ensures { result.now ≡ words.key_word }
 {
     "key"
 }
 
-#[tactic(auto, unfolding(nc_model::specs::Words::value_word))]
+#[tactic(auto, unfolding(nc_protocol::specs::Words::value_word))]
 fn value_word() -> &'static str
     ensures { result.now ≡ words.value_word }
 {
     "value"
 }
 
-#[tactic(auto, unfolding(nc_model::specs::Words::rule_word))]
+#[tactic(auto, unfolding(nc_protocol::specs::Words::rule_word))]
 fn rule_word() -> &'static str
     ensures { result.now ≡ words.rule_word }
 {
     "rule"
 }
 
-#[tactic(auto, unfolding(nc_model::specs::Words::default_word))]
+#[tactic(auto, unfolding(nc_protocol::specs::Words::default_word))]
 fn default_word() -> &'static str
     ensures { result.now ≡ words.default_word }
 {
     "default"
 }
 
-#[tactic(auto, unfolding(nc_model::specs::Words::read_word))]
+#[tactic(auto, unfolding(nc_protocol::specs::Words::read_word))]
 fn read_word() -> &'static str
     ensures { result.now ≡ words.read_word }
 {
     "read"
 }
 
-#[tactic(auto, unfolding(nc_model::specs::Words::write_word))]
+#[tactic(auto, unfolding(nc_protocol::specs::Words::write_word))]
 fn write_word() -> &'static str
     ensures { result.now ≡ words.write_word }
 {
     "write"
 }
 
-#[tactic(auto, unfolding(nc_model::specs::Words::exec_word))]
+#[tactic(auto, unfolding(nc_protocol::specs::Words::exec_word))]
 fn exec_word() -> &'static str
     ensures { result.now ≡ words.exec_word }
 {
     "exec"
 }
 
-#[tactic(auto, unfolding(nc_model::specs::Words::operation_word))]
+#[tactic(auto, unfolding(nc_protocol::specs::Words::operation_word))]
 fn operation_word() -> &'static str
     ensures { result.now ≡ words.operation_word }
 {
     "operation"
 }
 
-#[tactic(auto, unfolding(nc_model::specs::Words::deny_all_word))]
+#[tactic(auto, unfolding(nc_protocol::specs::Words::deny_all_word))]
 fn deny_all_word() -> &'static str
     ensures { result.now ≡ words.deny_all_word }
 {
     "deny-all"
 }
 
-#[tactic(auto, unfolding(nc_model::specs::Words::deny_write_word))]
+#[tactic(auto, unfolding(nc_protocol::specs::Words::deny_write_word))]
 fn deny_write_word() -> &'static str
     ensures { result.now ≡ words.deny_write_word }
 {
@@ -135,16 +130,10 @@ pub(crate) fn decision_names(alloc: Global, right: Right, by: &By) -> Result<Man
     }
 }
 
-fn has_value(kind: Kind) -> bool
-    ensures { result ≡ kinds.has_value kind }
-{
-    matches!(kind, Kind::Leaf | Kind::LeafList)
-}
-
 fn anchor_word(node: &Node) -> &'static str
     ensures { result.now ≡ meant.anchor_word node.now }
 {
-    if has_value(node.kind) {
+    if node.kind.has_value() {
         value_word()
     } else {
         key_word()

@@ -1,8 +1,8 @@
 //! Edits one after another, with the rights that they need.
 ghost use Rattle.std.specs.Prelude.{◌≡◌, ◌||◌, ℕ, [], IfOk, OnOk, OnErr, fold, option_map, take};
-ghost use Rattle.nc_model.specs.Applied as applied;
-ghost use Rattle.nc_model.specs.Edited as meant;
-ghost use Rattle.nc_model.specs.declared.asked.ErrorOption.TheVariants.{Rollback};
+ghost use Rattle.nc_protocol.specs.Applied as applied;
+ghost use Rattle.nc_protocol.specs.Edited as meant;
+ghost use Rattle.nc_protocol.specs.declared.asked.ErrorOption.TheVariants.{Rollback};
 ghost use Rattle.nc_edit.specs.Partly.{LeavesPart};
 ghost use Rattle.nc_edit.specs.inner.Denied as denied;
 ghost use Rattle.nc_edit.specs.inner.Turns as turns;
@@ -11,8 +11,8 @@ use crate::asked::{Asking, ask_dropped, ask_new, may_move, refs};
 use crate::causes::{anchor_names, cause_at, decision_names};
 use crate::made::{new_block, put_new};
 use crate::missed::{lacks_anchor, missed};
-use nc_model::{Cause, Edit, ErrorOption, Rights};
 use nc_names::{CauseKind, Copies, Many, Memory, Path, Row};
+use nc_protocol::{Cause, Edit, ErrorOption, Rights};
 use nc_schema::Schema;
 use nc_tree::{Config, RowsByPath};
 use std::alloc::Global;

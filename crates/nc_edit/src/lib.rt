@@ -1,6 +1,6 @@
 //! Edits of a configuration (RFC 6241 7.2, RFC 7950 7.5.8 to 7.8.6, RFC 8341 3.4.5): `make` makes one
 //! edit, and `apply` makes several under an error-option, with the rights that they need. It stands on the
-//! definitions of `nc_model` and on the configurations of `nc_tree`.
+//! definitions of `nc_protocol` and on the configurations of `nc_tree`.
 //!
 //! `apply` leaves exactly the rows, and answers the causes, that `applied` defines. Want of memory alone is
 //! free.

@@ -1,28 +1,22 @@
 //! What an edit leaves.
 ghost use Rattle.std.specs.Prelude.{◌≡◌, IfOk, OnOk, OnErr};
-ghost use Rattle.nc_model.specs.Edited as meant;
+ghost use Rattle.nc_protocol.specs.Edited as meant;
 ghost use Rattle.nc_schema.specs.Blocks as blocks;
 ghost use Rattle.nc_schema.specs.Kinds as kinds;
-ghost use Rattle.nc_model.specs.declared.edit.Action.TheVariants.{Merge};
+ghost use Rattle.nc_protocol.specs.declared.edit.Action.TheVariants.{Merge};
 
-use nc_model::{Action, Edit};
 use nc_names::{Copies, Many, Memory, Path, Place, Row, Text};
-use nc_schema::{Kind, Schema};
+use nc_protocol::{Action, Edit};
+use nc_schema::Schema;
 use nc_tree::{Config, node_of, rows_of_node};
 use std::alloc::Global;
-
-fn has_value(kind: Kind) -> bool
-    ensures { result ≡ kinds.has_value kind }
-{
-    matches!(kind, Kind::Leaf | Kind::LeafList)
-}
 
 /// Whether a leaf or a leaf-list entry is at the path.
 pub(crate) fn is_value_at(schema: &Schema, path: &Path) -> bool
     ensures { result ≡ blocks.at_node schema.now path.now kinds.has_value }
 {
     match node_of(schema, path.steps.as_slice()) {
-        Some(node) => has_value(node.kind),
+        Some(node) => node.kind.has_value(),
         None => false,
     }
 }

@@ -1,15 +1,14 @@
 //! Whether a node is there though it is created, or is not though it has to be; and whether an anchor is.
 ghost use Rattle.std.specs.Prelude.{◌≡◌, [], false, not, IfOk, option_map};
 ghost use Rattle.std.specs.Option.{option_map_or};
-ghost use Rattle.nc_model.specs.Edited as meant;
-ghost use Rattle.nc_names.specs.Same as same;
+ghost use Rattle.nc_protocol.specs.Edited as meant;
 ghost use Rattle.nc_names.specs.declared.cause.CauseKind.TheVariants.{Absent};
 ghost use Rattle.nc_schema.specs.Blocks as blocks;
 ghost use Rattle.nc_schema.specs.Kinds as kinds;
 ghost use Rattle.nc_schema.specs.Standing as standing;
 
-use nc_model::{Action, Edit};
 use nc_names::{CauseKind, Many, Memory, Path, Place, Text, same_keys};
+use nc_protocol::{Action, Edit};
 use nc_schema::{Kind, Schema};
 use nc_tree::{Config, node_of};
 
@@ -87,19 +86,10 @@ fn absent_above(schema: &Schema, config: &Config, path: &Path) -> Option<CauseKi
     None
 }
 
-fn is_same_keys(keys: &Many<Text>, others: &Many<Text>) -> bool
-    ensures { result ≡ same.is_same_keys keys.now others.now }
-{
-    same_keys(keys.as_slice(), others.as_slice())
-}
-
 fn has_entry(keys: &Many<Text>, order: &Many<Many<Text>>) -> bool
     ensures { result ≡ standing.has_entry keys.now order.now }
 {
-    order
-        .as_slice()
-        .iter()
-        .any(|entry| is_same_keys(entry, keys))
+    order.as_slice().iter().any(|entry| same_keys(entry, keys))
 }
 
 fn lacks_entry(config: &Config, path: &Path, anchor: &Many<Text>) -> Result<bool, Memory>

@@ -1,12 +1,12 @@
 //! Elements of replies.
 ghost use Rattle.std.specs.Prelude.{◌≡◌, [], ◌∷◌, ◌++◌, IfOk};
 ghost use Rattle.nc_message.specs.declared.tree.Part.TheVariants.{Child};
-ghost use Rattle.nc_model.specs.Content as content;
-ghost use Rattle.nc_model.specs.Reply as reply;
+ghost use Rattle.nc_protocol.specs.Content as content;
+ghost use Rattle.nc_protocol.specs.Reply as reply;
 
 use nc_message::{Bounds, Elem, Part};
-use nc_model::request_words as words;
 use nc_names::{Boxed, Many, Memory, QName, Text};
+use nc_protocol::request_words as words;
 use std::alloc::Global;
 
 /// An element without attributes, as a part.

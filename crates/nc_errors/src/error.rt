@@ -1,10 +1,10 @@
 //! The error of a cause.
 ghost use Rattle.std.specs.Prelude.{◌≡◌, [], ◌∷◌, ◌++◌, ◌||◌, IfOk};
 ghost use Rattle.std.specs.Option.{option_copied};
-ghost use Rattle.nc_model.specs.Content as content;
-ghost use Rattle.nc_model.specs.ErrorRows as rows;
-ghost use Rattle.nc_model.specs.Reply as reply;
-ghost use Rattle.nc_model.specs.Words as w;
+ghost use Rattle.nc_protocol.specs.Content as content;
+ghost use Rattle.nc_protocol.specs.ErrorRows as rows;
+ghost use Rattle.nc_protocol.specs.Reply as reply;
+ghost use Rattle.nc_protocol.specs.Words as w;
 
 use crate::built::{base_part, base_text};
 use crate::info::push_info;
@@ -12,8 +12,8 @@ use crate::named::Named;
 use crate::paths::path_part;
 use crate::rows::{app_tag_of, layer_of, tag_of};
 use nc_message::Part;
-use nc_model::{Cause, Operation, Sees, reply_words, request_words};
 use nc_names::{CauseKind, Copies, Many, Memory, Path, QName, Step, Text};
+use nc_protocol::{Cause, Operation, Sees, reply_words, request_words};
 use nc_schema::Schema;
 use std::alloc::Global;
 

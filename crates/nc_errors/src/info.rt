@@ -1,15 +1,15 @@
 //! What error-info holds (RFC 6241 4.3 and appendix A).
 ghost use Rattle.std.specs.Prelude.{◌≡◌, [], ◌∷◌, ◌++◌, map, IfOk};
 ghost use Rattle.std.specs.List.{zip};
-ghost use Rattle.nc_model.specs.Content as content;
-ghost use Rattle.nc_model.specs.ErrorRows as rows;
-ghost use Rattle.nc_model.specs.Reply as reply;
-ghost use Rattle.nc_model.specs.Words as w;
+ghost use Rattle.nc_protocol.specs.Content as content;
+ghost use Rattle.nc_protocol.specs.ErrorRows as rows;
+ghost use Rattle.nc_protocol.specs.Reply as reply;
+ghost use Rattle.nc_protocol.specs.Words as w;
 
 use crate::built::{base_part, base_text, element, text_part};
 use nc_message::Part;
-use nc_model::{cause_words, reply_words, request_words};
 use nc_names::{CauseKind, Copies, Many, Memory, Text};
+use nc_protocol::{cause_words, reply_words, request_words};
 use std::alloc::Global;
 
 // Adds an element of error-info.

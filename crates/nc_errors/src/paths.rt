@@ -1,7 +1,7 @@
 //! Path texts in replies.
 ghost use Rattle.std.specs.Prelude.{◌≡◌, ◌++◌, Bool, IfOk};
 ghost use Rattle.nc_schema.specs.PathTexts.{path_text_of};
-ghost use Rattle.nc_model.specs.Reply as reply;
+ghost use Rattle.nc_protocol.specs.Reply as reply;
 
 use crate::built::text_parts;
 use nc_message::{Elem, Part};

@@ -1,10 +1,10 @@
 //! The reply to a request.
 ghost use Rattle.std.specs.Prelude.{◌≡◌, [], ◌∷◌, ◌++◌, map, IfOk};
 ghost use Rattle.std.specs.Fmt.{decimal};
-ghost use Rattle.nc_model.specs.Content as content;
-ghost use Rattle.nc_model.specs.Printed.{printed};
-ghost use Rattle.nc_model.specs.Reply as reply;
-ghost use Rattle.nc_model.specs.Words as w;
+ghost use Rattle.nc_protocol.specs.Content as content;
+ghost use Rattle.nc_protocol.specs.Printed.{printed};
+ghost use Rattle.nc_protocol.specs.Reply as reply;
+ghost use Rattle.nc_protocol.specs.Words as w;
 
 use crate::built::{base_part, text_part};
 use crate::error::cause_part;
@@ -12,9 +12,9 @@ use crate::named::Named;
 use crate::paths::path_part;
 use itoa::Buffer;
 use nc_message::{Bounds, Elem, Part, Tree};
-use nc_model::{Cause, Operation, Request, Sees, Verdict, reply_words, request_words};
 use nc_names::{Copies, Many, Memory, Path, QName, Row, Text};
 use nc_print::print;
+use nc_protocol::{Cause, Operation, Request, Sees, Verdict, reply_words, request_words};
 use nc_schema::Schema;
 use std::alloc::Global;
 

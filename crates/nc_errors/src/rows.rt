@@ -1,10 +1,10 @@
 //! The errors of causes: type, tag and app-tag (RFC 6241 4.3 and appendix A; RFC 7950 15; RFC 5717 2.4.1).
 ghost use Rattle.std.specs.Prelude.{◌≡◌};
 ghost use Rattle.std.specs.Option.{option_copied};
-ghost use Rattle.nc_model.specs.ErrorRows as rows;
+ghost use Rattle.nc_protocol.specs.ErrorRows as rows;
 
-use nc_model::{Operation, cause_words, reply_words, request_words};
 use nc_names::CauseKind;
+use nc_protocol::{Operation, cause_words, reply_words, request_words};
 
 /// The error-type of a cause.
 pub(crate) fn layer_of(kind: CauseKind) -> &'static str

@@ -8,7 +8,7 @@ use Rattle.nc_message.specs.declared.tree.Part.TheVariants.{Child}
 use Rattle.nc_message.specs.declared.tree.Part.TheBlock.{items_hidden-the_row-Part-0, hidden-the_row-Part-0, hidden-the_row-Elem-1}
 use denote.Hole.Carrier.{hidden}
 use Rattle.nc_message.specs.Written.{is_chars}
-use Rattle.nc_model.specs.Elements.{elem_of, is_child}
+use Rattle.nc_protocol.specs.Elements.{elem_of, is_child}
 
 pub elem_of_child : (elem : Elem) → elem_of (Child elem) ≡ Some elem
 unfolding hidden-the_row-Part-0 hidden-the_row-Elem-1 hidden

@@ -10,7 +10,7 @@ use Rattle.nc_names.specs.declared.path.Row.{Row}
 use Rattle.nc_names.specs.declared.path.Step.{Step}
 use Rattle.nc_message.specs.declared.tree.Elem.{Elem}
 use Rattle.nc_schema.specs.Tables.{Tables}
-use Rattle.nc_model.specs.Filter.{holds, level_of}
+use Rattle.nc_protocol.specs.Filter.{holds, level_of}
 use Rattle.nc_filter.specs.declared.groups.Group.{Group}
 use Rattle.nc_filter.specs.declared.runs.Run.{Run}
 use Rattle.nc_filter.specs.declared.rows.Spot.{Spot}

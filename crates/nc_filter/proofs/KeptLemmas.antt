@@ -8,8 +8,8 @@ use Rattle.nc_names.specs.declared.path.Row.{Row}
 use Rattle.nc_names.specs.declared.path.Step.{Step}
 use Rattle.nc_schema.specs.Blocks.{above_last}
 use Rattle.nc_schema.specs.Tables.{Tables}
-use Rattle.nc_model.specs.Filter.{comes_with, is_key_of_entry}
-use Rattle.nc_model.proofs.KeyLemmas.{filter_takes, filter_leaves}
+use Rattle.nc_protocol.specs.Filter.{comes_with, is_key_of_entry}
+use Rattle.nc_protocol.proofs.KeyLemmas.{filter_takes, filter_leaves}
 use Rattle.nc_filter.proofs.Unions.{any_and, any_or}
 
 pub comes_with_some : {X : Type 0} (p q : X → Bool) (k : Bool) (xs : List X) → list_any (λ x. p x || (k && q x)) xs ≡ (list_any p xs || (k && list_any q xs))

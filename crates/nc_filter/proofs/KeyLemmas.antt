@@ -5,16 +5,16 @@ use Rattle.std.specs.List.{cons_option, filter, filter_map, last_or, list_all, l
 use Rattle.std.specs.Option.{option_map_or}
 use Rattle.std.specs.Cmp.Lexicographic.{bytes_decides}
 use Rattle.std.proofs.lemmas.List.{append_assoc}
+use Rattle.nc_names.specs.Ends.{trimmed}
 use Rattle.nc_names.specs.Same.{is_same_text}
 use Rattle.nc_names.specs.declared.path.Row.{Row}
 use Rattle.nc_names.specs.declared.path.Step.{Step}
 use Rattle.nc_message.specs.declared.tree.Elem.{Elem}
 use Rattle.nc_message.specs.declared.tree.Part.{Part}
 use Rattle.nc_schema.specs.Tables.{Tables}
-use Rattle.nc_schema.specs.Values.{trimmed}
 use Rattle.nc_schema.specs.declared.node.Node.{Node}
-use Rattle.nc_model.specs.Elements.{elem_of, whole_text}
-use Rattle.nc_model.specs.Filter.{has_no_attribute, holds, is_content_match, is_of_name, is_of_node, level_of, meets}
+use Rattle.nc_protocol.specs.Elements.{elem_of, whole_text}
+use Rattle.nc_protocol.specs.Filter.{has_no_attribute, holds, is_content_match, is_of_name, is_of_node, level_of, meets}
 use Rattle.nc_filter.specs.inner.Keys.{among, asked, elem_key, has_all, key, keys_in, marked, name_key, row_keys, value_keys}
 use Rattle.nc_filter.specs.inner.Levels.{children, fits, is_free}
 use Rattle.nc_filter.proofs.LevelLemmas.{any_children}

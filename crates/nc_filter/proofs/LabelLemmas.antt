@@ -9,8 +9,8 @@ use Rattle.nc_names.specs.declared.path.Row.{Row}
 use Rattle.nc_message.specs.declared.tree.Elem.{Elem}
 use Rattle.nc_schema.specs.Tables.{Tables}
 use Rattle.nc_schema.specs.declared.node.Node.{Node}
-use Rattle.nc_model.specs.Elements.{has_child}
-use Rattle.nc_model.specs.Filter.{has_no_attribute, is_containment, is_content_match, is_of_matches, is_of_name, level_of, meets}
+use Rattle.nc_protocol.specs.Elements.{has_child}
+use Rattle.nc_protocol.specs.Filter.{has_no_attribute, is_containment, is_content_match, is_of_matches, is_of_name, level_of, meets}
 use Rattle.nc_filter.specs.inner.Instances.{elems_pick}
 use Rattle.nc_filter.specs.inner.Keys.{among, elem_key, key, name_key, node_labels, row_keys}
 use Rattle.nc_filter.specs.inner.Labels.{elem_label, labels_at, level_labels, row_labels, text_labels}

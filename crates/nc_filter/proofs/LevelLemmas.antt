@@ -10,8 +10,8 @@ use Rattle.nc_names.specs.declared.path.Row.{Row}
 use Rattle.nc_names.specs.declared.path.Step.{Step}
 use Rattle.nc_schema.specs.Blocks.{above_last}
 use Rattle.nc_schema.specs.Tables.{Tables}
-use Rattle.nc_model.specs.Elements.{elem_of}
-use Rattle.nc_model.specs.Filter.{is_content_match, is_of_matches, is_of_node, is_of_text, meets}
+use Rattle.nc_protocol.specs.Elements.{elem_of}
+use Rattle.nc_protocol.specs.Filter.{is_content_match, is_of_matches, is_of_node, is_of_text, meets}
 use Rattle.nc_filter.specs.inner.Levels.{children, fits, is_element, is_part_match}
 
 -- a test of all elements, as one of the parts

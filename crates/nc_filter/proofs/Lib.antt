@@ -1,4 +1,3 @@
-pub mod TextLemmas
 pub mod ElementLemmas
 pub mod StepLemmas
 pub mod IndexLemmas

@@ -12,7 +12,7 @@ use Rattle.nc_names.specs.Same.{is_same_text}
 use Rattle.nc_message.specs.declared.tree.Elem.{Elem}
 use Rattle.nc_schema.specs.Tables.{Tables}
 use Rattle.nc_schema.specs.declared.node.Node.{Node}
-use Rattle.nc_model.specs.Filter.{is_of_name}
+use Rattle.nc_protocol.specs.Filter.{is_of_name}
 use Rattle.nc_filter.specs.inner.Keys.{key, name_key}
 use Rattle.nc_filter.specs.inner.Names.{AddsNamed, AddsNamedOf, AreNamed, AreNames, at_elem, in_slots}
 use Rattle.nc_filter.specs.inner.Picks.{is_named}

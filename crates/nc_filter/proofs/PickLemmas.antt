@@ -13,11 +13,11 @@ use Rattle.nc_names.specs.declared.path.Row.{Row}
 use Rattle.nc_names.specs.declared.path.Step.{Step}
 use Rattle.nc_schema.specs.Blocks.{above_last, above_from}
 use Rattle.nc_schema.specs.Tables.{Tables}
-use Rattle.nc_model.specs.Elements.{has_child, has_text}
-use Rattle.nc_model.specs.Filter.{holds, is_containment, is_content_match, is_of_matches, is_of_node, is_of_text, level_of, meets, selects}
-use Rattle.nc_model.proofs.FilterLemmas.{above_of_last, above_longer}
-use Rattle.nc_model.proofs.ListLemmas.{too_long}
-use Rattle.nc_model.proofs.PlaceLemmas.{last_of}
+use Rattle.nc_protocol.specs.Elements.{has_child, has_text}
+use Rattle.nc_protocol.specs.Filter.{holds, is_containment, is_content_match, is_of_matches, is_of_node, is_of_text, level_of, meets, selects}
+use Rattle.nc_protocol.proofs.FilterLemmas.{above_of_last, above_longer}
+use Rattle.nc_protocol.proofs.ListLemmas.{too_long}
+use Rattle.nc_protocol.proofs.PlaceLemmas.{last_of}
 use Rattle.nc_filter.specs.inner.Levels.{fits}
 use Rattle.nc_filter.specs.inner.Picks.{ends, has_node, is_matched, is_named, is_number, is_selection, node_at, opens, picked, picks_at, says, within}
 use Rattle.nc_filter.proofs.Unions.{or_false, or_true, any_and, any_filter, any_or, any_same}

@@ -6,8 +6,8 @@ use Rattle.nc_names.specs.Same.{is_at_or_below, is_same_path}
 use Rattle.nc_names.specs.declared.path.Path.{Path}
 use Rattle.nc_names.specs.declared.path.Step.{Step}
 use Rattle.nc_schema.specs.Blocks.{above_last, above_from}
-use Rattle.nc_model.proofs.ListLemmas.{last_cut}
-use Rattle.nc_model.proofs.PlaceLemmas.{below_is_below}
+use Rattle.nc_protocol.proofs.ListLemmas.{last_cut}
+use Rattle.nc_protocol.proofs.PlaceLemmas.{below_is_below}
 
 take_from : (step : Step) (steps : List Step) → take (length steps) (step ∷ steps) ≡ above_from step steps
 take_from step [] = refl

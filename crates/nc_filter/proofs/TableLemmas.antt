@@ -10,14 +10,14 @@ use Rattle.std.specs.Ordering.{is_eq, nat_cmp}
 use Rattle.std.proofs.lemmas.List.{take_more}
 use Rattle.std.proofs.lemmas.List.Folds.{list_any-append, list_any_more}
 use Rattle.std.proofs.lemmas.Map.Text.{is_eq-slice_cmp}
+use Rattle.nc_names.specs.Ends.{trimmed}
 use Rattle.nc_names.specs.Same.{is_same_text}
 use Rattle.nc_names.specs.declared.path.Row.{Row}
 use Rattle.nc_names.specs.declared.path.Step.{Step}
 use Rattle.nc_message.specs.declared.tree.Elem.{Elem}
 use Rattle.nc_schema.specs.Tables.{Tables}
-use Rattle.nc_schema.specs.Values.{trimmed}
-use Rattle.nc_model.specs.Elements.{whole_text}
-use Rattle.nc_model.specs.Filter.{is_content_match, is_of_text}
+use Rattle.nc_protocol.specs.Elements.{whole_text}
+use Rattle.nc_protocol.specs.Filter.{is_content_match, is_of_text}
 use Rattle.nc_filter.specs.declared.runs.Run.{Run}
 use Rattle.nc_filter.specs.declared.rows.Spot.{Spot}
 use Rattle.nc_filter.specs.inner.Instances.{instance_keys}

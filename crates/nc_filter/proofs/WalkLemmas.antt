@@ -8,7 +8,7 @@ use Rattle.std.proofs.lemmas.List.{length-drop, length-map}
 use Rattle.nc_message.specs.declared.tree.Elem.{Elem}
 use Rattle.nc_names.specs.declared.path.Row.{Row}
 use Rattle.nc_schema.specs.Tables.{Tables}
-use Rattle.nc_model.specs.Filter.{chosen, is_containment, is_content_match, is_of_matches, is_of_text, level_of, selects}
+use Rattle.nc_protocol.specs.Filter.{chosen, is_containment, is_content_match, is_of_matches, is_of_text, level_of, selects}
 use Rattle.nc_filter.specs.inner.Lists.{IsSame}
 use Rattle.nc_filter.specs.inner.Names.{AreNamed}
 use Rattle.nc_filter.specs.inner.Picks.{Adds, ends, first_node, has_node, is_matched, is_guarded, is_named, is_number, is_plain, is_selection, node_at, opens, picked, picks_at, says, within}

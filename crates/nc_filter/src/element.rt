@@ -4,8 +4,8 @@ ghost use Rattle.std.specs.List.{list_any, last_or};
 ghost use Rattle.std.specs.Option.{option_copied};
 ghost use Rattle.nc_names.specs.Same.{is_same_text};
 ghost use Rattle.nc_names.specs.Signs as signs;
-ghost use Rattle.nc_model.specs.Elements as elements;
-ghost use Rattle.nc_model.specs.Filter as meant;
+ghost use Rattle.nc_protocol.specs.Elements as elements;
+ghost use Rattle.nc_protocol.specs.Filter as meant;
 ghost use Rattle.nc_filter.specs.inner.Picks.{is_named};
 
 use crate::text::text_of;

@@ -3,16 +3,14 @@ ghost use Rattle.std.specs.Prelude.{◌≡◌, ◌∷◌, ◌++◌, [], List, If
 ghost use Rattle.std.specs.List.{flat_map};
 ghost use Rattle.std.specs.Option.{option_copied, option_map_or};
 ghost use Rattle.nc_names.specs.declared.path.Row.{Row};
-ghost use Rattle.nc_schema.specs.Values as values;
 ghost use Rattle.nc_filter.specs.inner.Keys as keys;
 ghost use Rattle.nc_filter.specs.inner.Tables.{IsIndex};
 
 use crate::element::{child, has_no_attribute, is_content_match, last_step};
 use crate::index::Index;
-use crate::text::trimmed;
 use crate::texts::elem_text;
 use nc_message::Elem;
-use nc_names::{Bytes, Many, Memory, Row, Step, Text};
+use nc_names::{Bytes, Many, Memory, Row, Step, Text, trimmed_bytes};
 use nc_schema::{Node, Schema};
 use std::alloc::Global;
 
@@ -68,7 +66,7 @@ pub(crate) fn name_key(alloc: Global, elem: &Elem) -> Result<Many<u8>, Memory>
 fn value_keys(alloc: Global, node: &Node, value: &Text) -> Result<Many<Many<u8>>, Memory>
     ensures { IfOk result (λ it. it ≡ keys.value_keys node.now value.now) }
 {
-    let text = trimmed(value.as_str().as_bytes());
+    let text = trimmed_bytes(value.as_str().as_bytes());
     let space = node.name.space.as_str().as_bytes();
     let name = node.name.name.as_str().as_bytes();
     let mut out = Many::new(alloc);

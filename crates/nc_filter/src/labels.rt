@@ -1,7 +1,7 @@
 //! Labels: what the elements of a level select but for its containment nodes, and what a row is selected by.
 ghost use Rattle.std.specs.Prelude.{◌≡◌, ◌∷◌, ◌++◌, ◌+◌, ◌<◌, ◌^◌, [], if◌then◌else◌, IfOk, map, slice_get};
 ghost use Rattle.std.specs.Option.{option_map_or};
-ghost use Rattle.nc_model.specs.Filter as meant;
+ghost use Rattle.nc_protocol.specs.Filter as meant;
 ghost use Rattle.nc_filter.specs.inner.Keys.{node_labels};
 ghost use Rattle.nc_filter.specs.inner.Labels as labels;
 

@@ -1,8 +1,8 @@
 //! What stands at the levels of some elements (RFC 6241 6.2).
 ghost use Rattle.std.specs.Prelude.{◌≡◌, ◌++◌, ◌&&◌, [], not, IfOk, OnOk, map};
 ghost use Rattle.std.specs.List.{list_any, list_all, filter, filter_map, flat_map};
-ghost use Rattle.nc_model.specs.Elements as elements;
-ghost use Rattle.nc_model.specs.Filter as meant;
+ghost use Rattle.nc_protocol.specs.Elements as elements;
+ghost use Rattle.nc_protocol.specs.Filter as meant;
 ghost use Rattle.nc_filter.specs.inner.Levels as levels;
 ghost use Rattle.nc_filter.specs.inner.Picks as picks;
 

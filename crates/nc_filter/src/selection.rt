@@ -5,7 +5,7 @@ ghost use Rattle.std.specs.Prelude.{map, option_map};
 ghost use Rattle.std.specs.List.{filter, last_or, list_any};
 ghost use Rattle.nc_names.specs.declared.path.Row.{Row};
 ghost use Rattle.nc_schema.specs.Order.{keys_above};
-ghost use Rattle.nc_model.specs.Filter as meant;
+ghost use Rattle.nc_protocol.specs.Filter as meant;
 ghost use Rattle.nc_filter.specs.inner.Tables.{ArePlaces, IsIndex};
 
 use crate::element::last_step;

@@ -2,17 +2,17 @@
 ghost use Rattle.std.specs.Prelude.{◌≡◌, ◌+◌, ◌<◌, ◌^◌, ◌∷◌, ◌++◌, List, [], false, IfOk, map};
 ghost use Rattle.std.specs.List.{list_any};
 ghost use Rattle.std.specs.Option.{option_map_or};
+ghost use Rattle.nc_names.specs.Ends as ends;
 ghost use Rattle.nc_message.specs.declared.tree.Elem.{Elem};
-ghost use Rattle.nc_schema.specs.Values as values;
-ghost use Rattle.nc_model.specs.Elements as elements;
+ghost use Rattle.nc_protocol.specs.Elements as elements;
 ghost use Rattle.nc_filter.specs.inner.Picks as picks;
 ghost use Rattle.nc_filter.specs.inner.Tables.{HasTexts, has_text, adds_text};
 
 use crate::element::is_content_match;
 use crate::rows::{ends, push_if};
-use crate::text::{trimmed, whole_text};
+use crate::text::whole_text;
 use nc_message::Elem;
-use nc_names::{Many, Memory, Row, Text};
+use nc_names::{Many, Memory, Row, Text, trimmed_bytes};
 use std::alloc::Global;
 use std::collections::BTreeSet;
 
@@ -24,14 +24,14 @@ pub(crate) fn bytes_of(alloc: Global, bytes: &[u8]) -> Result<Many<u8>, Memory>
 }
 
 fn trimmed_text(alloc: Global, text: &Text) -> Result<Many<u8>, Memory>
-    ensures { IfOk result (λ it. it ≡ values.trimmed text.now) }
+    ensures { IfOk result (λ it. it ≡ ends.trimmed text.now) }
 {
-    bytes_of(alloc, trimmed(text.as_str().as_bytes()))
+    bytes_of(alloc, trimmed_bytes(text.as_str().as_bytes()))
 }
 
 /// The text of an element's content, without white space at both ends.
 pub(crate) fn elem_text(alloc: Global, elem: &Elem) -> Result<Many<u8>, Memory>
-    ensures { IfOk result (λ it. it ≡ values.trimmed (elements.whole_text elem.now.parts)) }
+    ensures { IfOk result (λ it. it ≡ ends.trimmed (elements.whole_text elem.now.parts)) }
 {
     let text = whole_text(alloc, elem.parts.as_slice())?;
     trimmed_text(alloc, &text)
@@ -78,7 +78,7 @@ fn texts(alloc: Global, elems: &[&Elem]) -> Result<BTreeSet<Many<u8>>, Memory>
 // Whether a row has one of these texts.
 fn has_text_of(alloc: Global, items: &BTreeSet<Many<u8>>, row: &Row) -> Result<bool, Memory>
     ensures { IfOk result (λ it. it
-        ≡ option_map_or (λ value. has_text items.now (values.trimmed value)) row.now.value false) }
+        ≡ option_map_or (λ value. has_text items.now (ends.trimmed value)) row.now.value false) }
 {
     match &row.value {
         Some(value) => Ok(items.contains(&trimmed_text(alloc, value)?)),

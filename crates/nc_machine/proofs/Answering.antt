@@ -11,13 +11,14 @@ use Rattle.nc_model.specs.declared.event.Event.{Event}
 use Rattle.nc_model.specs.declared.event.Event.TheVariants.{Request as Requested}
 use Rattle.nc_model.specs.declared.event.Outcome.{Outcome}
 use Rattle.nc_model.specs.declared.event.Outcome.TheVariants.{Answered, NotLive}
-use Rattle.nc_model.specs.declared.request.Request.{Request}
-use Rattle.nc_model.specs.declared.verdict.Verdict.{Verdict}
-use Rattle.nc_model.specs.declared.verdict.Verdict.TheVariants.{Done}
-use Rattle.nc_model.specs.Proper.{IsProper}
+use Rattle.nc_protocol.specs.declared.request.Request.{Request}
+use Rattle.nc_protocol.specs.declared.verdict.Verdict.{Verdict}
+use Rattle.nc_protocol.specs.declared.verdict.Verdict.TheVariants.{Done}
+use Rattle.nc_protocol.specs.Proper.{IsProper}
 use Rattle.nc_model.specs.State.{State, candidate_in_force, expired, is_live}
 use Rattle.nc_model.specs.Step.{CountsFaults, Fits, answer_to, answered, appends_record, changed, has_failed, is_done, next, outcome_of, reaches_disk, with_candidate}
-use Rattle.nc_model.specs.Verdict.{kept_unless, refused_for, verdict}
+use Rattle.nc_model.specs.Verdict.{kept_unless, verdict}
+use Rattle.nc_protocol.specs.Refusals.{refused_for}
 use Rattle.nc_machine.specs.declared.course.Change.{Change}
 use Rattle.nc_machine.specs.declared.course.Change.TheVariants.{Nothing, Candidate, Discard, Close}
 use Rattle.nc_machine.specs.declared.course.Course.TheVariants.{Answer, Commit}

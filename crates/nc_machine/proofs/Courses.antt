@@ -5,19 +5,21 @@ use Rattle.std.specs.Prelude.{IfOk}
 use Rattle.nc_names.specs.declared.memory.Memory.{Memory}
 use Rattle.nc_names.specs.declared.cause.CauseKind.TheVariants.{DiskFault, UnknownOperation}
 use Rattle.nc_names.specs.declared.path.Row.{Row}
-use Rattle.nc_model.specs.declared.asked.Asked.{Asked}
-use Rattle.nc_model.specs.declared.asked.Asked.TheVariants.{Get, GetConfig, EditConfig, CopyConfig, DeleteConfig, Lock, Unlock, CloseSession, KillSession, Commit as AsksCommit, DiscardChanges, CancelCommit, Validate, PartialLock, PartialUnlock}
-use Rattle.nc_model.specs.declared.asked.Operation.{Operation}
-use Rattle.nc_model.specs.declared.request.Cause.{Cause}
-use Rattle.nc_model.specs.declared.request.Request.{Request}
-use Rattle.nc_model.specs.declared.verdict.Verdict.{Verdict}
-use Rattle.nc_model.specs.declared.verdict.Verdict.TheVariants.{Done, Refused}
+use Rattle.nc_protocol.specs.declared.asked.Asked.{Asked}
+use Rattle.nc_protocol.specs.declared.asked.Asked.TheVariants.{Get, GetConfig, EditConfig, CopyConfig, DeleteConfig, Lock, Unlock, CloseSession, KillSession, Commit as AsksCommit, DiscardChanges, CancelCommit, Validate, PartialLock, PartialUnlock}
+use Rattle.nc_protocol.specs.declared.asked.Operation.{Operation}
+use Rattle.nc_protocol.specs.declared.request.Cause.{Cause}
+use Rattle.nc_protocol.specs.declared.request.Request.{Request}
+use Rattle.nc_protocol.specs.declared.verdict.Verdict.{Verdict}
+use Rattle.nc_protocol.specs.declared.verdict.Verdict.TheVariants.{Done, Refused}
 use Rattle.nc_model.specs.Access.{exec_of}
-use Rattle.nc_model.specs.Edited.{cause_where}
-use Rattle.nc_model.specs.Proper.{IsAskedOf, IsProper, operation_of}
+use Rattle.nc_protocol.specs.Edited.{cause_where}
+use Rattle.nc_protocol.specs.Proper.{IsAskedOf, IsProper, operation_of}
 use Rattle.nc_model.specs.State.{State, candidate_in_force}
 use Rattle.nc_model.specs.Step.{answered, appends_record, changed_by, is_done, rows_of_ok, with_candidate}
-use Rattle.nc_model.specs.Verdict.{asked_verdict, cause_of, checked, commit_refusal, copied, edits_made, exec_denied, is_offered, kept_unless, operation_refused, refused_for, rows_set, verdict, verdict_on}
+use Rattle.nc_protocol.specs.Asking.{plain_cause}
+use Rattle.nc_model.specs.Verdict.{asked_verdict, commit_refusal, copied, edits_made, exec_denied, is_offered, kept_unless, operation_refused, rows_set, verdict, verdict_on}
+use Rattle.nc_protocol.specs.Refusals.{checked, refused_for}
 use Rattle.nc_machine.specs.declared.course.Change.{Change}
 use Rattle.nc_machine.specs.declared.course.Change.TheVariants.{Nothing, Candidate, Discard, Close}
 use Rattle.nc_machine.specs.declared.course.Course.{Course}
@@ -169,7 +171,7 @@ pub record IsAnswer (s : State) (session : ℕ) (request : Request) (v : Verdict
 -- the check on the operation
 abbrev with_offer : State → ℕ → Operation → Bool → Verdict → Verdict
 with_offer s session operation offered v =
-    checked (option_or (cause_where (not offered) (cause_of UnknownOperation [])) (exec_denied (exec_of s session operation))) v
+    checked (option_or (cause_where (not offered) (plain_cause UnknownOperation [])) (exec_denied (exec_of s session operation))) v
 
 -- by whether the operation is offered
 by_offer : (s : State) (session : ℕ) (request : Request) (operation : Operation) (v : Verdict) (c : Change) (offered : Bool) →

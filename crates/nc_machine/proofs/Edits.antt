@@ -5,15 +5,16 @@ use Rattle.std.specs.Prelude.{cond, is_some, IfOk}
 use Rattle.nc_names.specs.declared.memory.Memory.{Memory}
 use Rattle.nc_names.specs.declared.path.Row.{Row}
 use Rattle.nc_schema.specs.Tables.{Tables}
-use Rattle.nc_model.specs.declared.asked.TestOption.{TestOption}
-use Rattle.nc_model.specs.declared.asked.TestOption.TheVariants.{TestThenSet, Set, TestOnly}
-use Rattle.nc_model.specs.declared.asked.ErrorOption.{ErrorOption}
-use Rattle.nc_model.specs.declared.edit.Edit.{Edit}
-use Rattle.nc_model.specs.declared.request.Cause.{Cause}
-use Rattle.nc_model.specs.Access.{every_right}
-use Rattle.nc_model.specs.Applied.{Applied, applied}
+use Rattle.nc_protocol.specs.declared.asked.TestOption.{TestOption}
+use Rattle.nc_protocol.specs.declared.asked.TestOption.TheVariants.{TestThenSet, Set, TestOnly}
+use Rattle.nc_protocol.specs.declared.asked.ErrorOption.{ErrorOption}
+use Rattle.nc_protocol.specs.declared.edit.Edit.{Edit}
+use Rattle.nc_protocol.specs.declared.request.Cause.{Cause}
+use Rattle.nc_protocol.specs.Unchecked.{every_right}
+use Rattle.nc_protocol.specs.Applied.{Applied, applied}
 use Rattle.nc_model.specs.State.{State, candidate_in_force}
-use Rattle.nc_model.specs.Verdict.{causes_of_test, done_unless, made_by, result_unless, rows_set, violation_in}
+use Rattle.nc_model.specs.Verdict.{causes_of_test, made_by, rows_set}
+use Rattle.nc_protocol.specs.Refusals.{done_unless, result_unless, violation_in}
 use Rattle.nc_machine.specs.declared.course.Change.{Change}
 use Rattle.nc_machine.specs.declared.course.Course.{Course}
 use Rattle.nc_machine.specs.declared.course.Course.TheVariants.{Answer}

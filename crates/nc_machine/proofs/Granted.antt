@@ -10,38 +10,42 @@ use Rattle.nc_names.specs.declared.path.Row.{Row}
 use Rattle.nc_schema.specs.Tables.{Tables}
 use Rattle.nc_schema.specs.Violations.{IsValid, violations}
 use Rattle.nc_schema.specs.declared.violation.Violation.{Violation}
-use Rattle.nc_model.specs.declared.asked.Asked.{Asked}
-use Rattle.nc_model.specs.declared.asked.Asked.TheVariants.{Get, GetConfig, EditConfig, CopyConfig, DeleteConfig, Lock, Unlock, CloseSession, KillSession, Commit, DiscardChanges, CancelCommit, Validate, PartialLock, PartialUnlock}
-use Rattle.nc_model.specs.declared.asked.Default3.{Default3}
-use Rattle.nc_model.specs.declared.asked.ErrorOption.{ErrorOption}
-use Rattle.nc_model.specs.declared.asked.ErrorOption.TheVariants.{Stop, Continue, Rollback}
-use Rattle.nc_model.specs.declared.asked.Operation.{Operation}
-use Rattle.nc_model.specs.declared.asked.TestOption.{TestOption}
-use Rattle.nc_model.specs.declared.asked.TestOption.TheVariants.{TestThenSet, Set, TestOnly}
-use Rattle.nc_model.specs.declared.datastore.Datastore.{Datastore}
-use Rattle.nc_model.specs.declared.datastore.Datastore.TheVariants.{Running, Candidate}
-use Rattle.nc_model.specs.declared.datastore.Origin.{Origin}
-use Rattle.nc_model.specs.declared.datastore.Origin.TheVariants.{Store, Inline}
-use Rattle.nc_model.specs.declared.edit.Edit.{Edit}
+use Rattle.nc_protocol.specs.declared.asked.Asked.{Asked}
+use Rattle.nc_protocol.specs.declared.asked.Asked.TheVariants.{Get, GetConfig, EditConfig, CopyConfig, DeleteConfig, Lock, Unlock, CloseSession, KillSession, Commit, DiscardChanges, CancelCommit, Validate, PartialLock, PartialUnlock}
+use Rattle.nc_protocol.specs.declared.asked.Default3.{Default3}
+use Rattle.nc_protocol.specs.declared.asked.ErrorOption.{ErrorOption}
+use Rattle.nc_protocol.specs.declared.asked.ErrorOption.TheVariants.{Stop, Continue, Rollback}
+use Rattle.nc_protocol.specs.declared.asked.Operation.{Operation}
+use Rattle.nc_protocol.specs.declared.asked.TestOption.{TestOption}
+use Rattle.nc_protocol.specs.declared.asked.TestOption.TheVariants.{TestThenSet, Set, TestOnly}
+use Rattle.nc_protocol.specs.declared.datastore.Datastore.{Datastore}
+use Rattle.nc_protocol.specs.declared.datastore.Datastore.TheVariants.{Running, Candidate}
+use Rattle.nc_protocol.specs.declared.datastore.Origin.{Origin}
+use Rattle.nc_protocol.specs.declared.datastore.Origin.TheVariants.{Store, Inline}
+use Rattle.nc_protocol.specs.declared.edit.Edit.{Edit}
 use Rattle.nc_model.specs.declared.entry.Entry.{Entry}
 use Rattle.nc_model.specs.declared.event.Event.{Event}
 use Rattle.nc_model.specs.declared.event.Event.TheVariants.{Request as Requested}
 use Rattle.nc_model.specs.declared.event.Outcome.{Outcome}
 use Rattle.nc_model.specs.declared.event.Outcome.TheVariants.{Answered, NotLive}
-use Rattle.nc_model.specs.declared.request.Cause.{Cause}
-use Rattle.nc_model.specs.declared.request.Request.{Request}
-use Rattle.nc_model.specs.declared.verdict.Verdict.{Verdict}
-use Rattle.nc_model.specs.declared.verdict.Verdict.TheVariants.{Done, Selected}
-use Rattle.nc_model.specs.Access.{every_right, exec_of, rights_of, sees_of, visible}
-use Rattle.nc_model.specs.Applied.{Applied, applied, continued, rolled_back, stopped, with_result}
-use Rattle.nc_model.specs.Changes.{changes_between}
-use Rattle.nc_model.specs.Edited.{cause_where, edited}
-use Rattle.nc_model.specs.Payload.{edits_of, rows_of}
-use Rattle.nc_model.specs.Proper.{IsAskedOf, IsProper, IsProperEvent, operation_of}
-use Rattle.nc_model.specs.Reply.{reply_of}
+use Rattle.nc_protocol.specs.declared.request.Cause.{Cause}
+use Rattle.nc_protocol.specs.declared.request.Request.{Request}
+use Rattle.nc_protocol.specs.declared.verdict.Verdict.{Verdict}
+use Rattle.nc_protocol.specs.declared.verdict.Verdict.TheVariants.{Done, Selected}
+use Rattle.nc_protocol.specs.Unchecked.{every_right}
+use Rattle.nc_model.specs.Access.{exec_of, rights_of, sees_of, visible}
+use Rattle.nc_protocol.specs.Applied.{Applied, applied, continued, rolled_back, stopped, with_result}
+use Rattle.nc_protocol.specs.Changes.{changes_between}
+use Rattle.nc_protocol.specs.Edited.{cause_where, edited}
+use Rattle.nc_protocol.specs.Payload.{edits_of, rows_of}
+use Rattle.nc_protocol.specs.Proper.{IsAskedOf, IsProper, operation_of}
+use Rattle.nc_model.specs.ProperEvents.{IsProperEvent}
+use Rattle.nc_protocol.specs.Reply.{reply_of}
 use Rattle.nc_model.specs.State.{State, candidate_in_force, expired, is_live}
 use Rattle.nc_model.specs.Step.{Fits, answer_to, has_failed, outcome_of}
-use Rattle.nc_model.specs.Verdict.{asked_verdict, cause_of, changes_denied, checked, commit_refusal, copied, datastore_name, done_unless, done_where, edit_verdict, edits_made, exec_denied, is_offered, is_source, is_target, kept_unless, made_by, operation_refused, result_unless, shown, stored, unless_denied, unsupported, validated, verdict, verdict_on, violation_cause, violation_in}
+use Rattle.nc_protocol.specs.Asking.{plain_cause}
+use Rattle.nc_model.specs.Verdict.{asked_verdict, changes_denied, commit_refusal, copied, done_where, edit_verdict, edits_made, exec_denied, is_offered, is_source, is_target, kept_unless, made_by, operation_refused, shown, stored, unless_denied, unsupported, validated, verdict, verdict_on}
+use Rattle.nc_protocol.specs.Refusals.{checked, datastore_name, done_unless, result_unless, violation_cause, violation_in}
 use Rattle.nc_model.proofs.DiskLemmas.{disk_fault_has_cause}
 use Rattle.nc_machine.specs.Laws.{AreMade, IsAskedIn, IsGranted, IsHadFrom, IsUnopposed, PassesTest, UnopposedIsGranted}
 use Rattle.nc_machine.proofs.Unchecked.{undenied}
@@ -106,7 +110,7 @@ module _ (s : State) (session : ℕ) where
       IsGranting (asked_verdict s session (GetConfig source filter) false)
   config_granted source filter offered = record {
     granted = Selected (shown s session source filter);
-    is = ap (λ (b : Bool). checked (cause_where (not b) (cause_of UnsupportedTarget (datastore_name source ∷ [])))
+    is = ap (λ (b : Bool). checked (cause_where (not b) (plain_cause UnsupportedTarget (datastore_name source ∷ [])))
         (Selected (shown s session source filter))) offered;
     grants = λ reply. tt;
   }
@@ -143,7 +147,7 @@ module _ (s : State) (session : ℕ) where
   store_had : (store : Datastore) (rows : List Row) → is_source store ≡ true → stored s store ≡ rows →
       result_unless (unsupported is_source store) (Ok (stored s store)) ≡ Ok rows
   store_had store rows offered is =
-      ap (λ (b : Bool). result_unless (cause_where (not b) (cause_of UnsupportedTarget (datastore_name store ∷ [])))
+      ap (λ (b : Bool). result_unless (cause_where (not b) (plain_cause UnsupportedTarget (datastore_name store ∷ [])))
       (Ok (stored s store))) offered ∙ ap Ok is
 
   asked_granted : (asked : Asked) → IsUnopposed s asked → IsGranting (asked_verdict s session asked false)
@@ -200,7 +204,7 @@ module _ (s : State) (session : ℕ) where
   verdict_is request asked None named is fits free = absurd fits
   verdict_is request asked (Some operation) named is fits free =
       ap (λ (o : Option Operation). checked (operation_refused s session o) (verdict_on s session request.asked false)) named
-      ∙ (ap (λ (b : Bool). checked (option_or (cause_where (not b) (cause_of UnknownOperation []))
+      ∙ (ap (λ (b : Bool). checked (option_or (cause_where (not b) (plain_cause UnknownOperation []))
       (exec_denied (exec_of s session operation))) (verdict_on s session request.asked false))
       (sym (ap is_offered fits) ∙ offered asked free)
       ∙ ap (λ (a : Result Asked Cause). verdict_on s session a false) is)

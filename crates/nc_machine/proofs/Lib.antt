@@ -1,5 +1,4 @@
 pub mod Told
-pub mod Firsts
 pub mod Unchecked
 pub mod Edits
 pub mod Courses

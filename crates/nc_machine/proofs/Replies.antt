@@ -3,9 +3,9 @@ use Rattle.std.proofs.Common.{◌≡◌, ℕ, refl, sym, ap, ◌∙◌}
 use Rattle.nc_message.specs.declared.tree.Tree.{Tree}
 use Rattle.nc_schema.specs.Tables.{Tables}
 use Rattle.nc_model.specs.declared.event.Outcome.TheVariants.{Answered}
-use Rattle.nc_model.specs.declared.request.Request.{Request}
-use Rattle.nc_model.specs.declared.verdict.Verdict.{Verdict}
-use Rattle.nc_model.specs.Reply.{reply_of}
+use Rattle.nc_protocol.specs.declared.request.Request.{Request}
+use Rattle.nc_protocol.specs.declared.verdict.Verdict.{Verdict}
+use Rattle.nc_protocol.specs.Reply.{reply_of}
 use Rattle.nc_model.specs.State.{State}
 use Rattle.nc_machine.specs.inner.Turns.{answered_by, every_node}
 

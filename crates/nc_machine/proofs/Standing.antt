@@ -35,24 +35,32 @@ own_more : (seen : List Entry) (e : Entry) → own_of (seen ++ e ∷ []) ≡ own
 own_more seen e = filter-append (λ (x : Entry). is_own x.event) seen (e ∷ [])
 
 -- the clock's answers are the readings of the entries, with one more
-readings_more : (seen : List Entry) (e : Entry) (at : ℕ) (given given_now : Option (List ℕ)) → e.at ≡ at →
-    TellsAnswer given given_now at → IfSome given (TellsReadings seen) → IfSome given_now (TellsReadings (seen ++ e ∷ []))
-readings_more seen e at given None is tells told = tt
-readings_more seen e at None (Some all) is tells told = absurd (none_told tells)
+readings_more : (seen : List Entry) (e : Entry) (at : ℕ) (heard given given_now : Option (List ℕ)) → e.at ≡ at →
+    TellsAnswer given given_now at → IfSome given (TellsReadings heard seen) →
+    IfSome given_now (TellsReadings heard (seen ++ e ∷ []))
+readings_more seen e at heard given None is tells told = tt
+readings_more seen e at heard None (Some all) is tells told = absurd (none_told tells)
   where
     none_told : Some all ≡ None → ⊥
     none_told same = cc
-readings_more seen e at (Some before) (Some all) is tells told = (told.0, joined)
+readings_more seen e at None (Some before) (Some all) is tells told = absurd (none_heard told)
+  where
+    none_heard : Some before ≡ None → ⊥
+    none_heard same = cc
+readings_more seen e at (Some earlier) (Some before) (Some all) is tells told = ap Some joined
   where
     inner : Some all ≡ Some (before ++ at ∷ []) → all ≡ before ++ at ∷ []
     inner same = cc
 
-    joined : all ≡ told.0 ++ map (λ x. x.at) (seen ++ e ∷ [])
+    outer : Some before ≡ Some (earlier ++ map (λ x. x.at) seen) → before ≡ earlier ++ map (λ x. x.at) seen
+    outer same = cc
+
+    joined : all ≡ earlier ++ map (λ x. x.at) (seen ++ e ∷ [])
     joined =
         inner tells
-        ∙ (ap (λ (xs : List ℕ). xs ++ at ∷ []) told.1
-        ∙ (append_assoc told.0 (map (λ x. x.at) seen) (at ∷ [])
-        ∙ ap (λ (xs : List ℕ). told.0 ++ xs)
+        ∙ (ap (λ (xs : List ℕ). xs ++ at ∷ []) (outer told)
+        ∙ (append_assoc earlier (map (λ x. x.at) seen) (at ∷ [])
+        ∙ ap (λ (xs : List ℕ). earlier ++ xs)
         (ap (λ (n : ℕ). map (λ x. x.at) seen ++ n ∷ []) (sym is) ∙ sym (map-append (λ (x : Entry). x.at) seen (e ∷ [])))))
 
 -- a reading of the clock and an event of the machine
@@ -73,7 +81,7 @@ solo_entered old new answers answers_now given given_now from home seen mine eve
     mine_is = ap (λ (m : List Entry). m ++ own_of (e ∷ [])) stood.mine_is ∙ sym (own_more seen e);
     few = omega (arith, stood.machine_stands.count_is, length-append seen (e ∷ []));
     answers_is = omega (arith, rose, stood.answers_is, length-append seen (e ∷ []));
-    readings = readings_more seen e at given given_now makes.at_is tells stood.readings;
+    readings = readings_more seen e at home.heard given given_now makes.at_is tells stood.readings;
   };
 }
 

@@ -7,15 +7,16 @@ use Rattle.std.specs.Prelude.{IfOk}
 use Rattle.nc_names.specs.declared.memory.Memory.{Memory}
 use Rattle.nc_names.specs.declared.path.Row.{Row}
 use Rattle.nc_schema.specs.Tables.{Tables}
-use Rattle.nc_model.specs.declared.changes.Changes.{Changes}
-use Rattle.nc_model.specs.declared.datastore.Datastore.{Datastore}
-use Rattle.nc_model.specs.declared.datastore.Origin.{Origin}
-use Rattle.nc_model.specs.declared.datastore.Origin.TheVariants.{Store, Inline}
-use Rattle.nc_model.specs.declared.request.Cause.{Cause}
+use Rattle.nc_protocol.specs.declared.changes.Changes.{Changes}
+use Rattle.nc_protocol.specs.declared.datastore.Datastore.{Datastore}
+use Rattle.nc_protocol.specs.declared.datastore.Origin.{Origin}
+use Rattle.nc_protocol.specs.declared.datastore.Origin.TheVariants.{Store, Inline}
+use Rattle.nc_protocol.specs.declared.request.Cause.{Cause}
 use Rattle.nc_model.specs.Access.{rights_of, visible}
-use Rattle.nc_model.specs.Changes.{changes_between}
+use Rattle.nc_protocol.specs.Changes.{changes_between}
 use Rattle.nc_model.specs.State.{State, candidate_in_force}
-use Rattle.nc_model.specs.Verdict.{changes_denied, commit_refusal, copied, filtered, result_unless, rows_copied, shown, stored, unless_denied, violation_in}
+use Rattle.nc_model.specs.Verdict.{changes_denied, commit_refusal, copied, filtered, rows_copied, shown, stored, unless_denied}
+use Rattle.nc_protocol.specs.Refusals.{result_unless, violation_in}
 use Rattle.nc_machine.specs.inner.Copies.{rows_from}
 use Rattle.nc_machine.specs.inner.Courses.{uncopied}
 

@@ -1,15 +1,16 @@
 //! Answers: the reply to a verdict, and what the verdict changes.
 ghost use Rattle.std.specs.Prelude.{◌≡◌, ℕ, IfOk, OnErr};
 ghost use Rattle.nc_machine.specs.inner.Courses as course;
-ghost use Rattle.nc_model.specs.Reply.{reply_of};
+ghost use Rattle.nc_protocol.specs.Reply.{reply_of};
 ghost use Rattle.nc_machine.specs.inner.Turns.{answered_by, every_node};
 
 use crate::course::Change;
+use crate::own::reply;
 use crate::server::Server;
-use nc_errors::reply;
 use nc_message::Tree;
-use nc_model::{Outcome, Request, Unchecked, Verdict};
+use nc_model::Outcome;
 use nc_names::Memory;
+use nc_protocol::{Request, Unchecked, Verdict};
 use nc_schema::Schema;
 use std::alloc::Global;
 

@@ -2,10 +2,11 @@
 ghost use Rattle.std.specs.Prelude.{◌≡◌, ℕ, IfOk, OnErr};
 ghost use Rattle.nc_machine.specs.inner.Turns.{Commits};
 
-use crate::causes::{cause_of, refused};
+use crate::causes::refused;
 use crate::server::Server;
-use nc_model::{Outcome, Request, Verdict};
+use nc_model::Outcome;
 use nc_names::{CauseKind, Memory};
+use nc_protocol::{Cause, Request, Verdict};
 use nc_tree::{Keeper, Kept};
 
 /// A commit that nothing but the disk can make fail. Both replies and what is kept are made before
@@ -24,7 +25,7 @@ pub(crate) fn commit<K: Keeper>(
 {
     let alloc = server.alloc();
     let done = server.answered(request, Verdict::Done)?;
-    let fault = refused(alloc, cause_of(alloc, CauseKind::DiskFault))?;
+    let fault = refused(alloc, Cause::plain(alloc, CauseKind::DiskFault))?;
     let failed = server.answered(request, fault)?;
     let ready = keeper.prepare(server.running(), server.in_force())?;
     match keeper.keep(ready) {

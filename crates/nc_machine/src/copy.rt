@@ -1,19 +1,18 @@
 //! Copies into the candidate (RFC 6241 7.3).
 ghost use Rattle.std.specs.Prelude.{◌≡◌, ℕ, IfOk, None};
 ghost use Rattle.std.specs.Option.{option_or};
-ghost use Rattle.nc_model.specs.Edited.{cause_where};
+ghost use Rattle.nc_protocol.specs.Edited.{cause_where};
 ghost use Rattle.nc_model.specs.Verdict as meant;
 ghost use Rattle.nc_machine.specs.inner.Copies.{rows_from};
 ghost use Rattle.nc_machine.specs.inner.Courses as course;
 
-use crate::causes::cause_naming;
 use crate::course::{Change, Course, done, refused_course};
 use crate::datastores::{unsupported_origin, unsupported_target};
 use crate::payload::rows_of;
 use crate::server::Server;
-use nc_model::request_words::source as source_text;
-use nc_model::{Cause, Datastore, Origin};
 use nc_names::{CauseKind, Copies, Memory};
+use nc_protocol::request_words::source as source_text;
+use nc_protocol::{Cause, Datastore, Origin};
 use nc_tree::Config;
 use std::alloc::Global;
 
@@ -32,7 +31,7 @@ fn same_store(alloc: Global, target: Datastore, source: &Origin) -> Result<Optio
     ensures { IfOk result (λ it. it ≡ course.same_store target source.now) }
 {
     if is_same_store(target, source) {
-        return Ok(Some(cause_naming(alloc, CauseKind::BadParameter, source_text())?));
+        return Ok(Some(Cause::naming(alloc, CauseKind::BadParameter, source_text())?));
     }
     Ok(None)
 }

@@ -1,13 +1,13 @@
 //! What a request comes to, before anything is changed.
 ghost use Rattle.std.specs.Prelude.{◌≡◌, IfOk};
-ghost use Rattle.nc_model.specs.declared.verdict.Verdict.TheVariants.{Done};
+ghost use Rattle.nc_protocol.specs.declared.verdict.Verdict.TheVariants.{Done};
 ghost use Rattle.nc_machine.specs.declared.course.Change.TheVariants.{Nothing};
 ghost use Rattle.nc_machine.specs.declared.course.Course.TheVariants.{Answer};
 ghost use Rattle.nc_machine.specs.inner.Courses as course;
 
 use crate::causes::refused;
-use nc_model::{Cause, Verdict};
 use nc_names::Memory;
+use nc_protocol::{Cause, Verdict};
 use nc_tree::Config;
 use std::alloc::Global;
 

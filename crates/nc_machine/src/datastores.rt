@@ -2,16 +2,17 @@
 //! candidate is the one target.
 ghost use Rattle.std.specs.Prelude.{◌≡◌, IfOk, [], ◌∷◌};
 ghost use Rattle.nc_names.specs.declared.cause.CauseKind.TheVariants.{UnsupportedTarget};
+ghost use Rattle.nc_protocol.specs.Asking.{plain_cause};
+ghost use Rattle.nc_protocol.specs.Refusals as refusal;
 ghost use Rattle.nc_model.specs.Verdict as meant;
 
-use crate::causes::cause_naming;
-use nc_model::request_words::{candidate, running, startup, url};
-use nc_model::{Cause, Datastore, Origin};
 use nc_names::{CauseKind, Memory};
+use nc_protocol::request_words::{candidate, running, startup, url};
+use nc_protocol::{Cause, Datastore, Origin};
 use std::alloc::Global;
 
 fn name_of(store: Datastore) -> &'static str
-    ensures { result.now ≡ meant.datastore_name store }
+    ensures { result.now ≡ refusal.datastore_name store }
 {
     match store {
         Datastore::Running => running(),
@@ -23,9 +24,9 @@ fn name_of(store: Datastore) -> &'static str
 
 /// The cause for a datastore that is not offered.
 pub(crate) fn not_offered(alloc: Global, store: Datastore) -> Result<Cause, Memory>
-    ensures { IfOk result (λ it. it ≡ meant.cause_of UnsupportedTarget (meant.datastore_name store ∷ [])) }
+    ensures { IfOk result (λ it. it ≡ plain_cause UnsupportedTarget (refusal.datastore_name store ∷ [])) }
 {
-    cause_naming(alloc, CauseKind::UnsupportedTarget, name_of(store))
+    Cause::naming(alloc, CauseKind::UnsupportedTarget, name_of(store))
 }
 
 /// Why a datastore is no source, if it is none.

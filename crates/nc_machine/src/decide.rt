@@ -3,14 +3,13 @@ ghost use Rattle.std.specs.Prelude.{◌≡◌, ℕ, IfOk};
 ghost use Rattle.nc_model.specs.Verdict as meant;
 ghost use Rattle.nc_machine.specs.inner.Courses as course;
 
-use crate::causes::{cause_naming, cause_of, copy_cause};
 use crate::course::{Change, Course, done, refused_course};
 use crate::datastores::not_offered;
 use crate::server::Server;
-use crate::validate::violation_in;
-use nc_model::request_words::confirmed as confirmed_text;
-use nc_model::{Asked, Cause, Operation, Request};
-use nc_names::{CauseKind, Memory, Text};
+use nc_names::{CauseKind, Copies, Memory, Text};
+use nc_protocol::request_words::confirmed as confirmed_text;
+use nc_protocol::{Asked, Cause, Operation, Request};
+use nc_validate::violation_in;
 use std::alloc::Global;
 
 fn is_offered(operation: Operation) -> bool
@@ -59,11 +58,11 @@ impl Server {
             IfOk result (λ it. it ≡ meant.commit_refusal self.now session confirmed persist_id.now) }
     {
         if confirmed {
-            let cause = cause_naming(self.alloc(), CauseKind::UnknownParameter, confirmed_text())?;
+            let cause = Cause::naming(self.alloc(), CauseKind::UnknownParameter, confirmed_text())?;
             return Ok(Some(cause));
         }
         match persist_id {
-            Some(_) => Ok(Some(cause_of(self.alloc(), CauseKind::BadToken))),
+            Some(_) => Ok(Some(Cause::plain(self.alloc(), CauseKind::BadToken))),
             None => violation_in(self.alloc(), self.schema(), self.in_force()),
         }
     }
@@ -118,7 +117,7 @@ impl Server {
     {
         refused_course(
             self.alloc(),
-            cause_of(self.alloc(), CauseKind::UnknownOperation),
+            Cause::plain(self.alloc(), CauseKind::UnknownOperation),
         )
     }
 
@@ -133,7 +132,7 @@ impl Server {
         }
         match &request.asked {
             Ok(asked) => self.asked_course(asked),
-            Err(cause) => refused_course(self.alloc(), copy_cause(cause)?),
+            Err(cause) => refused_course(self.alloc(), cause.copy()?),
         }
     }
 }

@@ -2,9 +2,9 @@
 //! tested, set, or let go.
 ghost use Rattle.std.specs.Prelude.{◌≡◌, ◌++◌, ℕ, IfOk, Ok, is_some};
 ghost use Rattle.std.specs.Option.{option_to_list};
-ghost use Rattle.nc_model.specs.Access.{every_right};
-ghost use Rattle.nc_model.specs.Applied.{applied};
-ghost use Rattle.nc_model.specs.Payload.{edits_of};
+ghost use Rattle.nc_protocol.specs.Unchecked.{every_right};
+ghost use Rattle.nc_protocol.specs.Applied.{applied};
+ghost use Rattle.nc_protocol.specs.Payload.{edits_of};
 ghost use Rattle.nc_model.specs.State.{candidate_in_force};
 ghost use Rattle.nc_model.specs.Verdict as meant;
 ghost use Rattle.nc_machine.specs.inner.Courses as course;
@@ -14,13 +14,13 @@ use crate::course::{Change, Course, refused_course};
 use crate::datastores::unsupported_target;
 use crate::payload::edits_of;
 use crate::server::Server;
-use crate::validate::violation_in;
 use nc_edit::apply;
 use nc_message::Elem;
-use nc_model::{Cause, Datastore, Default3, Edit, ErrorOption, TestOption, Unchecked};
 use nc_names::{Copies, Many, Memory};
+use nc_protocol::{Cause, Datastore, Default3, Edit, ErrorOption, TestOption, Unchecked};
 use nc_schema::Schema;
 use nc_tree::Config;
+use nc_validate::violation_in;
 use std::alloc::Global;
 
 // One cause more, if there is one.

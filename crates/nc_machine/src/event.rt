@@ -1,7 +1,8 @@
 //! Events, and the entries that they become (RFC 6241 4, 8.1).
 ghost use Rattle.std.specs.Prelude.{◌≡◌, false, true, IfOk, OnErr};
 ghost use Rattle.nc_model.specs.declared.event.Event.TheVariants.{Start, Request as Requested, End, Reading};
-ghost use Rattle.nc_model.specs.Proper.{IsProper, IsProperEvent};
+ghost use Rattle.nc_protocol.specs.Proper.{IsProper};
+ghost use Rattle.nc_model.specs.ProperEvents.{IsProperEvent};
 ghost use Rattle.nc_model.specs.State.{expired, is_live};
 ghost use Rattle.nc_model.specs.Step.{reaches_disk};
 ghost use Rattle.nc_machine.specs.inner.Turns.{Answers, Enters};
@@ -9,8 +10,9 @@ ghost use Rattle.nc_machine.specs.inner.Turns.{Answers, Enters};
 use crate::commit::commit;
 use crate::course::Course;
 use crate::server::Server;
-use nc_model::{Entry, Event, Outcome, Peer, Request};
+use nc_model::{Entry, Event, Outcome};
 use nc_names::Memory;
+use nc_protocol::{Peer, Request};
 use nc_tree::Keeper;
 
 // What comes of a live session's request.

@@ -8,8 +8,8 @@ use crate::datastores::unsupported_source;
 use crate::server::Server;
 use nc_filter::select;
 use nc_message::Elem;
-use nc_model::{Datastore, Verdict};
 use nc_names::{Copies, Many, Memory, Row};
+use nc_protocol::{Datastore, Verdict};
 
 impl Server {
     // The rows of a datastore that the filter keeps, or all without one.

@@ -5,7 +5,7 @@ ghost use Rattle.nc_schema.specs.Configuration.{IsConfiguration};
 ghost use Rattle.nc_schema.specs.Proper.{IsProperSchema};
 ghost use Rattle.nc_schema.specs.Violations.{IsValid};
 ghost use Rattle.nc_model.specs.declared.event.Event.TheVariants.{End, Reading};
-ghost use Rattle.nc_model.specs.Proper.{IsProperEvent};
+ghost use Rattle.nc_model.specs.ProperEvents.{IsProperEvent};
 ghost use Rattle.nc_model.specs.State.{IsGood, expired, opening};
 ghost use Rattle.nc_model.specs.Step.{reaches_disk};
 ghost use Rattle.nc_machine.specs.Serving.{IsRead, IsSound, Makes};

@@ -1,11 +1,11 @@
 //! Payloads that are read, or refused for their first fault (RFC 6241 7.2 and 7.3).
 ghost use Rattle.std.specs.Prelude.{◌≡◌, IfOk};
-ghost use Rattle.nc_model.specs.Payload as meant;
+ghost use Rattle.nc_protocol.specs.Payload as meant;
 
 use nc_message::Elem;
-use nc_model::{Cause, Default3, Edit};
 use nc_names::{Many, Memory};
 use nc_payload::{PayloadFault, edits, rows};
+use nc_protocol::{Cause, Default3, Edit};
 use nc_schema::Schema;
 use nc_tree::Config;
 use std::alloc::Global;

@@ -5,8 +5,9 @@ ghost use Rattle.nc_model.specs.State as state;
 ghost use Rattle.nc_model.specs.Step.{with_candidate};
 ghost use Rattle.nc_model.specs.Verdict.{stored};
 
-use nc_model::{Datastore, Session};
+use nc_model::Session;
 use nc_names::{Many, Memory, same_rows};
+use nc_protocol::Datastore;
 use nc_schema::Schema;
 use nc_tree::Config;
 use std::alloc::Global;

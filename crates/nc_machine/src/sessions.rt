@@ -6,8 +6,9 @@ ghost use Rattle.nc_model.specs.State as state;
 ghost use Rattle.nc_model.specs.Step.{changed, outcome_of};
 
 use crate::server::{MOST_SESSIONS, Server};
-use nc_model::{Outcome, Peer, Session};
+use nc_model::{Outcome, Session};
 use nc_names::{Copies, Many, Memory};
+use nc_protocol::Peer;
 
 // The last session-id (RFC 6241 10.2, `session-id-type`).
 const LAST_SESSION_ID: u32 = 4294967295;

@@ -1,59 +1,26 @@
 //! Validity (RFC 7950 8.1, 8.3.3; RFC 6241 8.6.4.1).
-ghost use Rattle.std.specs.Prelude.{◌≡◌, IfOk, slice_get};
-ghost use Rattle.nc_schema.specs.Violations.{violations};
-ghost use Rattle.nc_model.specs.declared.datastore.Origin.TheVariants.{Store, Inline};
-ghost use Rattle.nc_model.specs.declared.verdict.Verdict.TheVariants.{Done};
+ghost use Rattle.std.specs.Prelude.{◌≡◌, IfOk};
+ghost use Rattle.nc_protocol.specs.declared.datastore.Origin.TheVariants.{Store, Inline};
+ghost use Rattle.nc_protocol.specs.declared.verdict.Verdict.TheVariants.{Done};
+ghost use Rattle.nc_protocol.specs.Refusals as refusal;
 ghost use Rattle.nc_model.specs.Verdict as meant;
 ghost use Rattle.nc_machine.specs.inner.Courses as course;
 
-use crate::causes::{checked, refused, violation_cause};
+use crate::causes::{checked, refused};
 use crate::course::{Course, unchanging};
 use crate::datastores::unsupported_source;
 use crate::payload::rows_of;
 use crate::server::Server;
 use nc_message::Elem;
-use nc_model::{Cause, Datastore, Origin, Verdict};
 use nc_names::Memory;
-use nc_refs::first_reference;
-use nc_schema::{Schema, Violation};
+use nc_protocol::{Datastore, Origin, Verdict};
 use nc_tree::Config;
-use nc_validate::first_structural;
-use std::alloc::Global;
-
-// The first violation of a configuration: structural ones come before references.
-#[tactic(auto, using(crate::proofs::Firsts::first_of_left, crate::proofs::Firsts::first_of_right))]
-fn first_violation(
-    alloc: Global,
-    schema: &Schema,
-    config: &Config,
-) -> Result<Option<Violation>, Memory>
-    ensures { IfOk result (λ it. it ≡ slice_get (violations schema.now config.now) 0) }
-{
-    match first_structural(alloc, schema, config)? {
-        Some(violation) => Ok(Some(violation)),
-        None => first_reference(alloc, schema, config),
-    }
-}
-
-/// The first constraint that a configuration breaks (RFC 7950 8.1), as the cause of a refusal. `None` means that it is
-/// valid.
-pub fn violation_in(
-    alloc: Global,
-    schema: &Schema,
-    config: &Config,
-) -> Result<Option<Cause>, Memory>
-    ensures { IfOk result (λ it. it ≡ meant.violation_in schema.now config.now) }
-{
-    match first_violation(alloc, schema, config)? {
-        Some(violation) => Ok(Some(violation_cause(alloc, violation))),
-        None => Ok(None),
-    }
-}
+use nc_validate::violation_in;
 
 impl Server {
     fn valid(&self, config: &Config) -> Result<Verdict, Memory>
         ensures { IfOk result (λ it. it ≡
-            meant.checked (meant.violation_in self.now.schema config.now) Done) }
+            refusal.checked (refusal.violation_in self.now.schema config.now) Done) }
     {
         checked(
             self.alloc(),

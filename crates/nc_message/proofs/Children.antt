@@ -10,9 +10,11 @@ use Rattle.nc_message.specs.Written.{written_part, written_parts, written_elem, 
 use Rattle.nc_message.specs.declared.tree.Part.TheBlock.{hidden-the_row-Part-0, hidden-the_row-Elem-1}
 use denote.Hole.Carrier.{hidden}
 
-written_parts_is : (space : List ℕ) (n : _) (row : Row_of-Part n) → written_parts space row ≡ flat_map (written_part space) (items-the_row-Part n row)
+written_parts_is : (space : List ℕ) (n : _) (row : Row_of-Part n) →
+    written_parts space row ≡ flat_map (written_part space) (items-the_row-Part n row)
 written_parts_is space n end_of-Part = refl
-written_parts_is space n (more_of-Part part rest) = ap (λ x. written_part space part ++ x) (written_parts_is space _ rest)
+written_parts_is space n (more_of-Part part rest) =
+    ap (λ x. written_part space part ++ x) (written_parts_is space _ rest)
 
 abbrev row_of_child : {n : _} → Row_of-Elem n → (m : Count) × Row_of-Part m
 row_of_child (more_of-Elem name bounds attrs shape row none) = (_, row)
@@ -26,5 +28,7 @@ pub written_child_is : (space : List ℕ) (e : Elem) → written_part space (Chi
 unfolding hidden-the_row-Part-0 hidden-the_row-Elem-1 hidden
 written_child_is space e =
     let row = row_of (Child e) in
-    ap (element space e.name e.bounds e.attrs (items-the_row-Part row.0 row.1)) (written_parts_is e.name.space row.0 row.1)
-    ∙ ap (λ ps. element space e.name e.bounds e.attrs ps (flat_map (written_part e.name.space) ps)) (items_hidden-the_row-Part-0 e.parts)
+    ap (element space e.name e.bounds e.attrs (items-the_row-Part row.0 row.1))
+    (written_parts_is e.name.space row.0 row.1)
+    ∙ ap (λ ps. element space e.name e.bounds e.attrs ps (flat_map (written_part e.name.space) ps))
+    (items_hidden-the_row-Part-0 e.parts)

@@ -25,8 +25,10 @@ pub declarations-append : (seen : List (List ℕ)) (us vs : List Bound)
 declarations-append seen [] vs = rw append-nil refl
 declarations-append seen (u ∷ us) vs =
     ap (λ x. declaration seen u ++ x) (declarations-append (seen ++ u.prefix ∷ []) us vs)
-    ∙ ap (λ x. declaration seen u ++ (declarations (seen ++ u.prefix ∷ []) us ++ declarations x vs)) (append_assoc seen (u.prefix ∷ []) (prefixes us))
-    ∙ sym (append_assoc (declaration seen u) (declarations (seen ++ u.prefix ∷ []) us) (declarations (seen ++ u.prefix ∷ prefixes us) vs))
+    ∙ ap (λ x. declaration seen u ++ (declarations (seen ++ u.prefix ∷ []) us ++ declarations x vs))
+    (append_assoc seen (u.prefix ∷ []) (prefixes us))
+    ∙ sym (append_assoc (declaration seen u) (declarations (seen ++ u.prefix ∷ []) us)
+    (declarations (seen ++ u.prefix ∷ prefixes us) vs))
 
 same_back : (a b : List ℕ) → is_same_text a b ≡ true → is_same_text b a ≡ true
 same_back a b e = (bytes_decides b a).1 (sym ((bytes_decides a b).0 e))
@@ -39,17 +41,20 @@ same_turned a b = turned (is_same_text a b) (is_same_text b a) (same_back a b) (
   turned false false f g = refl
 
 -- one prefix more
-any_more : (q p : List ℕ) (seen : List (List ℕ)) → list_any (is_same_text q) (seen ++ p ∷ []) ≡ (if is_same_text p q then true else list_any (is_same_text q) seen)
+any_more : (q p : List ℕ) (seen : List (List ℕ)) →
+    list_any (is_same_text q) (seen ++ p ∷ []) ≡ (if is_same_text p q then true else list_any (is_same_text q) seen)
 any_more q p [] = ap (λ b. b || false) (same_turned q p) ∙ split (is_same_text p q) where
   split : (b : Bool) → (b || false) ≡ (if b then true else false)
   split true = refl
   split false = refl
-any_more q p (s ∷ seen) = ap (λ b. is_same_text q s || b) (any_more q p seen) ∙ split (is_same_text q s) (is_same_text p q) (list_any (is_same_text q) seen) where
-  split : (a b c : Bool) → (a || (if b then true else c)) ≡ (if b then true else (a || c))
-  split true true c = refl
-  split true false c = refl
-  split false true c = refl
-  split false false c = refl
+any_more q p (s ∷ seen) =
+    ap (λ b. is_same_text q s || b) (any_more q p seen)
+    ∙ split (is_same_text q s) (is_same_text p q) (list_any (is_same_text q) seen) where
+      split : (a b c : Bool) → (a || (if b then true else c)) ≡ (if b then true else (a || c))
+      split true true c = refl
+      split true false c = refl
+      split false true c = refl
+      split false false c = refl
 
 -- a prefix that has to be declared is none that has not
 apart : (q p : List ℕ) → is_declarable q ≡ true → is_declarable p ≡ false → is_same_text p q ≡ false
@@ -62,10 +67,12 @@ apart q p must not_so = none (is_same_text p q) refl where
 declaration_none : (seen : List (List ℕ)) (u : Bound) → is_declarable u.prefix ≡ false → declaration seen u ≡ []
 declaration_none seen u e = rw e refl
 
-declaration_seen : (seen : List (List ℕ)) (u : Bound) → is_declarable u.prefix ≡ true → list_any (bytes_eq u.prefix) seen ≡ true → declaration seen u ≡ []
+declaration_seen : (seen : List (List ℕ)) (u : Bound) → is_declarable u.prefix ≡ true →
+    list_any (bytes_eq u.prefix) seen ≡ true → declaration seen u ≡ []
 declaration_seen seen u e f = rw (e, f) refl
 
-declaration_new : (seen : List (List ℕ)) (u : Bound) → is_declarable u.prefix ≡ true → list_any (bytes_eq u.prefix) seen ≡ false → declaration seen u ≡ prefix_declaration u
+declaration_new : (seen : List (List ℕ)) (u : Bound) → is_declarable u.prefix ≡ true →
+    list_any (bytes_eq u.prefix) seen ≡ false → declaration seen u ≡ prefix_declaration u
 declaration_new seen u e f = rw (e, f) refl
 
 nothing_more : (out text : List ℕ) → text ≡ [] → out ≡ out ++ (text ++ [])
@@ -79,9 +86,13 @@ not_false : (b : Bool) → true ≡ not b → b ≡ false
 not_false false e = refl
 not_false true e = absurd (cc e)
 
-pub not_declared : (set : BTreeSet (List ℕ)) (out : List ℕ) (u : Bound) → is_declarable u.prefix ≡ false → Declares set set out out (u ∷ [])
+pub not_declared : (set : BTreeSet (List ℕ)) (out : List ℕ) (u : Bound) → is_declarable u.prefix ≡ false →
+    Declares set set out out (u ∷ [])
 not_declared set out u not_so = record {
-  seen = λ seen are q must. are q must ∙ sym (any_more q u.prefix seen ∙ ap (λ b. if b then true else list_any (is_same_text q) seen) (apart q u.prefix must not_so));
+  seen =
+      λ seen are q must. are q must
+      ∙ sym (any_more q u.prefix seen
+      ∙ ap (λ b. if b then true else list_any (is_same_text q) seen) (apart q u.prefix must not_so));
   output = λ seen are. nothing_more out (declaration seen u) (declaration_none seen u not_so);
   grown = extends_self out out refl;
 }
@@ -95,7 +106,9 @@ pub seen_before : (before after : BTreeSet (List ℕ)) (out : List ℕ) (u : Bou
     → IsAdded before after u.prefix false → Declares before after out out (u ∷ [])
 seen_before before after out u must is = record {
   seen = added_is before after u.prefix false is;
-  output = λ seen are. nothing_more out (declaration seen u) (declaration_seen seen u must (sym (are u.prefix must) ∙ not_true (has before u.prefix) is.0));
+  output =
+      λ seen are. nothing_more out (declaration seen u)
+      (declaration_seen seen u must (sym (are u.prefix must) ∙ not_true (has before u.prefix) is.0));
   grown = extends_self out out refl;
 }
 
@@ -104,7 +117,8 @@ pub newly_declared : (before after : BTreeSet (List ℕ)) (old new : List ℕ) (
 newly_declared before after old new u must is now = record {
   seen = added_is before after u.prefix true is;
   output = λ seen are. now ∙ ap (λ x. old ++ x)
-      (sym (declaration_new seen u must (sym (are u.prefix must) ∙ not_false (has before u.prefix) is.0)) ∙ sym (append-nil (declaration seen u)));
+      (sym (declaration_new seen u must (sym (are u.prefix must) ∙ not_false (has before u.prefix) is.0))
+      ∙ sym (append-nil (declaration seen u)));
   grown = record { more = prefix_declaration u; is = now };
 }
 
@@ -134,11 +148,13 @@ declares_none set out = record {
 
 -- the next attribute's use
 pub attr_step : (xs : List Attr) (k : ℕ) (a : Attr) {x y z : BTreeSet (List ℕ)} {first mid last : List ℕ}
-    → k < length xs → a ≡ get_or xs k a → Declares x y first mid (map use_of (take k xs)) → Declares y z mid last (use_of a ∷ [])
+    → k < length xs → a ≡ get_or xs k a → Declares x y first mid (map use_of (take k xs)) →
+    Declares y z mid last (use_of a ∷ [])
     → Declares x z first last (map use_of (take (k + 1) xs))
 attr_step xs k a {x} {y} {z} {first} {mid} {last} within at so_far one =
     let more : take (k + 1) xs ≡ take k xs ++ a ∷ [] = rw (← at) at (take_more xs k a within) in
-    let uses : map use_of (take k xs) ++ use_of a ∷ [] ≡ map use_of (take (k + 1) xs) = sym (ap (map use_of) more ∙ map-append use_of (take k xs) (a ∷ [])) in
+    let uses : map use_of (take k xs) ++ use_of a ∷ [] ≡ map use_of (take (k + 1) xs) =
+    sym (ap (map use_of) more ∙ map-append use_of (take k xs) (a ∷ [])) in
     let P : List Bound → Type 0 = λ us. Declares x z first last us in
     subst P uses (declares_more (map use_of (take k xs)) (use_of a ∷ []) so_far one)
 

@@ -11,7 +11,8 @@ kept-append : (gone : List ℕ → Bool) (xs ys : List Bound) → kept gone (xs 
 kept-append gone [] ys = refl
 kept-append gone (x ∷ xs) ys = at (not (gone x.prefix)) (kept-append gone xs ys) where
   at : (b : Bool) → kept gone (xs ++ ys) ≡ kept gone xs ++ kept gone ys
-      → (if b then x ∷ kept gone (xs ++ ys) else kept gone (xs ++ ys)) ≡ (if b then x ∷ kept gone xs else kept gone xs) ++ kept gone ys
+      → (if b then x ∷ kept gone (xs ++ ys) else kept gone (xs ++ ys))
+      ≡ (if b then x ∷ kept gone xs else kept gone xs) ++ kept gone ys
   at true e = ap (λ l. x ∷ l) e
   at false e = e
 
@@ -23,14 +24,17 @@ kept-kept gone more (x ∷ xs) = at (gone x.prefix) (more x.prefix) refl (kept-k
       ≡ (if not (a || b) then x ∷ kept (λ p. gone p || more p) xs else kept (λ p. gone p || more p) xs)
   at true b d e = e
   at false true d e = ap (λ t. if not t then x ∷ kept more (kept gone xs) else kept more (kept gone xs)) d ∙ e
-  at false false d e = ap (λ t. if not t then x ∷ kept more (kept gone xs) else kept more (kept gone xs)) d ∙ ap (λ l. x ∷ l) e
+  at false false d e =
+      ap (λ t. if not t then x ∷ kept more (kept gone xs) else kept more (kept gone xs)) d ∙ ap (λ l. x ∷ l) e
 
 kept_all : (gone : List ℕ → Bool) → ((p : List ℕ) → gone p ≡ false) → (xs : List Bound) → kept gone xs ≡ xs
 kept_all gone none [] = refl
-kept_all gone none (x ∷ xs) = ap (λ t. if not t then x ∷ kept gone xs else kept gone xs) (none x.prefix) ∙ ap (λ l. x ∷ l) (kept_all gone none xs)
+kept_all gone none (x ∷ xs) =
+    ap (λ t. if not t then x ∷ kept gone xs else kept gone xs) (none x.prefix) ∙ ap (λ l. x ∷ l) (kept_all gone none xs)
 
 -- tags further in, below some bindings
-below : (outer : List Bound) (tags : List Declared) → fold inside outer tags ≡ kept (is_replaced tags) outer ++ shown tags
+below : (outer : List Bound) (tags : List Declared) →
+    fold inside outer tags ≡ kept (is_replaced tags) outer ++ shown tags
 below outer [] = sym (append-nil (kept (is_replaced []) outer) ∙ kept_all (is_replaced []) (λ p. refl) outer)
 below outer (d ∷ more) =
     below (inside outer d) more

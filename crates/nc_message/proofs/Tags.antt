@@ -25,7 +25,9 @@ tags open_ (c ∷ cs) = option_and_then (λ o. tags o cs) (next open_ c)
 tags-append : (o : Bool) (xs ys : List ℕ) → tags o (xs ++ ys) ≡ option_and_then (λ r. tags r ys) (tags o xs)
 tags-append o [] ys = refl
 tags-append o (c ∷ cs) ys =
-    elim (next o c) as (λ n. option_and_then (λ r. tags r (cs ++ ys)) n ≡ option_and_then (λ r. tags r ys) (option_and_then (λ r. tags r cs) n))
+    elim (next o c) as
+    (λ n. option_and_then (λ r. tags r (cs ++ ys)) n
+    ≡ option_and_then (λ r. tags r ys) (option_and_then (λ r. tags r cs) n))
     [ None ↦ refl | Some r ↦ tags-append r cs ys ]
 
 -- from one state to another
@@ -95,12 +97,14 @@ quiet_value_start = record { same = λ o. refl }
 
 quiet_text_char : (c : ℕ) → IsQuiet (text_char c)
 quiet_text_char c =
-    quiet_if (c == 38) quiet_ampersand (λ _. quiet_if (c == 60) quiet_less_than (λ open_. quiet_if (c == 62) quiet_greater_than (λ close.
+    quiet_if (c == 38) quiet_ampersand
+    (λ _. quiet_if (c == 60) quiet_less_than (λ open_. quiet_if (c == 62) quiet_greater_than (λ close.
     quiet_if (c == 13) quiet_carriage_return (λ _. quiet_one c (eqb-false c 60 open_) (eqb-false c 62 close)))))
 
 quiet_value_char : (c : ℕ) → IsQuiet (value_char c)
 quiet_value_char c =
-    quiet_if (c == 34) quiet_quotation_mark (λ _. quiet_if (c == 9) quiet_tab (λ _. quiet_if (c == 10) quiet_line_feed (λ _. quiet_text_char c)))
+    quiet_if (c == 34) quiet_quotation_mark
+    (λ _. quiet_if (c == 9) quiet_tab (λ _. quiet_if (c == 10) quiet_line_feed (λ _. quiet_text_char c)))
 
 quiet_each : (f : ℕ → List ℕ) → ((c : ℕ) → IsQuiet (f c)) → (xs : List ℕ) → IsQuiet (flat_map f xs)
 quiet_each f quiet [] = quiet_nil
@@ -110,10 +114,12 @@ quiet_quote : IsQuiet (34 ∷ [])
 quiet_quote = record { same = λ o. refl }
 
 quiet_quoted : (value : List ℕ) → IsQuiet (quoted value)
-quiet_quoted value = quiet-append (quiet-append quiet_value_start (quiet_each value_char quiet_value_char value)) quiet_quote
+quiet_quoted value =
+    quiet-append (quiet-append quiet_value_start (quiet_each value_char quiet_value_char value)) quiet_quote
 
 quiet_default_declaration : (above space : List ℕ) → IsQuiet (default_declaration above space)
-quiet_default_declaration above space = quiet_if (bytes_eq above space) quiet_nil (λ _. quiet-append quiet_default (quiet_quoted space))
+quiet_default_declaration above space =
+    quiet_if (bytes_eq above space) quiet_nil (λ _. quiet-append quiet_default (quiet_quoted space))
 
 quiet_both : (b : Bool) {xs ys : List ℕ} → IsQuiet xs → IsQuiet ys → IsQuiet (if b then xs else ys)
 quiet_both true first second = first
@@ -122,12 +128,14 @@ quiet_both false first second = second
 quiet_declaration : (seen : List (List ℕ)) (b : Bound) → IsPlain b.prefix → IsQuiet (declaration seen b)
 quiet_declaration seen b plain =
     quiet_both (is_declarable b.prefix)
-    (quiet_both (list_any (bytes_eq b.prefix) seen) quiet_nil (quiet-append (quiet-append quiet_prefixed (quiet_plain b.prefix plain)) (quiet_quoted b.space)))
+    (quiet_both (list_any (bytes_eq b.prefix) seen) quiet_nil
+    (quiet-append (quiet-append quiet_prefixed (quiet_plain b.prefix plain)) (quiet_quoted b.space)))
     quiet_nil
 
 quiet_declarations : (seen : List (List ℕ)) (bs : List Bound) → ArePlainBounds bs → IsQuiet (declarations seen bs)
 quiet_declarations seen [] plain = quiet_nil
-quiet_declarations seen (b ∷ bs) plain = quiet-append (quiet_declaration seen b plain.0) (quiet_declarations (seen ++ b.prefix ∷ []) bs plain.1)
+quiet_declarations seen (b ∷ bs) plain =
+    quiet-append (quiet_declaration seen b plain.0) (quiet_declarations (seen ++ b.prefix ∷ []) bs plain.1)
 
 quiet_prefix : (prefix : List ℕ) → IsPlain prefix → IsQuiet (prefixed prefix)
 quiet_prefix [] plain = quiet_nil
@@ -135,7 +143,10 @@ quiet_prefix (c ∷ cs) plain = quiet-append (quiet_plain (c ∷ cs) plain) (rec
 
 quiet_attribute : (a : Attr) → IsPlain a.prefix → IsPlain a.name.name → IsQuiet (attribute a)
 quiet_attribute a prefix name =
-    quiet-append {xs = 32 ∷ prefixed a.prefix ++ a.name.name} (quiet-append {xs = 32 ∷ prefixed a.prefix} (quiet-append {xs = 32 ∷ []} (record { same = λ o. refl }) (quiet_prefix a.prefix prefix)) (quiet_plain a.name.name name)) (quiet_quoted a.value)
+    quiet-append {xs = 32 ∷ prefixed a.prefix ++ a.name.name}
+    (quiet-append {xs = 32 ∷ prefixed a.prefix}
+    (quiet-append {xs = 32 ∷ []} (record { same = λ o. refl }) (quiet_prefix a.prefix prefix))
+    (quiet_plain a.name.name name)) (quiet_quoted a.value)
 
 quiet_attributes : (xs : List Attr) → ArePlainAttrs xs → IsQuiet (flat_map attribute xs)
 quiet_attributes [] plain = quiet_nil
@@ -158,15 +169,22 @@ opens : (o : Bool) (above space name : List ℕ) (bounds : List Bound) (attrs : 
     → IsPlain name → ArePlainBounds bounds → ArePlainAttrs attrs
     → tags o (start_of above (record { space = space; name = name }) bounds attrs parts) ≡ Some true
 opens o above space name bounds attrs parts plain_name plain_bounds plain_attrs =
-    let plain_uses = plain_bounds-append (map use_of attrs) (if list_any is_chars parts then bounds else []) (plain_used attrs plain_attrs)
+    let plain_uses =
+    plain_bounds-append (map use_of attrs) (if list_any is_chars parts then bounds else [])
+    (plain_used attrs plain_attrs)
     (plain_if (list_any is_chars parts) bounds plain_bounds) in
     let first : tags o (60 ∷ name) ≡ Some true = (quiet_plain name plain_name).same true in
     let second : tags o (60 ∷ name ++ default_declaration above space) ≡ Some true =
-    then_tags o true (Some true) (60 ∷ name) (default_declaration above space) first ((quiet_default_declaration above space).same true) in
-    let third : tags o (60 ∷ name ++ default_declaration above space ++ declarations [] (uses bounds attrs parts)) ≡ Some true =
-    then_tags o true (Some true) (60 ∷ name ++ default_declaration above space) (declarations [] (uses bounds attrs parts)) second
+    then_tags o true (Some true) (60 ∷ name) (default_declaration above space) first
+    ((quiet_default_declaration above space).same true) in
+    let third : tags o (60 ∷ name ++ default_declaration above space ++ declarations [] (uses bounds attrs parts))
+    ≡ Some true =
+    then_tags o true (Some true) (60 ∷ name ++ default_declaration above space)
+    (declarations [] (uses bounds attrs parts)) second
     ((quiet_declarations [] (uses bounds attrs parts) plain_uses).same true) in
-    then_tags o true (Some true) (60 ∷ name ++ default_declaration above space ++ declarations [] (uses bounds attrs parts)) (flat_map attribute attrs) third
+    then_tags o true (Some true)
+    (60 ∷ name ++ default_declaration above space ++ declarations [] (uses bounds attrs parts))
+    (flat_map attribute attrs) third
     ((quiet_attributes attrs plain_attrs).same true)
 
 closes_empty : tags true empty_end ≡ Some false
@@ -180,7 +198,8 @@ opens_end = refl
 -- an end tag opens and closes
 closes : (space name : List ℕ) → IsPlain name → tags false (end_of (record { space = space; name = name })) ≡ Some false
 closes space name plain =
-    then_tags false true (Some false) (end_tag ++ name) (62 ∷ []) (then_tags false true (Some true) end_tag name opens_end ((quiet_plain name plain).same true)) refl
+    then_tags false true (Some false) (end_tag ++ name) (62 ∷ [])
+    (then_tags false true (Some true) end_tag name opens_end ((quiet_plain name plain).same true)) refl
 
 ends : (b : Bool) (content behind : List ℕ) → tags false content ≡ Some false → tags false behind ≡ Some false
     → tags true (if b then empty_end else 62 ∷ content ++ behind) ≡ Some false
@@ -194,23 +213,28 @@ whole above space name bounds attrs parts content plain_name plain_bounds plain_
     then_tags false true (Some false) (start_of above (record { space = space; name = name }) bounds attrs parts)
     (if is_empty parts then empty_end else 62 ∷ content ++ end_of (record { space = space; name = name }))
     (opens false above space name bounds attrs parts plain_name plain_bounds plain_attrs)
-    (ends (is_empty parts) content (end_of (record { space = space; name = name })) inner (closes space name plain_name))
+    (ends (is_empty parts) content (end_of (record { space = space; name = name })) inner
+    (closes space name plain_name))
 
 mutual
   closed_part : (space : List ℕ) (p : Part) → IsPlainPart p → tags false (written_part space p) ≡ Some false
   closed_part space (Chars text) plain = (quiet_each text_char quiet_text_char text).same false
   closed_part space (Child' u child) plain = closed_child space child plain
 
-  closed_child : (above : List ℕ) {n : _} (child : Row_of-Elem n) → IsPlainChild child → tags false (written_child above child) ≡ Some false
+  closed_child : (above : List ℕ) {n : _} (child : Row_of-Elem n) → IsPlainChild child →
+      tags false (written_child above child) ≡ Some false
   closed_child above end_of-Elem plain = refl
   closed_child above (more_of-Elem name bounds attrs shape parts none) plain =
-      whole above name.space name.name bounds attrs (items-the_row-Part _ parts) (written_parts name.space parts) plain.0 plain.1 plain.2
+      whole above name.space name.name bounds attrs (items-the_row-Part _ parts)
+      (written_parts name.space parts) plain.0 plain.1 plain.2
       (closed_parts name.space parts plain.3)
 
-  closed_parts : (space : List ℕ) {n : _} (parts : Row_of-Part n) → ArePlainParts parts → tags false (written_parts space parts) ≡ Some false
+  closed_parts : (space : List ℕ) {n : _} (parts : Row_of-Part n) → ArePlainParts parts →
+      tags false (written_parts space parts) ≡ Some false
   closed_parts space end_of-Part plain = refl
   closed_parts space (more_of-Part part more) plain =
-      then_tags false false (Some false) (written_part space part) (written_parts space more) (closed_part space part plain.0) (closed_parts space more plain.1)
+      then_tags false false (Some false) (written_part space part) (written_parts space more)
+      (closed_part space part plain.0) (closed_parts space more plain.1)
 
 -- two `>` with no `<` between them end no tags
 no_tags : (o : Bool) (after : List ℕ) → tags o (mark ++ after) ≡ None
@@ -220,7 +244,8 @@ no_tags false after = refl
 unmarked : (xs : List ℕ) → tags false xs ≡ Some false → HasNoMark xs
 unmarked xs closed before after e =
     let split : tags false (before ++ (mark ++ after)) ≡ Some false = ap (tags false) (sym e) ∙ closed in
-    let joined : option_and_then (λ r. tags r (mark ++ after)) (tags false before) ≡ Some false = sym (tags-append false before (mark ++ after)) ∙ split in
+    let joined : option_and_then (λ r. tags r (mark ++ after)) (tags false before) ≡ Some false =
+    sym (tags-append false before (mark ++ after)) ∙ split in
     none_behind (tags false before) joined
   where
     none_behind : (o : Option Bool) → option_and_then (λ r. tags r (mark ++ after)) o ≡ Some false → ⊥

@@ -9,6 +9,7 @@ pub record Declared : Type 0 where
   pub own : List Bound
   pub undeclares : Bool
 
+-- no prefix, or no namespace
 abbrev pub is_empty : List ℕ → Bool
 is_empty [] = true
 is_empty (c ∷ cs) = false

@@ -34,8 +34,10 @@ pub record Fits (ts : List Token) : Type 0 where
 
 -- no longer beginning of whole tokens fits: the next whole token does not, or there is none
 abbrev pub IsMisfit : List Token → List ℕ → Type 0
-IsMisfit before rest = (next : Token) × (after : List ℕ) × (token rest ≡ Some (next, after)) × (Fits (before ++ next ∷ []) → ⊥)
+IsMisfit before rest =
+    (next : Token) × (after : List ℕ) × (token rest ≡ Some (next, after)) × (Fits (before ++ next ∷ []) → ⊥)
 
+-- bytes are left, and no whole token that fits begins there
 abbrev pub Stops : List Token → List ℕ → Type 0
 Stops before rest = (0 < length rest) × (IsMisfit before rest ⊎ (token rest ≡ None))
 
@@ -43,23 +45,27 @@ Stops before rest = (0 < length rest) × (IsMisfit before rest ⊎ (token rest �
 abbrev pub IsEarly : List Token → List ℕ → Type 0
 IsEarly before rest = (rest ≡ []) × ((root : Elem) → Spells before root → ⊥)
 
--- the bindings in force in each element that is open after these tokens, the nearest first
+-- the bindings in force in the nearest of the open elements
 abbrev pub nearest : List (List Bound) → List Bound
 nearest [] = []
 nearest (bounds ∷ more) = bounds
 
+-- the bindings in force in an element; where its declarations are faulty, those outside of it
 abbrev pub inside_declared : List Bound → Option Declared → List Bound
 inside_declared outer None = outer
 inside_declared outer (Some d) = inside outer d
 
+-- the same of a start tag
 abbrev pub inside_tag : List Bound → Tag → List Bound
 inside_tag outer tag = inside_declared outer (declared nothing tag.attributes)
 
+-- the open elements after one token more
 abbrev pub open_after : List (List Bound) → Token → List (List Bound)
 open_after around (Start tag) = if tag.alone then around else inside_tag (nearest around) tag ∷ around
 open_after (bounds ∷ around) (End name) = around
 open_after around _ = around
 
+-- the bindings in force in each element that is open after these tokens, the nearest first
 abbrev pub open_in : List Token → List (List Bound)
 open_in ts = fold open_after [] ts
 

@@ -59,13 +59,16 @@ IsBit Of Remark ts = (k : Token) × (ts ≡ k ∷ []) × IsRemark k
 -- the tokens are those of these, one after another
 abbrev pub AreBits : (Elem → List Token → Type 0) → List Bit → List Token → Type 0
 AreBits Of [] ts = ts ≡ []
-AreBits Of (b ∷ bits) ts = (front : List Token) × (rest : List Token) × (ts ≡ front ++ rest) × IsBit Of b front × AreBits Of bits rest
+AreBits Of (b ∷ bits) ts =
+    (front : List Token) × (rest : List Token) × (ts ≡ front ++ rest) × IsBit Of b front × AreBits Of bits rest
 
--- `/>`, or content and an end tag
+-- the tag ends with `/>`, and nothing stands in its element
 abbrev pub IsAlone : Tag → List Bit → List Token → Type 0
 IsAlone tag bits ts = (tag.alone ≡ true) × (bits ≡ []) × (ts ≡ [])
 
-pub record IsClosed (Of : Elem → List Token → Type 0) (tag : Tag) (first : Head) (bits : List Bit) (ts : List Token) : Type 0 where
+-- or content and an end tag follow
+pub record IsClosed (Of : Elem → List Token → Type 0) (tag : Tag) (first : Head) (bits : List Bit)
+    (ts : List Token) : Type 0 where
   pub inner : List Token
   pub name : Name
   pub whole : ts ≡ inner ++ End name ∷ []
@@ -74,7 +77,8 @@ pub record IsClosed (Of : Elem → List Token → Type 0) (tag : Tag) (first : H
   pub are : AreBits Of bits inner
 
 -- the tokens are those of an element below these bindings
-pub record IsElement (Of : List Bound → Elem → List Token → Type 0) (outer : List Bound) (e : Elem) (ts : List Token) : Type 0 where
+pub record IsElement (Of : List Bound → Elem → List Token → Type 0) (outer : List Bound) (e : Elem)
+    (ts : List Token) : Type 0 where
   pub tag : Tag
   pub first : Head
   pub bits : List Bit
@@ -97,6 +101,7 @@ IsMisc (Comment raw) = is_allowed raw ≡ true
 IsMisc (Instruction raw) = is_allowed raw ≡ true
 IsMisc _ = ⊥
 
+-- so may all of these (`Misc` of XML 1.0, 2.8)
 abbrev pub AreMisc : List Token → Type 0
 AreMisc [] = Unit {0}
 AreMisc (k ∷ ks) = IsMisc k × AreMisc ks

@@ -58,7 +58,8 @@ impl Level {
     fn look(&self, prefix: &Text) -> Option<Option<&Text>>
         ensures { MatchOption result
             ((outer : List Bound) → space_of prefix.now (inside outer self.now) ≡ space_of prefix.now outer)
-            (λ found. (outer : List Bound) → space_of prefix.now (inside outer self.now) ≡ option_copied found) }
+            (λ found. (outer : List Bound) → space_of prefix.now (inside outer self.now)
+            ≡ option_copied found) }
     {
         let own = self.own(prefix);
         if own.is_some() {
@@ -102,7 +103,8 @@ impl Level {
 
     /// Declares a prefix. Of two declarations of one prefix the first holds.
     pub fn declare(self, prefix: Text, space: Text) -> Result<Level, Memory>
-        ensures own { IfOk result (λ it. it.own ≡ self.own ++ record { prefix = prefix; space = space } ∷ []) }
+        ensures own { IfOk result (λ it. it.own
+            ≡ self.own ++ record { prefix = prefix; space = space } ∷ []) }
         ensures undeclares { IfOk result (λ it. it.undeclares ≡ self.undeclares) }
     {
         let Level {
@@ -299,7 +301,9 @@ impl<'a> Model for Bindings<'a> {
 impl<'a> Bindings<'a> {
     /// The next binding, or `None` where none is left.
     pub fn next(&mut self) -> Option<&'a Bound>
-        ensures { MatchOption result ((self.old ≡ []) × (self.new ≡ [])) (λ bound. self.old ≡ bound.now ∷ self.new) }
+        ensures { MatchOption result
+            ((self.old ≡ []) × (self.new ≡ []))
+            (λ bound. self.old ≡ bound.now ∷ self.new) }
     {
         let mut own = self.own;
         let mut later = self.later;

@@ -23,7 +23,8 @@ fn push_default(above: &str, space: &str, out: &mut Bytes) -> Result<(), Memory>
 }
 
 fn push_declaration(prefix: &str, space: &str, out: &mut Bytes) -> Result<(), Memory>
-    ensures { Appends result out.old out.new (prefix_declaration (record { prefix = prefix.now; space = space.now })) }
+    ensures { Appends result out.old out.new
+        (prefix_declaration (record { prefix = prefix.now; space = space.now })) }
 {
     out.push_slice(marks::prefixed_namespace())?;
     out.push_slice(prefix.as_bytes())?;
@@ -89,7 +90,8 @@ fn push_text_uses(elem: &Elem, seen: &mut Prefixes, out: &mut Bytes) -> Result<(
 }
 
 fn push_declarations(elem: &Elem, out: &mut Bytes) -> Result<(), Memory>
-    ensures { Appends result out.old out.new (declarations [] (uses elem.now.bounds elem.now.attrs elem.now.parts)) }
+    ensures { Appends result out.old out.new
+        (declarations [] (uses elem.now.bounds elem.now.attrs elem.now.parts)) }
 {
     let mut seen = Prefixes::new(out.alloc());
     push_attr_uses(elem.attrs.as_slice(), &mut seen, out)?;
@@ -128,7 +130,8 @@ fn push_attributes(attrs: &[Attr], out: &mut Bytes) -> Result<(), Memory>
 /// Appends `<name` with the declarations and attributes of an element below one of the namespace
 /// `above`; the end of the tag is still to come.
 pub(crate) fn push_start(above: &str, elem: &Elem, out: &mut Bytes) -> Result<(), Memory>
-    ensures { Appends result out.old out.new (start_of above.now elem.now.name elem.now.bounds elem.now.attrs elem.now.parts) }
+    ensures { Appends result out.old out.new
+        (start_of above.now elem.now.name elem.now.bounds elem.now.attrs elem.now.parts) }
 {
     out.push(b'<')?;
     out.push_slice(elem.name.name.as_str().as_bytes())?;

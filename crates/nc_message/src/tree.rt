@@ -10,8 +10,11 @@ use nc_names::{Boxed, Copies, Many, Memory, QName, Text};
 /// it has no namespace, and its value.
 #[derive(PartialEq, Eq, Debug, Drop)]
 pub struct Attr {
+    /// The namespace and the local name.
     pub name: QName,
+    /// The prefix that it is written with.
     pub prefix: Text,
+    /// The value, its references resolved.
     pub value: Text,
 }
 
@@ -30,9 +33,13 @@ impl Copies for Attr {
 #[cycle(elem)]
 #[derive(PartialEq, Eq, Debug, Drop)]
 pub struct Elem {
+    /// The namespace and the local name.
     pub name: QName,
+    /// The bindings in force.
     pub bounds: Bounds,
+    /// The attributes in their order.
     pub attrs: Many<Attr>,
+    /// The content in its order.
     pub parts: Many<Part>,
 }
 
@@ -40,7 +47,9 @@ pub struct Elem {
 #[cycle(elem)]
 #[derive(PartialEq, Eq, Debug, Drop)]
 pub enum Part {
+    /// A child element.
     Child(Boxed<Elem>),
+    /// Text, its references resolved.
     Chars(Text),
 }
 
@@ -69,6 +78,7 @@ impl Part {
 /// A whole message: its root element.
 #[derive(PartialEq, Eq, Debug, Drop)]
 pub struct Tree {
+    /// The root element.
     pub root: Elem,
 }
 

@@ -6,10 +6,11 @@ use Rattle.std.proofs.lemmas.Slice.Eq.{starts_is}
 use Rattle.std.specs.List.{flat_map, list_all, prefix_len, starts_with}
 use Rattle.std.specs.Str.{chars, is_utf8}
 use Rattle.nc_names.proofs.SameLemmas.{first_true, second_true, both_true}
+use Rattle.nc_names.specs.Ends.{after_white, past}
 use Rattle.nc_names.specs.Signs.{is_white}
 use Rattle.nc_message.specs.Bindings.{is_empty}
 use Rattle.nc_message.specs.Names.{begins_name, is_in_name, is_in_value}
-use Rattle.nc_message.specs.Pieces.{after, after_white, attribute, attributes, first_passes, name, part, prepend, quoted, split, value}
+use Rattle.nc_message.specs.Pieces.{after, attribute, attributes, first_passes, name, part, prepend, quoted, split, value}
 use Rattle.nc_message.specs.Texts.{is_allowed, is_char}
 use Rattle.nc_message.specs.Tokens.{Name, Attribute}
 use Rattle.nc_message.specs.Written.{prefixed}
@@ -142,17 +143,10 @@ white_none (c ∷ cs) h = no_white c h
 
 no_white_before : (text : List ℕ) → first_passes is_white text ≡ false → after_white text ≡ text
 no_white_before [] h = refl
-no_white_before (c ∷ cs) h = ap (λ b. drop (cond b (1 + prefix_len is_white cs) 0) (c ∷ cs)) h
+no_white_before (c ∷ cs) h = ap (λ b. cond b (past is_white cs) (c ∷ cs)) h
 
 space_before : (text : List ℕ) → first_passes is_white text ≡ false → after_white (32 ∷ text) ≡ text
-space_before text h = count (prefix_len is_white text) (none text h)
-  where
-    none : (text : List ℕ) → first_passes is_white text ≡ false → prefix_len is_white text ≡ 0
-    none [] h = refl
-    none (c ∷ cs) h = ap (λ b. cond b (1 + prefix_len is_white cs) 0) h
-
-    count : (n : ℕ) → n ≡ 0 → drop (1 + n) (32 ∷ text) ≡ text
-    count n e = ap (λ k. drop (1 + k) (32 ∷ text)) e
+space_before text h = no_white_before text h
 
 -- what follows the attributes of a tag
 pub record EndsTag (rest : List ℕ) : Type 0 where

@@ -1,9 +1,10 @@
 -- What is read so far, and single steps of a loop that reads.
 use Rattle.std.proofs.Common.{◌≡◌, ℕ, zero, suc, ◌<◌, ◌≤◌, true, cond, List, [], ◌∷◌, ◌++◌, length, Option, None, Some, option_and_then, refl, sym, ap, ◌∙◌, append_assoc, arith}
+use Rattle.nc_names.specs.Ends.{after_white}
 use Rattle.nc_names.specs.Signs.{is_white}
 use Rattle.nc_message.specs.Tokens.{Attribute}
 use Rattle.nc_message.specs.Names.{begins_name}
-use Rattle.nc_message.specs.Pieces.{after_white, first_passes, prepend, attribute, attributes}
+use Rattle.nc_message.specs.Pieces.{first_passes, prepend, attribute, attributes}
 
 -- What is read so far: these items, and what is left to read is in this text. The readings of both
 -- with enough fuel agree.

@@ -2,6 +2,7 @@
 ghost use Rattle.std.specs.Prelude.{◌≡◌, ◌||◌, true, false, ◌≤◌, ◌<◌, ◌+◌, ℕ, suc, List, [], ◌∷◌, length, take, drop, None, Some, IfOk, OnSome, OnOk, MatchOption, nat_eq, ◌++◌};
 ghost use Rattle.std.specs.List.{starts_with};
 ghost use Rattle.std.specs.Str.{is_utf8};
+ghost use Rattle.nc_names.specs.Ends as ends;
 ghost use Rattle.nc_names.specs.Signs as signs;
 ghost use Rattle.nc_message.specs.Names as names;
 ghost use Rattle.nc_message.specs.Pieces as pieces;
@@ -54,8 +55,9 @@ impl<'a> Reader<'a> {
     }
 
     /// Passes over white space.
+    #[tactic(auto, using(nc_names::proofs::EndLemmas::past_is))]
     fn white(&mut self)
-        ensures read { self.new.rest.now ≡ pieces.after_white self.old.rest.now }
+        ensures read { self.new.rest.now ≡ ends.after_white self.old.rest.now }
         ensures within { length self.new.rest.now ≤ length self.old.rest.now }
     {
         self.cut(scan::count_white(self.rest));

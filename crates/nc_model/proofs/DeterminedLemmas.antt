@@ -4,17 +4,17 @@ use Rattle.std.specs.Prelude.{if◌then◌else◌}
 use Rattle.nc_names.specs.Same.{is_same_rows}
 use Rattle.nc_names.specs.declared.path.Row.{Row}
 use Rattle.nc_message.specs.declared.tree.Tree.{Tree}
-use Rattle.nc_model.specs.declared.asked.Asked.{Asked}
-use Rattle.nc_model.specs.declared.asked.Asked.TheVariants.{Get, GetConfig, EditConfig, CopyConfig, DeleteConfig, Lock, Unlock, CloseSession, KillSession, Commit, DiscardChanges, CancelCommit, Validate, PartialLock, PartialUnlock}
+use Rattle.nc_protocol.specs.declared.asked.Asked.{Asked}
+use Rattle.nc_protocol.specs.declared.asked.Asked.TheVariants.{Get, GetConfig, EditConfig, CopyConfig, DeleteConfig, Lock, Unlock, CloseSession, KillSession, Commit, DiscardChanges, CancelCommit, Validate, PartialLock, PartialUnlock}
 use Rattle.nc_model.specs.declared.entry.Entry.{Entry}
 use Rattle.nc_model.specs.declared.event.Event.{Event}
 use Rattle.nc_model.specs.declared.event.Event.TheVariants.{Start, Request as Requested, End, Reading}
 use Rattle.nc_model.specs.declared.event.Outcome.{Outcome}
 use Rattle.nc_model.specs.declared.event.Outcome.TheVariants.{Started, Full, Answered, NotLive, Ended, Noted}
-use Rattle.nc_model.specs.declared.request.Cause.{Cause}
-use Rattle.nc_model.specs.declared.request.Request.{Request}
-use Rattle.nc_model.specs.declared.verdict.Verdict.{Verdict}
-use Rattle.nc_model.specs.declared.verdict.Verdict.TheVariants.{Done, Selected, Locked, Refused}
+use Rattle.nc_protocol.specs.declared.request.Cause.{Cause}
+use Rattle.nc_protocol.specs.declared.request.Request.{Request}
+use Rattle.nc_protocol.specs.declared.verdict.Verdict.{Verdict}
+use Rattle.nc_protocol.specs.declared.verdict.Verdict.TheVariants.{Done, Selected, Locked, Refused}
 use Rattle.nc_model.specs.History.{IsLegal}
 use Rattle.nc_model.specs.Laws.{made_from, HistoryIsDetermined, CommitAloneChangesRunning, IsCommitDone}
 use Rattle.nc_model.specs.State.{State, candidate_in_force, expired}

@@ -6,28 +6,30 @@ use Rattle.nc_names.specs.declared.cause.CauseKind.{CauseKind}
 use Rattle.nc_names.specs.declared.cause.CauseKind.TheVariants.{Malformed, NoMessageId, NoOperation, TwoOperations, UnknownOperation, ExecDenied, UnknownParameter, RepeatedParameter, MissingParameter, BadParameter, BadFilterType, UnsupportedTarget, LockHeld, LockModified, LockPending, LockPartial, NotHeld, InUseGlobal, InUsePartial, InUsePending, NoPending, BadToken, NotLiveTarget, BadSelect, NoMatch, Limit, UnknownElement, UnknownNamespace, UnknownAttribute, BadAttribute, MissingKey, BadElement, BadValue, Exists, Absent, MissingInstance, DataDenied, Mandatory, MandatoryChoice, TooFew, TooMany, NotUnique, DeadLeafref, DeadInstance, DiskFault}
 use Rattle.nc_names.specs.declared.path.Row.{Row}
 use Rattle.nc_schema.specs.Violations.{violations}
-use Rattle.nc_model.specs.declared.asked.Asked.{Asked}
-use Rattle.nc_model.specs.declared.asked.Asked.TheVariants.{Get, GetConfig, EditConfig, CopyConfig, DeleteConfig, Lock, Unlock, CloseSession, KillSession, Commit, DiscardChanges, CancelCommit, Validate, PartialLock, PartialUnlock}
-use Rattle.nc_model.specs.declared.asked.Default3.{Default3}
-use Rattle.nc_model.specs.declared.asked.ErrorOption.{ErrorOption}
-use Rattle.nc_model.specs.declared.asked.Operation.{Operation}
+use Rattle.nc_protocol.specs.declared.asked.Asked.{Asked}
+use Rattle.nc_protocol.specs.declared.asked.Asked.TheVariants.{Get, GetConfig, EditConfig, CopyConfig, DeleteConfig, Lock, Unlock, CloseSession, KillSession, Commit, DiscardChanges, CancelCommit, Validate, PartialLock, PartialUnlock}
+use Rattle.nc_protocol.specs.declared.asked.Default3.{Default3}
+use Rattle.nc_protocol.specs.declared.asked.ErrorOption.{ErrorOption}
+use Rattle.nc_protocol.specs.declared.asked.Operation.{Operation}
 use Rattle.nc_message.specs.declared.tree.Elem.{Elem}
-use Rattle.nc_model.specs.declared.edit.Edit.{Edit}
+use Rattle.nc_protocol.specs.declared.edit.Edit.{Edit}
 use Rattle.nc_model.specs.declared.event.Event.{Event}
 use Rattle.nc_model.specs.declared.event.Event.TheVariants.{Start, Request as Requested, End, Reading}
 use Rattle.nc_model.specs.declared.event.Outcome.TheVariants.{Started, Full, NotLive, Ended}
-use Rattle.nc_model.specs.declared.request.Cause.{Cause}
-use Rattle.nc_model.specs.declared.verdict.Verdict.{Verdict}
-use Rattle.nc_model.specs.declared.verdict.Verdict.TheVariants.{Done, Selected, Locked, Refused}
+use Rattle.nc_protocol.specs.declared.request.Cause.{Cause}
+use Rattle.nc_protocol.specs.declared.verdict.Verdict.{Verdict}
+use Rattle.nc_protocol.specs.declared.verdict.Verdict.TheVariants.{Done, Selected, Locked, Refused}
 use Rattle.nc_model.specs.Access.{rights_of}
-use Rattle.nc_model.specs.Applied.{applied}
+use Rattle.nc_protocol.specs.Applied.{applied}
 use Rattle.nc_model.specs.Laws.{DiskFaultHasCause}
-use Rattle.nc_model.specs.Payload.{edits_of, rows_of}
-use Rattle.nc_model.specs.Proper.{message_names, parameter_names, IsAskedOf, IsProperEvent}
-use Rattle.nc_model.specs.RequestLaws.{CausesAre}
+use Rattle.nc_protocol.specs.Payload.{edits_of, rows_of}
+use Rattle.nc_protocol.specs.Proper.{message_names, parameter_names, IsAskedOf}
+use Rattle.nc_model.specs.ProperEvents.{IsProperEvent}
+use Rattle.nc_protocol.specs.RequestLaws.{CausesAre}
 use Rattle.nc_model.specs.State.{State, candidate_in_force, expired, is_live}
 use Rattle.nc_model.specs.Step.{CountsFaults, outcome_of, has_failed, has_disk_fault, is_of_disk, is_full, is_done, reaches_disk, appends_record, answer_to}
-use Rattle.nc_model.specs.Verdict.{verdict, verdict_on, checked, operation_refused, asked_verdict, violation_cause, commit_refusal, kept_unless}
+use Rattle.nc_model.specs.Verdict.{verdict, verdict_on, operation_refused, asked_verdict, commit_refusal, kept_unless}
+use Rattle.nc_protocol.specs.Refusals.{checked, violation_cause}
 use Rattle.nc_model.proofs.KindLemmas.{ErrIs, edits_cause, rows_cause, applied_causes}
 use Rattle.nc_schema.proofs.ViolationLemmas.{violation_kinds}
 use Rattle.nc_model.proofs.VerdictCauses.{asked_is, commit_is, refused_is}

@@ -8,28 +8,28 @@ use Rattle.std.proofs.lemmas.List.Folds.{list_any-append}
 use Rattle.std.proofs.lemmas.Map.Views.{any-filter_same}
 use Rattle.nc_names.specs.declared.path.Row.{Row}
 use Rattle.nc_message.specs.declared.tree.Tree.{Tree}
-use Rattle.nc_model.specs.declared.asked.Asked.{Asked}
-use Rattle.nc_model.specs.declared.asked.Asked.TheVariants.{Get, GetConfig, EditConfig, CopyConfig, DeleteConfig, Lock, Unlock, CloseSession, KillSession, Commit, DiscardChanges, CancelCommit, Validate, PartialLock, PartialUnlock}
+use Rattle.nc_protocol.specs.declared.asked.Asked.{Asked}
+use Rattle.nc_protocol.specs.declared.asked.Asked.TheVariants.{Get, GetConfig, EditConfig, CopyConfig, DeleteConfig, Lock, Unlock, CloseSession, KillSession, Commit, DiscardChanges, CancelCommit, Validate, PartialLock, PartialUnlock}
 use Rattle.nc_model.specs.declared.entry.Entry.{Entry}
 use Rattle.nc_model.specs.declared.event.Event.{Event}
 use Rattle.nc_model.specs.declared.event.Event.TheVariants.{Start, Request as Requested, End, Reading}
 use Rattle.nc_model.specs.declared.event.Outcome.{Outcome}
 use Rattle.nc_model.specs.declared.event.Outcome.TheVariants.{Started, Full, Answered, NotLive, Ended, Noted}
-use Rattle.nc_model.specs.declared.request.Cause.{Cause}
-use Rattle.nc_model.specs.declared.request.Request.{Request}
-use Rattle.nc_model.specs.declared.verdict.Verdict.{Verdict}
+use Rattle.nc_protocol.specs.declared.request.Cause.{Cause}
+use Rattle.nc_protocol.specs.declared.request.Request.{Request}
+use Rattle.nc_protocol.specs.declared.verdict.Verdict.{Verdict}
 use Rattle.nc_names.specs.Same.{is_same_rows}
 use Rattle.nc_model.specs.State.{State, candidate_in_force, expired, is_live, session_ended}
 use Rattle.nc_model.specs.Step.{Fits, next, changed, changed_by, answered, with_candidate, rows_of_ok, is_done, outcome_of, has_failed}
 use Rattle.nc_model.specs.History.{after}
-use Rattle.nc_model.specs.declared.peer.Peer.{Peer}
+use Rattle.nc_protocol.specs.declared.peer.Peer.{Peer}
 use Rattle.nc_model.specs.declared.session.Session.{Session}
-use Rattle.nc_model.specs.declared.verdict.Verdict.TheVariants.{Done, Selected, Locked, Refused}
+use Rattle.nc_protocol.specs.declared.verdict.Verdict.TheVariants.{Done, Selected, Locked, Refused}
 use Rattle.nc_model.specs.Access.{sees_of}
-use Rattle.nc_model.specs.Reply.{reply_of}
+use Rattle.nc_protocol.specs.Reply.{reply_of}
 use Rattle.nc_model.specs.Verdict.{edits_made, rows_set, copied, verdict}
 use Rattle.nc_model.proofs.HistoryLemmas.{histories_join}
-use Rattle.nc_model.proofs.ListLemmas.{contains_here, contains_behind}
+use Rattle.nc_protocol.proofs.ListLemmas.{contains_here, contains_behind}
 use Rattle.nc_model.specs.Laws.{IsOf, EndsSession, IsEndedBetween, asks_close}
 
 -- the end of another session

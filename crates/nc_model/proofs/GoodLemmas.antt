@@ -10,41 +10,44 @@ use Rattle.nc_schema.specs.Configuration.{IsConfiguration}
 use Rattle.nc_schema.specs.Tables.{Tables}
 use Rattle.nc_schema.specs.Violations.{violations, IsValid}
 use Rattle.nc_schema.specs.declared.violation.Violation.{Violation}
-use Rattle.nc_model.specs.declared.asked.Asked.{Asked}
-use Rattle.nc_model.specs.declared.asked.Asked.TheVariants.{Get, GetConfig, EditConfig, CopyConfig, DeleteConfig, Lock, Unlock, CloseSession, KillSession, Commit, DiscardChanges, CancelCommit, Validate, PartialLock, PartialUnlock}
-use Rattle.nc_model.specs.declared.asked.Default3.{Default3}
-use Rattle.nc_model.specs.declared.asked.ErrorOption.{ErrorOption}
-use Rattle.nc_model.specs.declared.asked.TestOption.{TestOption}
-use Rattle.nc_model.specs.declared.asked.TestOption.TheVariants.{TestThenSet, Set, TestOnly}
-use Rattle.nc_model.specs.declared.datastore.Datastore.{Datastore}
-use Rattle.nc_model.specs.declared.datastore.Datastore.TheVariants.{Running, Candidate, Startup, Url}
-use Rattle.nc_model.specs.declared.datastore.Origin.{Origin}
-use Rattle.nc_model.specs.declared.datastore.Origin.TheVariants.{Store, Inline}
-use Rattle.nc_model.specs.declared.edit.Edit.{Edit}
+use Rattle.nc_protocol.specs.declared.asked.Asked.{Asked}
+use Rattle.nc_protocol.specs.declared.asked.Asked.TheVariants.{Get, GetConfig, EditConfig, CopyConfig, DeleteConfig, Lock, Unlock, CloseSession, KillSession, Commit, DiscardChanges, CancelCommit, Validate, PartialLock, PartialUnlock}
+use Rattle.nc_protocol.specs.declared.asked.Default3.{Default3}
+use Rattle.nc_protocol.specs.declared.asked.ErrorOption.{ErrorOption}
+use Rattle.nc_protocol.specs.declared.asked.TestOption.{TestOption}
+use Rattle.nc_protocol.specs.declared.asked.TestOption.TheVariants.{TestThenSet, Set, TestOnly}
+use Rattle.nc_protocol.specs.declared.datastore.Datastore.{Datastore}
+use Rattle.nc_protocol.specs.declared.datastore.Datastore.TheVariants.{Running, Candidate, Startup, Url}
+use Rattle.nc_protocol.specs.declared.datastore.Origin.{Origin}
+use Rattle.nc_protocol.specs.declared.datastore.Origin.TheVariants.{Store, Inline}
+use Rattle.nc_protocol.specs.declared.edit.Edit.{Edit}
 use Rattle.nc_model.specs.declared.entry.Entry.{Entry}
 use Rattle.nc_model.specs.declared.event.Event.{Event}
 use Rattle.nc_model.specs.declared.event.Event.TheVariants.{Start, Request as Requested, End, Reading}
 use Rattle.nc_model.specs.declared.event.Outcome.{Outcome}
 use Rattle.nc_model.specs.declared.event.Outcome.TheVariants.{Started, Full, NotLive, Ended}
-use Rattle.nc_model.specs.declared.peer.Peer.{Peer}
-use Rattle.nc_model.specs.declared.request.Cause.{Cause}
+use Rattle.nc_protocol.specs.declared.peer.Peer.{Peer}
+use Rattle.nc_protocol.specs.declared.request.Cause.{Cause}
 use Rattle.nc_model.specs.declared.session.Session.{Session}
-use Rattle.nc_model.specs.declared.verdict.Verdict.{Verdict}
-use Rattle.nc_model.specs.declared.verdict.Verdict.TheVariants.{Done, Selected, Locked, Refused}
-use Rattle.nc_model.specs.Access.{every_right, visible}
-use Rattle.nc_model.specs.Applied.{Applied, applied}
+use Rattle.nc_protocol.specs.declared.verdict.Verdict.{Verdict}
+use Rattle.nc_protocol.specs.declared.verdict.Verdict.TheVariants.{Done, Selected, Locked, Refused}
+use Rattle.nc_protocol.specs.Unchecked.{every_right}
+use Rattle.nc_model.specs.Access.{visible}
+use Rattle.nc_protocol.specs.Applied.{Applied, applied}
 use Rattle.nc_model.specs.Laws.{OpeningIsGood, GoodStays}
-use Rattle.nc_model.specs.Payload.{edits_of}
+use Rattle.nc_protocol.specs.Payload.{edits_of}
 use Rattle.nc_model.specs.State.{State, IsGood, IsSessionId, expired, session_ended, candidate_in_force, is_live}
 use Rattle.nc_model.specs.Step.{Fits, next, changed, changed_by, outcome_of, answer_to, answered, is_full, with_candidate, rows_of_ok, has_failed}
 use Rattle.nc_names.specs.declared.cause.CauseKind.TheVariants.{UnknownParameter, BadToken}
-use Rattle.nc_model.specs.Changes.{changes_between}
-use Rattle.nc_model.specs.Edited.{cause_where}
-use Rattle.nc_model.specs.Words.{confirmed_word}
-use Rattle.nc_model.specs.Verdict.{cause_of, changes_denied, checked, verdict_on, asked_verdict, operation_refused, commit_refusal, kept_unless, violation_in, violation_cause, edits_made, made_by, rows_set, result_unless, unsupported, is_target, copied, unless_denied, rows_copied, stored}
-use Rattle.nc_model.proofs.PayloadLaws.{payload_keeps_configuration, inline_is_configuration}
+use Rattle.nc_protocol.specs.Changes.{changes_between}
+use Rattle.nc_protocol.specs.Edited.{cause_where}
+use Rattle.nc_protocol.specs.Words.{confirmed_word}
+use Rattle.nc_protocol.specs.Asking.{plain_cause}
+use Rattle.nc_model.specs.Verdict.{changes_denied, verdict_on, asked_verdict, operation_refused, commit_refusal, kept_unless, edits_made, made_by, rows_set, unsupported, is_target, copied, unless_denied, rows_copied, stored}
+use Rattle.nc_protocol.specs.Refusals.{checked, violation_in, violation_cause, result_unless}
+use Rattle.nc_protocol.proofs.PayloadLaws.{payload_keeps_configuration, inline_is_configuration}
 use Rattle.nc_model.proofs.HistoryLemmas.{rest_legal}
-use Rattle.nc_model.proofs.ListLemmas.{all_one, all_append, pairs_last, all_filter, pairs_filter, filter_shorter}
+use Rattle.nc_protocol.proofs.ListLemmas.{all_one, all_append, pairs_last, all_filter, pairs_filter, filter_shorter}
 
 pub opening_is_good : OpeningIsGood
 opening_is_good schema running faults proper configuration valid = record {
@@ -164,8 +167,8 @@ commit_is_valid : (s : State) (n : ℕ) (confirmed : Bool) (persist_id : Option 
 commit_is_valid s n confirmed persist_id none =
     let invalid = violation_in s.schema (candidate_in_force s) in
     let denied = changes_denied every_right (changes_between s.schema s.running (candidate_in_force s)) in
-    let no_token = cause_where (is_some persist_id) (cause_of BadToken []) in
-    let first = both_none (cause_where confirmed (cause_of UnknownParameter (confirmed_word ∷ []))) (option_or no_token (option_or denied invalid)) none in
+    let no_token = cause_where (is_some persist_id) (plain_cause BadToken []) in
+    let first = both_none (cause_where confirmed (plain_cause UnknownParameter (confirmed_word ∷ []))) (option_or no_token (option_or denied invalid)) none in
     let later = both_none no_token (option_or denied invalid) first.1 in
     no_violation s.schema (candidate_in_force s) (both_none denied invalid later.1).1
 

@@ -14,23 +14,23 @@ use Rattle.nc_message.specs.declared.tree.Elem.{Elem}
 use Rattle.nc_message.specs.declared.tree.Part.{Part, Child', Chars, Row_of-Part, end_of-Part, more_of-Part}
 use Rattle.nc_message.specs.declared.tree.Part.TheBlock.{Row_of-Elem, end_of-Elem, more_of-Elem, items-the_row-Part}
 use Rattle.nc_schema.specs.Tables.{Tables}
-use Rattle.nc_model.specs.declared.access.Decision.{Decision}
-use Rattle.nc_model.specs.declared.asked.Default3.{Default3}
-use Rattle.nc_model.specs.declared.asked.ErrorOption.{ErrorOption}
-use Rattle.nc_model.specs.declared.asked.ErrorOption.TheVariants.{Stop, Continue, Rollback}
-use Rattle.nc_model.specs.declared.edit.Action.{Action}
-use Rattle.nc_model.specs.declared.edit.Action.TheVariants.{Nothing, Merge, Create, Replace, Delete, Remove}
-use Rattle.nc_model.specs.declared.edit.Edit.{Edit}
-use Rattle.nc_model.specs.declared.position.Under.{Under}
-use Rattle.nc_model.specs.declared.position.Position.{Position}
-use Rattle.nc_model.specs.declared.request.Cause.{Cause}
-use Rattle.nc_model.specs.Applied.{Applied, applied, continued, stopped, with_result, is_empty}
-use Rattle.nc_model.specs.Attributes.{cause_in, attribute_fault, attribute_cause, attributes_fault, kind_unless, is_operation, has_operation, is_insertion, is_placed, reads_operation, reads_insertion}
-use Rattle.nc_model.specs.Edited.{Change, cause_at, cause_where, first_cause, missed, refusal, lacks_anchor, anchor_names, denied_cause, first_denied, decision_names, unless_refused, edited, left_by}
-use Rattle.nc_model.specs.Elements.{Reading, Named, named, named_part, has_text, is_key, step_of, steps_to, with_step}
-use Rattle.nc_model.specs.Faults.{unknown_cause, shape_fault, value_fault, element_fault, missing_key, key_fault, keys_fault, entry_fault, unknown_or, inside, local_name}
-use Rattle.nc_model.specs.Payload.{part_edits, child_edits, parts_edits, list_edits, element_edits, node_edits, config_edits, edits_of, rows_of, with_more, if_read, unless_fault, made_of, rows_merged, reading_of}
-use Rattle.nc_model.proofs.ListLemmas.{all_append, all_one}
+use Rattle.nc_protocol.specs.declared.access.Decision.{Decision}
+use Rattle.nc_protocol.specs.declared.asked.Default3.{Default3}
+use Rattle.nc_protocol.specs.declared.asked.ErrorOption.{ErrorOption}
+use Rattle.nc_protocol.specs.declared.asked.ErrorOption.TheVariants.{Stop, Continue, Rollback}
+use Rattle.nc_protocol.specs.declared.edit.Action.{Action}
+use Rattle.nc_protocol.specs.declared.edit.Action.TheVariants.{Nothing, Merge, Create, Replace, Delete, Remove}
+use Rattle.nc_protocol.specs.declared.edit.Edit.{Edit}
+use Rattle.nc_protocol.specs.declared.position.Under.{Under}
+use Rattle.nc_protocol.specs.declared.position.Position.{Position}
+use Rattle.nc_protocol.specs.declared.request.Cause.{Cause}
+use Rattle.nc_protocol.specs.Applied.{Applied, applied, continued, stopped, with_result, is_empty}
+use Rattle.nc_protocol.specs.Attributes.{cause_in, attribute_fault, attribute_cause, attributes_fault, kind_unless, is_operation, has_operation, is_insertion, is_placed, reads_operation, reads_insertion}
+use Rattle.nc_protocol.specs.Edited.{Change, cause_at, cause_where, first_cause, missed, refusal, lacks_anchor, anchor_names, denied_cause, first_denied, decision_names, unless_refused, edited, left_by}
+use Rattle.nc_protocol.specs.Elements.{Reading, Named, named, named_part, has_text, is_key, step_of, steps_to, with_step}
+use Rattle.nc_protocol.specs.Faults.{unknown_cause, shape_fault, value_fault, element_fault, missing_key, key_fault, keys_fault, entry_fault, unknown_or, inside, local_name}
+use Rattle.nc_protocol.specs.Payload.{part_edits, child_edits, parts_edits, list_edits, element_edits, node_edits, config_edits, edits_of, rows_of, with_more, if_read, unless_fault, made_of, rows_merged, reading_of}
+use Rattle.nc_protocol.proofs.ListLemmas.{all_append, all_one}
 use Rattle.nc_names.specs.Same.{is_same_text}
 use Rattle.nc_schema.specs.Kinds.{is_list}
 use Rattle.nc_schema.specs.Standing.{exists, lacks_above}

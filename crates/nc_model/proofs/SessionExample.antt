@@ -9,29 +9,29 @@ use denote.Hole.Carrier.{hidden}
 use Rattle.nc_names.specs.declared.cause.CauseKind.TheVariants.{DiskFault}
 use Rattle.nc_names.specs.declared.path.Row.{Row}
 use Rattle.nc_schema.specs.Values.{canonical}
-use Rattle.nc_model.specs.declared.asked.Asked.{Asked}
-use Rattle.nc_model.specs.declared.asked.Asked.TheVariants.{EditConfig as AsksEditConfig, Commit as AsksCommit}
-use Rattle.nc_model.specs.declared.asked.Default3.TheVariants.{Merge as MergesAll}
-use Rattle.nc_model.specs.declared.asked.ErrorOption.TheVariants.{Stop}
-use Rattle.nc_model.specs.declared.asked.Operation.{Operation}
-use Rattle.nc_model.specs.declared.asked.Operation.TheVariants.{EditConfig, Commit}
-use Rattle.nc_model.specs.declared.asked.TestOption.TheVariants.{Set}
-use Rattle.nc_model.specs.declared.datastore.Datastore.TheVariants.{Candidate}
+use Rattle.nc_protocol.specs.declared.asked.Asked.{Asked}
+use Rattle.nc_protocol.specs.declared.asked.Asked.TheVariants.{EditConfig as AsksEditConfig, Commit as AsksCommit}
+use Rattle.nc_protocol.specs.declared.asked.Default3.TheVariants.{Merge as MergesAll}
+use Rattle.nc_protocol.specs.declared.asked.ErrorOption.TheVariants.{Stop}
+use Rattle.nc_protocol.specs.declared.asked.Operation.{Operation}
+use Rattle.nc_protocol.specs.declared.asked.Operation.TheVariants.{EditConfig, Commit}
+use Rattle.nc_protocol.specs.declared.asked.TestOption.TheVariants.{Set}
+use Rattle.nc_protocol.specs.declared.datastore.Datastore.TheVariants.{Candidate}
 use Rattle.nc_model.specs.declared.entry.Entry.{Entry}
 use Rattle.nc_model.specs.declared.event.Event.{Event}
 use Rattle.nc_model.specs.declared.event.Event.TheVariants.{Start, Request as Requested}
 use Rattle.nc_model.specs.declared.event.Outcome.{Outcome}
 use Rattle.nc_model.specs.declared.event.Outcome.TheVariants.{Started, Answered}
-use Rattle.nc_model.specs.declared.peer.Peer.{Peer}
-use Rattle.nc_model.specs.declared.verdict.Verdict.{Verdict}
-use Rattle.nc_model.specs.declared.verdict.Verdict.TheVariants.{Done, Refused}
+use Rattle.nc_protocol.specs.declared.peer.Peer.{Peer}
+use Rattle.nc_protocol.specs.declared.verdict.Verdict.{Verdict}
+use Rattle.nc_protocol.specs.declared.verdict.Verdict.TheVariants.{Done, Refused}
 use Rattle.nc_model.specs.History.{after, IsLegal}
 use Rattle.nc_model.specs.State.{State, opening}
 use Rattle.nc_model.specs.Step.{Fits, outcome_of}
-use Rattle.nc_model.specs.Reply.{reply_of}
-use Rattle.nc_model.specs.declared.request.Request.{Request}
+use Rattle.nc_protocol.specs.Reply.{reply_of}
+use Rattle.nc_protocol.specs.declared.request.Request.{Request}
 use Rattle.nc_model.proofs.HistoryLemmas.{legal_histories_join, one_entry_is_legal}
-use Rattle.nc_model.proofs.Example.{node, tables, port, name, element, rows_of_port}
+use Rattle.nc_protocol.proofs.Example.{node, tables, port, name, element, rows_of_port}
 
 alice : Peer
 alice = record { user = codes "alice"; groups = []; recovery = false }

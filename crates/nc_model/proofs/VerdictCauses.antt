@@ -11,32 +11,34 @@ use Rattle.nc_names.specs.declared.path.Row.{Row}
 use Rattle.nc_message.specs.declared.tree.Elem.{Elem}
 use Rattle.nc_schema.specs.Violations.{violations}
 use Rattle.nc_schema.specs.declared.violation.Violation.{Violation}
-use Rattle.nc_model.specs.declared.asked.Asked.{Asked}
-use Rattle.nc_model.specs.declared.asked.Asked.TheVariants.{Get, GetConfig, EditConfig, CopyConfig, DeleteConfig, Lock, Unlock, CloseSession, KillSession, Commit, DiscardChanges, CancelCommit, Validate, PartialLock, PartialUnlock}
-use Rattle.nc_model.specs.declared.asked.Default3.{Default3}
-use Rattle.nc_model.specs.declared.asked.ErrorOption.{ErrorOption}
-use Rattle.nc_model.specs.declared.asked.Operation.{Operation}
-use Rattle.nc_model.specs.declared.asked.TestOption.{TestOption}
-use Rattle.nc_model.specs.declared.asked.TestOption.TheVariants.{TestThenSet, Set, TestOnly}
-use Rattle.nc_model.specs.declared.changes.Changes.{Changes}
-use Rattle.nc_model.specs.declared.datastore.Datastore.{Datastore}
-use Rattle.nc_model.specs.declared.datastore.Origin.{Origin}
-use Rattle.nc_model.specs.declared.datastore.Origin.TheVariants.{Store, Inline}
-use Rattle.nc_model.specs.declared.edit.Edit.{Edit}
-use Rattle.nc_model.specs.declared.request.Cause.{Cause}
-use Rattle.nc_model.specs.declared.verdict.Verdict.{Verdict}
-use Rattle.nc_model.specs.declared.verdict.Verdict.TheVariants.{Done, Selected}
+use Rattle.nc_protocol.specs.declared.asked.Asked.{Asked}
+use Rattle.nc_protocol.specs.declared.asked.Asked.TheVariants.{Get, GetConfig, EditConfig, CopyConfig, DeleteConfig, Lock, Unlock, CloseSession, KillSession, Commit, DiscardChanges, CancelCommit, Validate, PartialLock, PartialUnlock}
+use Rattle.nc_protocol.specs.declared.asked.Default3.{Default3}
+use Rattle.nc_protocol.specs.declared.asked.ErrorOption.{ErrorOption}
+use Rattle.nc_protocol.specs.declared.asked.Operation.{Operation}
+use Rattle.nc_protocol.specs.declared.asked.TestOption.{TestOption}
+use Rattle.nc_protocol.specs.declared.asked.TestOption.TheVariants.{TestThenSet, Set, TestOnly}
+use Rattle.nc_protocol.specs.declared.changes.Changes.{Changes}
+use Rattle.nc_protocol.specs.declared.datastore.Datastore.{Datastore}
+use Rattle.nc_protocol.specs.declared.datastore.Origin.{Origin}
+use Rattle.nc_protocol.specs.declared.datastore.Origin.TheVariants.{Store, Inline}
+use Rattle.nc_protocol.specs.declared.edit.Edit.{Edit}
+use Rattle.nc_protocol.specs.declared.request.Cause.{Cause}
+use Rattle.nc_protocol.specs.declared.verdict.Verdict.{Verdict}
+use Rattle.nc_protocol.specs.declared.verdict.Verdict.TheVariants.{Done, Selected}
 use Rattle.nc_model.specs.Access.{exec_of, rights_of}
-use Rattle.nc_model.specs.Applied.{Applied, applied}
-use Rattle.nc_model.specs.Changes.{changes_between}
-use Rattle.nc_model.specs.Edited.{cause_at, cause_where, decision_names}
-use Rattle.nc_model.specs.Payload.{edits_of, rows_of}
-use Rattle.nc_model.specs.RequestLaws.{CausesAre}
+use Rattle.nc_protocol.specs.Applied.{Applied, applied}
+use Rattle.nc_protocol.specs.Changes.{changes_between}
+use Rattle.nc_protocol.specs.Edited.{cause_at, cause_where, decision_names}
+use Rattle.nc_protocol.specs.Payload.{edits_of, rows_of}
+use Rattle.nc_protocol.specs.RequestLaws.{CausesAre}
 use Rattle.nc_model.specs.State.{State, candidate_in_force}
-use Rattle.nc_model.specs.Verdict.{checked, cause_of, operation_refused, is_offered, exec_denied, asked_verdict, unsupported, unsupported_origin, is_source, is_target, is_same_store, stored, shown, edit_verdict, edits_made, made_by, causes_of_test, violation_in, violation_cause, done_unless, done_where, copied, unless_denied, rows_copied, changes_denied, denied_among, result_unless, validated, rows_to_validate, commit_refusal, kept_unless, datastore_name}
-use Rattle.nc_model.specs.Words.{source_word, confirmed_word}
+use Rattle.nc_protocol.specs.Asking.{plain_cause}
+use Rattle.nc_protocol.specs.Refusals.{checked, violation_in, violation_cause, done_unless, result_unless, datastore_name}
+use Rattle.nc_model.specs.Verdict.{operation_refused, is_offered, exec_denied, asked_verdict, unsupported, unsupported_origin, is_source, is_target, is_same_store, stored, shown, edit_verdict, edits_made, made_by, causes_of_test, done_where, copied, unless_denied, rows_copied, changes_denied, denied_among, validated, rows_to_validate, commit_refusal, kept_unless}
+use Rattle.nc_protocol.specs.Words.{source_word, confirmed_word}
 use Rattle.nc_model.proofs.KindLemmas.{ErrIs}
-use Rattle.nc_model.proofs.ListLemmas.{all_one, all_append}
+use Rattle.nc_protocol.proofs.ListLemmas.{all_one, all_append}
 
 module _ (P : Cause → Type 0) (s : State) (n : ℕ)
     (bad_payload : (default_operation : Default3) (config : Elem) → ErrIs P (edits_of s.schema default_operation config))
@@ -46,12 +48,12 @@ module _ (P : Cause → Type 0) (s : State) (n : ℕ)
     All P (applied s.schema (rights_of s n) on_error (candidate_in_force s) edits).causes)
     (invalid : (rows : List Row) → All (λ violation. P (violation_cause violation)) (violations s.schema rows))
     (denied : (path : Path) (right : Right) → P (cause_at DataDenied path (decision_names right (rights_of s n path right).by)))
-    (no_store : (store : Datastore) → P (cause_of UnsupportedTarget (datastore_name store ∷ [])))
-    (same_store : P (cause_of BadParameter (source_word ∷ [])))
-    (confirms : P (cause_of UnknownParameter (confirmed_word ∷ [])))
-    (no_token : P (cause_of BadToken []))
-    (unknown : P (cause_of UnknownOperation []))
-    (no_exec : (operation : Operation) → P (cause_of ExecDenied (decision_names MayExec (exec_of s n operation).by))) where
+    (no_store : (store : Datastore) → P (plain_cause UnsupportedTarget (datastore_name store ∷ [])))
+    (same_store : P (plain_cause BadParameter (source_word ∷ [])))
+    (confirms : P (plain_cause UnknownParameter (confirmed_word ∷ [])))
+    (no_token : P (plain_cause BadToken []))
+    (unknown : P (plain_cause UnknownOperation []))
+    (no_exec : (operation : Operation) → P (plain_cause ExecDenied (decision_names MayExec (exec_of s n operation).by))) where
   where_is : (b : Bool) (cause : Cause) → P cause → IfSome (cause_where b cause) P
   where_is true cause is = is
   where_is false cause is = tt
@@ -89,7 +91,7 @@ module _ (P : Cause → Type 0) (s : State) (n : ℕ)
       (denied_is MayDelete changes.deleted) (or_is updates creates (denied_is MayUpdate changes.updated) (denied_is MayCreate changes.created))
 
   unsupported_is : (offers : Datastore → Bool) (store : Datastore) → IfSome (unsupported offers store) P
-  unsupported_is offers store = where_is (not (offers store)) (cause_of UnsupportedTarget (datastore_name store ∷ [])) (no_store store)
+  unsupported_is offers store = where_is (not (offers store)) (plain_cause UnsupportedTarget (datastore_name store ∷ [])) (no_store store)
 
   origin_is : (source : Origin) → IfSome (unsupported_origin source) P
   origin_is (Store store) = unsupported_is is_source store
@@ -149,10 +151,10 @@ module _ (P : Cause → Type 0) (s : State) (n : ℕ)
 
   copied_is : (target : Datastore) (source : Origin) → ErrIs P (copied s n target source)
   copied_is target source =
-      let same = cause_where (is_same_store target source) (cause_of BadParameter (source_word ∷ [])) in
+      let same = cause_where (is_same_store target source) (plain_cause BadParameter (source_word ∷ [])) in
       unless_is (option_or (unsupported is_target target) (option_or (unsupported_origin source) same)) (unless_denied s n (rows_copied s n source))
       (or_is (unsupported is_target target) (option_or (unsupported_origin source) same) (unsupported_is is_target target)
-      (or_is (unsupported_origin source) same (origin_is source) (where_is (is_same_store target source) (cause_of BadParameter (source_word ∷ [])) same_store)))
+      (or_is (unsupported_origin source) same (origin_is source) (where_is (is_same_store target source) (plain_cause BadParameter (source_word ∷ [])) same_store)))
       (denied_rows_are (rows_copied s n source) (rows_are source))
 
   validated_is : (result : Result (List Row) Cause) → ErrIs P result → CausesAre P (validated s.schema result)
@@ -168,17 +170,17 @@ module _ (P : Cause → Type 0) (s : State) (n : ℕ)
       let broken = violation_in s.schema (candidate_in_force s) in
       let changes = changes_between s.schema s.running (candidate_in_force s) in
       let refused = changes_denied (rights_of s n) changes in
-      let token = cause_where (is_some persist_id) (cause_of BadToken []) in
-      or_is (cause_where confirmed (cause_of UnknownParameter (confirmed_word ∷ []))) (option_or token (option_or refused broken))
-      (where_is confirmed (cause_of UnknownParameter (confirmed_word ∷ [])) confirms)
-      (or_is token (option_or refused broken) (where_is (is_some persist_id) (cause_of BadToken []) no_token)
+      let token = cause_where (is_some persist_id) (plain_cause BadToken []) in
+      or_is (cause_where confirmed (plain_cause UnknownParameter (confirmed_word ∷ []))) (option_or token (option_or refused broken))
+      (where_is confirmed (plain_cause UnknownParameter (confirmed_word ∷ [])) confirms)
+      (or_is token (option_or refused broken) (where_is (is_some persist_id) (plain_cause BadToken []) no_token)
       (or_is refused broken (changes_are changes) (violation_is (candidate_in_force s))))
 
-  kept_is : (failed : Bool) → (failed ≡ true → P (cause_of DiskFault [])) → CausesAre P (kept_unless failed)
-  kept_is true disk = all_one P (cause_of DiskFault []) (disk refl)
+  kept_is : (failed : Bool) → (failed ≡ true → P (plain_cause DiskFault [])) → CausesAre P (kept_unless failed)
+  kept_is true disk = all_one P (plain_cause DiskFault []) (disk refl)
   kept_is false disk = tt
 
-  pub asked_is : (asked : Asked) (failed : Bool) → (failed ≡ true → P (cause_of DiskFault [])) → CausesAre P (asked_verdict s n asked failed)
+  pub asked_is : (asked : Asked) (failed : Bool) → (failed ≡ true → P (plain_cause DiskFault [])) → CausesAre P (asked_verdict s n asked failed)
   asked_is (Get filter) failed disk = tt
   asked_is (GetConfig source filter) failed disk = checked_is (unsupported is_source source) (Selected (shown s n source filter)) (unsupported_is is_source source) tt
   asked_is (EditConfig target default_operation test on_error config) failed disk =
@@ -186,23 +188,23 @@ module _ (P : Cause → Type 0) (s : State) (n : ℕ)
       (edits_are (unsupported is_target target) (made_by s n on_error (edits_of s.schema default_operation config)) (unsupported_is is_target target)
       (made_is on_error default_operation config))
   asked_is (CopyConfig target source) failed disk = done_where_is (copied s n target source) (copied_is target source)
-  asked_is (DeleteConfig target) failed disk = all_one P (cause_of UnsupportedTarget (datastore_name target ∷ [])) (no_store target)
-  asked_is (Lock target) failed disk = all_one P (cause_of UnknownOperation []) unknown
-  asked_is (Unlock target) failed disk = all_one P (cause_of UnknownOperation []) unknown
+  asked_is (DeleteConfig target) failed disk = all_one P (plain_cause UnsupportedTarget (datastore_name target ∷ [])) (no_store target)
+  asked_is (Lock target) failed disk = all_one P (plain_cause UnknownOperation []) unknown
+  asked_is (Unlock target) failed disk = all_one P (plain_cause UnknownOperation []) unknown
   asked_is CloseSession failed disk = tt
-  asked_is (KillSession session) failed disk = all_one P (cause_of UnknownOperation []) unknown
+  asked_is (KillSession session) failed disk = all_one P (plain_cause UnknownOperation []) unknown
   asked_is (Commit confirmed timeout persist persist_id) failed disk =
       checked_is (commit_refusal s n confirmed persist_id) (kept_unless failed) (commit_is confirmed persist_id) (kept_is failed disk)
   asked_is DiscardChanges failed disk = tt
-  asked_is (CancelCommit persist_id) failed disk = all_one P (cause_of UnknownOperation []) unknown
+  asked_is (CancelCommit persist_id) failed disk = all_one P (plain_cause UnknownOperation []) unknown
   asked_is (Validate source) failed disk = validated_is (rows_to_validate s source) (to_validate_is source)
-  asked_is (PartialLock selects) failed disk = all_one P (cause_of UnknownOperation []) unknown
-  asked_is (PartialUnlock lock) failed disk = all_one P (cause_of UnknownOperation []) unknown
+  asked_is (PartialLock selects) failed disk = all_one P (plain_cause UnknownOperation []) unknown
+  asked_is (PartialUnlock lock) failed disk = all_one P (plain_cause UnknownOperation []) unknown
 
   pub refused_is : (operation : Option Operation) → IfSome (operation_refused s n operation) P
   refused_is None = tt
   refused_is (Some operation) =
       let exec = exec_denied (exec_of s n operation) in
-      or_is (cause_where (not (is_offered operation)) (cause_of UnknownOperation [])) exec
-      (where_is (not (is_offered operation)) (cause_of UnknownOperation []) unknown)
-      (where_is (not (exec_of s n operation).permit) (cause_of ExecDenied (decision_names MayExec (exec_of s n operation).by)) (no_exec operation))
+      or_is (cause_where (not (is_offered operation)) (plain_cause UnknownOperation [])) exec
+      (where_is (not (is_offered operation)) (plain_cause UnknownOperation []) unknown)
+      (where_is (not (exec_of s n operation).permit) (plain_cause ExecDenied (decision_names MayExec (exec_of s n operation).by)) (no_exec operation))

@@ -15,29 +15,32 @@ use Rattle.nc_schema.specs.Standing.{node_of}
 use Rattle.nc_schema.specs.Tables.{Tables}
 use Rattle.nc_schema.specs.Violations.{violations}
 use Rattle.nc_schema.specs.declared.node.Node.{Node}
-use Rattle.nc_model.specs.declared.asked.Asked.{Asked}
-use Rattle.nc_model.specs.declared.asked.Default3.{Default3}
-use Rattle.nc_model.specs.declared.asked.ErrorOption.{ErrorOption}
-use Rattle.nc_model.specs.declared.asked.Operation.{Operation}
-use Rattle.nc_model.specs.declared.datastore.Datastore.{Datastore}
-use Rattle.nc_model.specs.declared.edit.Edit.{Edit}
-use Rattle.nc_model.specs.declared.request.Cause.{Cause}
+use Rattle.nc_protocol.specs.declared.asked.Asked.{Asked}
+use Rattle.nc_protocol.specs.declared.asked.Default3.{Default3}
+use Rattle.nc_protocol.specs.declared.asked.ErrorOption.{ErrorOption}
+use Rattle.nc_protocol.specs.declared.asked.Operation.{Operation}
+use Rattle.nc_protocol.specs.declared.datastore.Datastore.{Datastore}
+use Rattle.nc_protocol.specs.declared.edit.Edit.{Edit}
+use Rattle.nc_protocol.specs.declared.request.Cause.{Cause}
 use Rattle.nc_model.specs.Access.{rights_of}
-use Rattle.nc_model.specs.Applied.{applied}
-use Rattle.nc_model.specs.Attributes.{path_of}
-use Rattle.nc_model.specs.Edited.{cause_at, anchor_names, anchor_word}
-use Rattle.nc_model.specs.ErrorRows.{name_count, is_of_node}
-use Rattle.nc_model.specs.Payload.{edits_of, rows_of}
-use Rattle.nc_model.specs.Proper.{IsAskedOf, message_names, parameter_names}
-use Rattle.nc_model.specs.RequestLaws.{IsWhole, CausesAre, VerdictIsWhole}
+use Rattle.nc_protocol.specs.Applied.{applied}
+use Rattle.nc_protocol.specs.Attributes.{path_of}
+use Rattle.nc_protocol.specs.Edited.{cause_at, anchor_names, anchor_word}
+use Rattle.nc_protocol.specs.ErrorRows.{name_count, is_of_node}
+use Rattle.nc_protocol.specs.Payload.{edits_of, rows_of}
+use Rattle.nc_protocol.specs.Proper.{IsAskedOf, message_names, parameter_names}
+use Rattle.nc_protocol.specs.RequestLaws.{IsWhole, CausesAre}
+use Rattle.nc_model.specs.VerdictLaws.{VerdictIsWhole}
 use Rattle.nc_model.specs.State.{State, candidate_in_force}
-use Rattle.nc_model.specs.Verdict.{verdict_on, asked_verdict, checked, cause_of, datastore_name, operation_refused, violation_cause}
-use Rattle.nc_model.specs.Words.{source_word, confirmed_word}
+use Rattle.nc_protocol.specs.Asking.{plain_cause}
+use Rattle.nc_model.specs.Verdict.{verdict_on, asked_verdict, operation_refused}
+use Rattle.nc_protocol.specs.Refusals.{checked, datastore_name, violation_cause}
+use Rattle.nc_protocol.specs.Words.{source_word, confirmed_word}
 use Rattle.nc_schema.proofs.ViolationLemmas.{violation_kinds}
-use Rattle.nc_model.proofs.DecodedLemmas.{named_properly}
+use Rattle.nc_protocol.proofs.DecodedLemmas.{named_properly}
 use Rattle.nc_model.proofs.KindLemmas.{ErrIs, edits_cause, rows_cause, applied_causes}
-use Rattle.nc_model.proofs.ListLemmas.{all_one}
-use Rattle.nc_model.proofs.PayloadLaws.{payload_edits_fit}
+use Rattle.nc_protocol.proofs.ListLemmas.{all_one}
+use Rattle.nc_protocol.proofs.PayloadLaws.{payload_edits_fit}
 use Rattle.nc_model.proofs.VerdictCauses.{asked_is, refused_is}
 
 -- a path with one step or more
@@ -164,13 +167,13 @@ invalid_is_whole tables rows =
 never : IsTrue false → ⊥
 never e = cc
 
-bare_is_whole : (kind : CauseKind) (names : List (List ℕ)) → IfSome (name_count kind) (λ count. count ≡ length names) → is_of_node kind ≡ false → IsWhole (cause_of kind names)
+bare_is_whole : (kind : CauseKind) (names : List (List ℕ)) → IfSome (name_count kind) (λ count. count ≡ length names) → is_of_node kind ≡ false → IsWhole (plain_cause kind names)
 bare_is_whole kind names named bare = record { names = named; path = λ about. absurd (never (subst IsTrue bare about)) }
 
 pub verdict_is_whole : VerdictIsWhole
 verdict_is_whole s n request failed proper is = by (operation_refused s n request.operation) refused request.asked is
   where
-    no_store : (store : Datastore) → IsWhole (cause_of UnsupportedTarget (datastore_name store ∷ []))
+    no_store : (store : Datastore) → IsWhole (plain_cause UnsupportedTarget (datastore_name store ∷ []))
     no_store store = bare_is_whole UnsupportedTarget (datastore_name store ∷ []) refl refl
 
     refused : IfSome (operation_refused s n request.operation) IsWhole

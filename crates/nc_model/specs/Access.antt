@@ -4,18 +4,10 @@ use Rattle.std.specs.List.{filter}
 use Rattle.nc_names.specs.declared.path.Path.{Path}
 use Rattle.nc_names.specs.declared.path.Right.{Right}
 use Rattle.nc_names.specs.declared.path.Row.{Row}
-use Rattle.nc_model.specs.declared.access.By.TheVariants.{Off}
-use Rattle.nc_model.specs.declared.access.Decision.{Decision}
-use Rattle.nc_model.specs.declared.asked.Operation.{Operation}
+use Rattle.nc_protocol.specs.declared.access.Decision.{Decision}
+use Rattle.nc_protocol.specs.declared.asked.Operation.{Operation}
 use Rattle.nc_model.specs.State.{State}
-
--- access control is off (RFC 8341 3.4.4 and 3.4.5, step 1)
-abbrev pub permitted : Decision
-permitted = record { permit = true; by = Off }
-
--- every right is given
-abbrev pub every_right : Path → Right → Decision
-every_right path right = permitted
+use Rattle.nc_protocol.specs.Unchecked.{every_right, permitted}
 
 -- whether a session may ask for an operation
 abbrev pub exec_of : State → ℕ → Operation → Decision

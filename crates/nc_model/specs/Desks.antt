@@ -1,5 +1,5 @@
 -- What a desk makes of the events that are handed in.
-use Rattle.std.specs.Prelude.{◌≡◌, ◌≤◌, ◌^◌, ℕ, Bool, true, false, IsTrue, List, [], ◌∷◌, ◌++◌, length, Result, Ok, Err}
+use Rattle.std.specs.Prelude.{◌≡◌, ◌≤◌, ◌^◌, ℕ, Bool, true, false, IsTrue, List, [], ◌∷◌, ◌++◌, length, Option, Result, Ok, Err}
 use Rattle.std.specs.List.{filter}
 use Rattle.nc_names.specs.Limits.{most_requests}
 use Rattle.nc_model.specs.declared.desk.DeskFault.{DeskFault}
@@ -11,11 +11,12 @@ use Rattle.nc_model.specs.declared.event.Event.TheVariants.{Reading}
 use Rattle.nc_model.specs.History.{IsLegal, IsMineIn}
 use Rattle.nc_model.specs.State.{State}
 
--- where a desk's history begins: the opening state, how often the clock had answered, and whether no other desk
--- makes entries of it
+-- where a desk's history begins: the opening state, how often the clock had answered and with what, where it tells, and
+-- whether no other desk makes entries of it
 pub record Home : Type 0 where
   pub opening : State
   pub answers : ℕ
+  pub heard : Option (List ℕ)
   pub alone : Bool
 
 -- two lists for which a desk stands: the history, and the entries that it made itself but for readings
@@ -25,6 +26,7 @@ pub record IsView (home : Home) (seen mine : List Entry) : Type 0 where
   pub own : IsMineIn mine seen
   pub few : length seen ≤ most_requests
 
+-- an event that a desk's caller hands in: any but a reading of the clock
 abbrev pub is_own : Event → Bool
 is_own Reading = false
 is_own event = true

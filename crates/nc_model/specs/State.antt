@@ -33,6 +33,7 @@ candidate_in_force s = unwrap_or s.candidate s.running
 abbrev pub expired : State → ℕ → State
 expired s at = record s { now = max s.now at }
 
+-- a session of that number is live
 abbrev pub is_live : State → ℕ → Bool
 is_live s number = list_any (λ session. session.number == number) s.sessions
 
@@ -44,10 +45,11 @@ session_ended s number = record s { sessions = filter (λ session. not (session.
 abbrev pub most_sessions : ℕ
 most_sessions = 64
 
--- the last session-id: they are from 1 to 2 ^ 32 - 1 (RFC 6241 10.2, `session-id-type`)
+-- the last session-id: they are from 1 to 2 ^ 32 - 1 (RFC 6241 appendix C, `session-id-type`)
 abbrev pub last_session_id : ℕ
 last_session_id = 4294967295
 
+-- a session-id from 1 to the last that was given (RFC 6241 appendix C, `session-id-type`)
 abbrev pub IsSessionId : ℕ → ℕ → Type 0
 IsSessionId last number = (1 ≤ number) × (number ≤ last)
 

@@ -6,23 +6,24 @@ use Rattle.nc_names.specs.Same.{is_same_rows}
 use Rattle.nc_names.specs.declared.cause.CauseKind.{CauseKind}
 use Rattle.nc_names.specs.declared.cause.CauseKind.TheVariants.{DiskFault}
 use Rattle.nc_names.specs.declared.path.Row.{Row}
-use Rattle.nc_model.specs.declared.asked.Asked.{Asked}
-use Rattle.nc_model.specs.declared.asked.Asked.TheVariants.{EditConfig, CopyConfig, CloseSession, Commit, DiscardChanges}
+use Rattle.nc_protocol.specs.declared.asked.Asked.{Asked}
+use Rattle.nc_protocol.specs.declared.asked.Asked.TheVariants.{EditConfig, CopyConfig, CloseSession, Commit, DiscardChanges}
 use Rattle.nc_model.specs.declared.entry.Entry.{Entry}
 use Rattle.nc_model.specs.declared.event.Event.{Event}
 use Rattle.nc_model.specs.declared.event.Event.TheVariants.{Start, Request as Requested, End, Reading}
 use Rattle.nc_model.specs.declared.event.Outcome.{Outcome}
 use Rattle.nc_model.specs.declared.event.Outcome.TheVariants.{Started, Full, Answered, NotLive, Ended, Noted}
-use Rattle.nc_model.specs.declared.request.Cause.{Cause}
-use Rattle.nc_model.specs.declared.request.Request.{Request}
-use Rattle.nc_model.specs.declared.verdict.Verdict.{Verdict}
-use Rattle.nc_model.specs.declared.verdict.Verdict.TheVariants.{Done, Refused}
+use Rattle.nc_protocol.specs.declared.request.Cause.{Cause}
+use Rattle.nc_protocol.specs.declared.request.Request.{Request}
+use Rattle.nc_protocol.specs.declared.verdict.Verdict.{Verdict}
+use Rattle.nc_protocol.specs.declared.verdict.Verdict.TheVariants.{Done, Refused}
 use Rattle.nc_model.specs.Access.{sees_of}
-use Rattle.nc_model.specs.Proper.{IsProperEvent}
-use Rattle.nc_model.specs.Reply.{reply_of}
+use Rattle.nc_model.specs.ProperEvents.{IsProperEvent}
+use Rattle.nc_protocol.specs.Reply.{reply_of}
 use Rattle.nc_model.specs.State.{State, candidate_in_force, expired, is_live, session_ended, most_sessions, last_session_id}
 use Rattle.nc_model.specs.Verdict.{verdict, edits_made, rows_set, copied}
 
+-- a fault of the disk
 abbrev pub is_of_disk : CauseKind → Bool
 is_of_disk DiskFault = true
 is_of_disk kind = false
@@ -32,6 +33,7 @@ abbrev pub has_disk_fault : Verdict → Bool
 has_disk_fault (Refused causes) = list_any (λ cause. is_of_disk cause.kind) causes
 has_disk_fault verdict = false
 
+-- what came of an event is a fault of the disk
 abbrev pub has_failed : Outcome → Bool
 has_failed (Answered verdict reply) = has_disk_fault verdict
 has_failed outcome = false
@@ -54,6 +56,7 @@ outcome_of s (Requested session request) failed =
 outcome_of s (End session) failed = if is_live s session then Ended else NotLive
 outcome_of s Reading failed = Noted
 
+-- the operation is done
 abbrev pub is_done : Verdict → Bool
 is_done Done = true
 is_done verdict = false
@@ -64,6 +67,7 @@ abbrev pub appends_record : Result Asked Cause → Bool
 appends_record (Ok (Commit confirmed timeout persist persist_id)) = not confirmed
 appends_record asked = false
 
+-- a commit is asked for (RFC 6241 8.3.4.1)
 abbrev pub is_commit : Result Asked Cause → Bool
 is_commit (Ok (Commit confirmed timeout persist persist_id)) = true
 is_commit asked = false
@@ -94,6 +98,7 @@ with_candidate s None = s
 with_candidate s (Some rows) =
     if is_same_rows rows (candidate_in_force s) then s else record s { candidate = Some rows }
 
+-- the rows, where there is no cause
 abbrev pub rows_of_ok : Result (List Row) Cause → Option (List Row)
 rows_of_ok (Ok rows) = Some rows
 rows_of_ok (Err cause) = None
@@ -110,6 +115,7 @@ changed_by s session DiscardChanges Done = record s { candidate = None }
 changed_by s session CloseSession Done = session_ended s session
 changed_by s session asked verdict = s
 
+-- the state after a request, by the verdict on it
 abbrev pub answered : State → ℕ → Result Asked Cause → Verdict → State
 answered s session (Err cause) verdict = s
 answered s session (Ok asked) verdict = changed_by s session asked verdict

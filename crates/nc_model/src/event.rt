@@ -1,6 +1,6 @@
 //! What happens to the server, and what comes of it.
-use crate::{Peer, Request, Verdict};
 use nc_message::Tree;
+use nc_protocol::{Peer, Request, Verdict};
 
 /// What happens to the server.
 #[derive(PartialEq, Eq, Debug, Drop)]

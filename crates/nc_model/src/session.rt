@@ -1,5 +1,5 @@
 //! Live sessions.
-use crate::Peer;
+use nc_protocol::Peer;
 
 /// A live session (RFC 6241 8.1).
 #[derive(PartialEq, Eq, Debug, Drop)]

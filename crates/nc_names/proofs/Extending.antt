@@ -11,4 +11,7 @@ extends_more old more e grown =
 
 pub extends_twice : {old mid new : List ℕ} → Extends old mid → Extends mid new → Extends old new
 extends_twice {old} first second =
-    record { more = first.more ++ second.more; is = second.is ∙ ap (λ x. x ++ second.more) first.is ∙ append_assoc old first.more second.more }
+    record {
+      more = first.more ++ second.more;
+      is = second.is ∙ ap (λ x. x ++ second.more) first.is ∙ append_assoc old first.more second.more;
+    }

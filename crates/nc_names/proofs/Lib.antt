@@ -1,3 +1,4 @@
+pub mod EndLemmas
 pub mod Extending
 pub mod SameLemmas
 pub mod StepOrder

@@ -27,7 +27,8 @@ name_decide a b =
         space = spaces.0 (first_true (is_same_text a.space b.space) (is_same_text a.name b.name) e) i;
         name = names.0 (second_true (is_same_text a.space b.space) (is_same_text a.name b.name) e) i;
       }),
-      (λ e. both_true (is_same_text a.space b.space) (is_same_text a.name b.name) (spaces.1 (λ i. (e i).space)) (names.1 (λ i. (e i).name))),
+      (λ e. both_true (is_same_text a.space b.space) (is_same_text a.name b.name)
+          (spaces.1 (λ i. (e i).space)) (names.1 (λ i. (e i).name))),
     )
 
 pub keys_decide : (a b : List (List ℕ)) → Decides (is_same_keys a b) (a ≡ b)
@@ -41,7 +42,8 @@ step_decide a b =
         node = numbers.0 (first_true (a.node == b.node) (is_same_keys a.keys b.keys) e) i;
         keys = keys.0 (second_true (a.node == b.node) (is_same_keys a.keys b.keys) e) i;
       }),
-      (λ e. both_true (a.node == b.node) (is_same_keys a.keys b.keys) (numbers.1 (λ i. (e i).node)) (keys.1 (λ i. (e i).keys))),
+      (λ e. both_true (a.node == b.node) (is_same_keys a.keys b.keys)
+          (numbers.1 (λ i. (e i).node)) (keys.1 (λ i. (e i).keys))),
     )
 
 pub step_itself : (step : Step) → is_same_step step step ≡ true
@@ -65,10 +67,13 @@ row_decide a b =
     let steps = path_decide a.path.steps b.path.steps in
     let values = value_decide a.value b.value in (
       (λ e i. record {
-        path = record { steps = steps.0 (first_true (is_same_path a.path.steps b.path.steps) (is_same_value a.value b.value) e) i };
+        path = record {
+          steps = steps.0 (first_true (is_same_path a.path.steps b.path.steps) (is_same_value a.value b.value) e) i;
+        };
         value = values.0 (second_true (is_same_path a.path.steps b.path.steps) (is_same_value a.value b.value) e) i;
       }),
-      (λ e. both_true (is_same_path a.path.steps b.path.steps) (is_same_value a.value b.value) (steps.1 (λ i. (e i).path.steps)) (values.1 (λ i. (e i).value))),
+      (λ e. both_true (is_same_path a.path.steps b.path.steps) (is_same_value a.value b.value)
+          (steps.1 (λ i. (e i).path.steps)) (values.1 (λ i. (e i).value))),
     )
 
 pub rows_decide : (a b : List Row) → Decides (is_same_rows a b) (a ≡ b)

@@ -18,7 +18,8 @@ is_eq_then Greater b = refl
 
 pub step_ties : (x y : Step) → is_eq (ghosts.cmp x y) ≡ is_same_step x y
 step_ties x y = is_eq_then (nat_cmp x.node y.node) (slice_cmp (slice_cmp nat_cmp) x.keys y.keys)
-    ∙ (λ i. unsigned_tied x.node y.node i && sym (lists_ties (slice_cmp nat_cmp) (λ a b. sym (is_eq-slice_cmp a b)) x.keys y.keys) i)
+    ∙ (λ i. unsigned_tied x.node y.node i
+    && sym (lists_ties (slice_cmp nat_cmp) (λ a b. sym (is_eq-slice_cmp a b)) x.keys y.keys) i)
 
 pub order_ties : (key other : List Step) → is_eq (slice_cmp ghosts.cmp key other) ≡ is_same_path key other
 order_ties key other = sym (lists_ties ghosts.cmp (λ x y. sym (step_ties x y)) key other)

@@ -3,6 +3,7 @@ use Rattle.std.proofs.Common.{◌≡◌, ◌^◌, ◌*◌, ◌-◌, ℕ, true, f
 use Rattle.std.specs.Prelude.{codes}
 use Rattle.nc_names.specs.declared.path.Step.{Step}
 use Rattle.nc_names.specs.Counts.{one_more}
+use Rattle.nc_names.specs.Ends.{trimmed}
 use Rattle.nc_names.specs.Identifiers.{is_identifier}
 use Rattle.nc_names.specs.Limits.{message_limit, piece_limit}
 use Rattle.nc_names.specs.Mark.{mark}
@@ -11,7 +12,10 @@ use Rattle.nc_names.specs.Signs.{blank, exclamation, quote, number_sign, ampersa
 
 -- the characters are those of ASCII
 signs : List ℕ
-signs = blank ∷ exclamation ∷ quote ∷ number_sign ∷ ampersand ∷ apostrophe ∷ asterisk ∷ plus ∷ hyphen ∷ dot ∷ slash ∷ colon ∷ semicolon ∷ less_than ∷ equals ∷ greater_than ∷ question ∷ opening_bracket ∷ backslash ∷ closing_bracket ∷ underscore ∷ opening_brace ∷ bar ∷ closing_brace ∷ []
+signs =
+    blank ∷ exclamation ∷ quote ∷ number_sign ∷ ampersand ∷ apostrophe ∷ asterisk ∷ plus ∷ hyphen ∷ dot ∷ slash ∷ colon
+    ∷ semicolon ∷ less_than ∷ equals ∷ greater_than ∷ question ∷ opening_bracket ∷ backslash ∷ closing_bracket
+    ∷ underscore ∷ opening_brace ∷ bar ∷ closing_brace ∷ []
 
 signs_are : signs ≡ codes " !\"#&'*+-./:;<=>?[\\]_{|}"
 unfolding signs
@@ -25,6 +29,16 @@ blank_is_white = refl
 
 hyphen_is_not_white : is_white hyphen ≡ false
 hyphen_is_not_white = refl
+
+-- white space within a text stays, and a no-break space is none
+ends_are_trimmed : trimmed (codes " \t\n\ra b \n") ≡ codes "a b"
+ends_are_trimmed = refl
+
+no_break_space_stays : trimmed (194 ∷ 160 ∷ blank ∷ []) ≡ 194 ∷ 160 ∷ []
+no_break_space_stays = refl
+
+white_alone_is_trimmed : trimmed (codes " \t ") ≡ []
+white_alone_is_trimmed = refl
 
 -- identifiers
 one_identifier : is_identifier (codes "_if-2.x") ≡ true
@@ -57,10 +71,13 @@ piece_limit_is = refl
 step : ℕ → List (List ℕ) → Step
 step number names = record { node = number; keys = names }
 
-below_the_container : is_at_or_below (step 0 [] ∷ []) (record { steps = step 0 [] ∷ step 1 (codes "a" ∷ []) ∷ [] }) ≡ true
+below_the_container :
+    is_at_or_below (step 0 [] ∷ []) (record { steps = step 0 [] ∷ step 1 (codes "a" ∷ []) ∷ [] }) ≡ true
 unfolding step
 below_the_container = refl
 
-not_below_another : is_at_or_below (step 0 [] ∷ step 1 (codes "b" ∷ []) ∷ []) (record { steps = step 0 [] ∷ step 1 (codes "a" ∷ []) ∷ [] }) ≡ false
+not_below_another :
+    is_at_or_below (step 0 [] ∷ step 1 (codes "b" ∷ []) ∷ [])
+    (record { steps = step 0 [] ∷ step 1 (codes "a" ∷ []) ∷ [] }) ≡ false
 unfolding step
 not_below_another = refl

@@ -8,5 +8,6 @@ abbrev pub is_identifier : List ℕ → Bool
 is_identifier [] = false
 is_identifier (first ∷ rest) = begins_identifier first && list_all is_in_identifier rest
 
+-- the same as a fact
 abbrev pub IsIdentifier : List ℕ → Type 0
 IsIdentifier text = IsTrue (is_identifier text)

@@ -10,6 +10,12 @@ pub trait Copies: Drop {
         ensures { IfOk result (λ it. it ≡ self.now) };
 }
 
+impl Copies for u32 {
+    fn copy(&self) -> Result<u32, Memory> {
+        Ok(*self)
+    }
+}
+
 impl<T: Copies> Copies for Option<T> {
     fn copy(&self) -> Result<Option<T>, Memory> {
         match self {

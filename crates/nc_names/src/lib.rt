@@ -27,6 +27,7 @@ mod shared;
 mod signs;
 mod slices;
 mod text;
+mod white;
 
 pub use bindings::Binds;
 pub use boxed::Boxed;
@@ -45,3 +46,4 @@ pub use shared::Shared;
 pub use signs::{begins_identifier, is_identifier, is_in_identifier, is_white};
 pub use slices::tail;
 pub use text::Text;
+pub use white::{after_white, trimmed, trimmed_bytes};

@@ -8,7 +8,9 @@ use crate::{Copies, Many, Memory, Text};
 /// empty `space` is no namespace. Names are ordered by the namespace, then by the local name.
 #[derive(PartialEq, Eq, PartialOrd, Ord, Hash, Debug, Drop)]
 pub struct QName {
+    /// The namespace.
     pub space: Text,
+    /// The local name.
     pub name: Text,
 }
 
@@ -33,7 +35,9 @@ pub fn same_name(a: &QName, b: &QName) -> bool
 /// namespace.
 #[derive(PartialEq, Eq, Hash, Debug, Drop)]
 pub struct Bound {
+    /// The prefix, without a colon.
     pub prefix: Text,
+    /// The namespace; an empty one takes the default namespace back.
     pub space: Text,
 }
 
@@ -50,8 +54,12 @@ impl Copies for Bound {
 /// an empty text where it has none, and the names of its features that are on.
 #[derive(PartialEq, Eq, Debug, Drop)]
 pub struct Module {
+    /// The name of the module.
     pub name: Text,
+    /// Its namespace.
     pub space: Text,
+    /// The date of its revision, as YYYY-MM-DD, or an empty text.
     pub revision: Text,
+    /// The names of its features that are on.
     pub features: Many<Text>,
 }

@@ -6,7 +6,9 @@ use crate::{Copies, Many, Memory, Text};
 /// keys at every other node, and where a path names a list or leaf-list without an entry.
 #[derive(PartialEq, Eq, PartialOrd, Ord, Hash, Debug, Drop)]
 pub struct Step {
+    /// The number of a data node of the schema.
     pub node: u32,
+    /// The canonical keys of the entry, or its one canonical value.
     pub keys: Many<Text>,
 }
 
@@ -23,6 +25,7 @@ impl Copies for Step {
 /// (RFC 7950 9.13).
 #[derive(PartialEq, Eq, PartialOrd, Ord, Hash, Debug, Drop)]
 pub struct Path {
+    /// The steps from the top.
     pub steps: Many<Step>,
 }
 
@@ -37,7 +40,9 @@ impl Copies for Path {
 /// A row of a configuration: a path and, at a leaf or a leaf-list entry, its canonical text.
 #[derive(PartialEq, Eq, Hash, Debug, Drop)]
 pub struct Row {
+    /// Where the row stands.
     pub path: Path,
+    /// The canonical text at a leaf or a leaf-list entry.
     pub value: Option<Text>,
 }
 
@@ -53,10 +58,15 @@ impl Copies for Row {
 /// An access operation that a rule permits or denies (RFC 8341 3.2.2).
 #[derive(Clone, Copy, PartialEq, Eq, Hash, Debug)]
 pub enum Right {
+    /// To read a node.
     Read,
+    /// To add a node.
     Create,
+    /// To change a node.
     Update,
+    /// To remove a node.
     Delete,
+    /// To call an operation.
     Exec,
 }
 
@@ -66,9 +76,13 @@ pub enum Right {
 pub enum Place {
     /// Without `insert`: a new entry goes last, and an existing one keeps its place.
     Kept,
+    /// Before all other entries.
     First,
+    /// After all other entries.
     Last,
+    /// Right before the anchor.
     Before(Many<Text>),
+    /// Right after the anchor.
     After(Many<Text>),
 }
 

@@ -2,10 +2,10 @@
 ghost use Rattle.std.specs.Prelude.{◌≡◌, ◌↔◌, IsTrue};
 ghost use Rattle.nc_names.specs.Same.{is_same_keys, is_same_path, is_same_rows};
 
-use crate::{Row, Step, Text};
+use crate::{Many, Row, Step, Text};
 
 /// Whether two lists of keys are the same: the same canonical texts in the same order.
-pub fn same_keys(a: &[Text], b: &[Text]) -> bool
+pub fn same_keys(a: &Many<Text>, b: &Many<Text>) -> bool
     ensures same { IsTrue result ↔ (a.now ≡ b.now) }
     ensures word { result ≡ is_same_keys a.now b.now }
 {

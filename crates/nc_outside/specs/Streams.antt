@@ -10,6 +10,7 @@ pub record Streams : Type 0 where
   pub taken : Option (List ℕ)
   pub writes_failed : ℕ
 
+-- these five, each by its name
 abbrev pub streams :
     (left : Option (List ℕ)) (ends reads_failed : ℕ) (taken : Option (List ℕ)) (writes_failed : ℕ) → Streams
 streams left ends reads_failed taken writes_failed = record {

@@ -16,7 +16,9 @@ use std::marker::Model;
 /// A file: its name, in which `/` separates the folders, and its bytes.
 #[derive(Debug, Drop, PartialEq, Eq)]
 pub struct NamedFile {
+    /// The name below the folder that is handed in.
     pub name: Text,
+    /// What the file holds.
     pub bytes: Bytes,
 }
 

@@ -7,8 +7,11 @@ use nc_names::Many;
 /// The numbers of the calls that are to fail, how many calls there were, and how many faults.
 #[derive(Debug, Drop)]
 pub struct Plan {
+    /// The numbers of the calls that fail.
     pub failing: Many<u64>,
+    /// How many calls there were; it stops at 2 ^ 64 - 1.
     pub calls: u64,
+    /// How many of them failed; it stops there too.
     pub faults: u64,
 }
 

@@ -1,15 +1,12 @@
 -- Where texts are cut.
-use Rattle.std.proofs.Common.{◌≡◌, ◌<◌, ◌+◌, ℕ, zero, suc, Bool, true, false, not, cond, eqb, List, [], ◌∷◌, Option, Some, None, MatchOption, Bor, length, take, drop, get_or, refl, sym, ap, subst, ◌∙◌, arith}
+use Rattle.std.proofs.Common.{◌≡◌, ◌<◌, ◌+◌, ℕ, suc, Bool, true, false, not, cond, eqb, List, [], ◌∷◌, Option, Some, None, MatchOption, Bor, length, take, drop, refl, sym, ap, subst, ◌∙◌, arith}
 use Rattle.std.specs.List.{prefix_len, position_or_len, before_first, after_first}
 use Rattle.std.specs.Prelude.{IsUtf8, IsCharBoundary, option_map}
 use Rattle.std.proofs.lemmas.Bool.Decides.{nat_tests}
-use Rattle.std.proofs.lemmas.List.Sums.{prefix_len-le-length, prefix_len_passes}
-use Rattle.std.proofs.lemmas.Str.{IsCharBoundary-after_ascii, IsCharBoundary-start}
-use Rattle.nc_names.specs.Signs.{is_in_identifier, is_white}
-use Rattle.nc_schema.specs.PathWords.{leading, past, up_to, begins_name, begins_with, identifier, sign}
-
-pub white_low : (c : ℕ) → is_white c ≡ true → c < 128
-white_low c h = grind (arith, nat_tests)
+use Rattle.std.proofs.lemmas.Str.{IsCharBoundary-after_ascii}
+use Rattle.nc_names.specs.Ends.{past}
+use Rattle.nc_names.specs.Signs.{is_in_identifier}
+use Rattle.nc_schema.specs.PathWords.{leading, up_to, begins_name, begins_with, identifier, sign}
 
 pub name_low : (c : ℕ) → is_in_identifier c ≡ true → c < 128
 name_low c h = grind (arith, nat_tests)
@@ -18,32 +15,9 @@ leading_step : (b : Bool) (c : ℕ) (cs rest : List ℕ) (n : ℕ) → take n cs
 leading_step true c cs rest n e = let next : 1 + n ≡ suc n = omega arith in rw next (ap (λ x. c ∷ x) e)
 leading_step false c cs rest n e = refl
 
-past_step : (b : Bool) (c : ℕ) (cs rest : List ℕ) (n : ℕ) → drop n cs ≡ rest → drop (cond b (1 + n) 0) (c ∷ cs) ≡ cond b rest (c ∷ cs)
-past_step true c cs rest n e = let next : 1 + n ≡ suc n = omega arith in rw next e
-past_step false c cs rest n e = refl
-
 pub leading_is : (p : ℕ → Bool) (xs : List ℕ) → take (prefix_len p xs) xs ≡ leading p xs
 leading_is p [] = refl
 leading_is p (c ∷ cs) = leading_step (p c) c cs (leading p cs) (prefix_len p cs) (leading_is p cs)
-
-pub past_is : (p : ℕ → Bool) (xs : List ℕ) → drop (prefix_len p xs) xs ≡ past p xs
-past_is p [] = refl
-past_is p (c ∷ cs) = past_step (p c) c cs (past p cs) (prefix_len p cs) (past_is p cs)
-
--- a text is cut after signs of ASCII
-after_low : (p : ℕ → Bool) (xs : List ℕ) (n : ℕ) → ((c : ℕ) → p c ≡ true → c < 128) → IsUtf8 xs → prefix_len p xs ≡ n → IsCharBoundary xs n
-after_low p xs zero low utf e = IsCharBoundary-start xs utf
-after_low p xs (suc k) low utf e =
-    let next : k + 1 ≡ suc k = omega arith in
-    subst (IsCharBoundary xs) next (IsCharBoundary-after_ascii xs k utf (omega (arith, e, prefix_len-le-length p xs)) (low (get_or xs k 0) (prefix_len_passes p xs k 0 (omega (arith, e)))))
-
--- the same of a text and its bytes
-pub cut_after : (p : ℕ → Bool) (text bytes : List ℕ) (n : ℕ) → ((c : ℕ) → p c ≡ true → c < 128) → n ≡ prefix_len p bytes → bytes ≡ text → IsUtf8 bytes → IsCharBoundary text n
-cut_after p text bytes n low count same utf = subst (λ (xs : List ℕ). IsCharBoundary xs n) same (after_low p bytes n low utf (sym count))
-
-pub past_at : (p : ℕ → Bool) (text bytes rest : List ℕ) (n : ℕ) → rest ≡ drop n text → n ≡ prefix_len p bytes → bytes ≡ text → rest ≡ past p text
-past_at p text bytes rest n cut count same =
-    cut ∙ ap (λ k. drop k text) (count ∙ ap (prefix_len p) same) ∙ past_is p text
 
 pub leading_at : (p : ℕ → Bool) (text bytes front : List ℕ) (n : ℕ) → front ≡ take n text → n ≡ prefix_len p bytes → bytes ≡ text → front ≡ leading p text
 leading_at p text bytes front n cut count same =

@@ -2,8 +2,9 @@
 use Rattle.std.proofs.Common.{◌≡◌, ℕ, Bool, true, false, cond, eqb, List, [], ◌∷◌, Option, Some, None, refl, ap, ◌∙◌}
 use Rattle.std.proofs.lemmas.Bool.Decides.{Decides-eqb}
 use Rattle.std.proofs.lemmas.Option.{cond_some}
+use Rattle.nc_names.specs.Ends.{after_white}
 use Rattle.nc_names.specs.Signs.{apostrophe, quote, dot, colon, equals, opening_bracket, closing_bracket}
-use Rattle.nc_schema.specs.PathWords.{after_white, begins_with, identifier, predicate, predicate_key, quoted_string, sign, up_to, written_name}
+use Rattle.nc_schema.specs.PathWords.{begins_with, identifier, predicate, predicate_key, quoted_string, sign, up_to, written_name}
 use Rattle.nc_schema.specs.declared.written.WrittenName.{WrittenName}
 
 -- a name

@@ -1,12 +1,1 @@
-pub mod Parts
 pub mod Prepend
-pub mod Stops
-pub mod Written
-pub mod Going
-pub mod Halting
-pub mod Candidates
-pub mod Places
-pub mod Counted
-pub mod Leafrefs
-pub mod LeafrefNames
-pub mod LeafrefPlaces

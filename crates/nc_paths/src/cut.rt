@@ -1,13 +1,13 @@
-//! Where a text is cut: at a sign, at the end of white space or of an identifier, at a quotation mark.
+//! Where a text is cut: at a sign, at the end of an identifier, at a quotation mark.
 ghost use Rattle.std.specs.Prelude.{◌≡◌, ◌<◌, ◌≤◌, None, Some, length, option_copied, MatchOption, IsCharBoundary};
 ghost use Rattle.std.specs.List.{prefix_len};
 ghost use Rattle.nc_names.specs.Signs as signs;
 ghost use Rattle.nc_schema.specs.PathWords as words;
 
-use nc_names::{begins_identifier, is_in_identifier, is_white};
+use nc_names::{begins_identifier, is_in_identifier};
 
 /// Whether the text begins with the byte.
-pub(crate) fn begins_with(text: &str, byte: u8) -> bool
+pub fn begins_with(text: &str, byte: u8) -> bool
     ensures { result ≡ words.begins_with byte text.now }
 {
     match text.as_bytes().first() {
@@ -17,7 +17,7 @@ pub(crate) fn begins_with(text: &str, byte: u8) -> bool
 }
 
 /// The text after an ASCII byte with which it begins.
-pub(crate) fn after_byte(text: &str, byte: u8) -> Option<&str>
+pub fn after_byte(text: &str, byte: u8) -> Option<&str>
     requires { byte < 128 }
     ensures { MatchOption result (words.sign byte text.now ≡ None) (λ x. words.sign byte text.now ≡ Some
         x.now) }
@@ -29,26 +29,11 @@ pub(crate) fn after_byte(text: &str, byte: u8) -> Option<&str>
     }
 }
 
-// How much white space stands first.
-fn count_white(bytes: &[u8]) -> usize
-    ensures { result ≡ prefix_len signs.is_white bytes.now }
-{
-    bytes.iter().take_while(|b| is_white(**b)).count()
-}
-
 // How many bytes stand first with which an identifier may go on.
 fn count_identifier(bytes: &[u8]) -> usize
     ensures { result ≡ prefix_len signs.is_in_identifier bytes.now }
 {
     bytes.iter().take_while(|b| is_in_identifier(**b)).count()
-}
-
-/// The text after white space.
-pub fn after_white(text: &str) -> &str
-    ensures { result.now ≡ words.after_white text.now }
-{
-    let count = count_white(text.as_bytes());
-    text.split_at(count).1
 }
 
 // Whether an identifier may begin with what stands first.

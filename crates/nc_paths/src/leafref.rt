@@ -2,8 +2,8 @@
 ghost use Rattle.std.specs.Prelude.{◌≡◌, ◌==◌, ◌∷◌, None, Some, IfOk, IfErr, option_copied};
 ghost use Rattle.std.specs.List.{slice_split};
 ghost use Rattle.nc_names.specs.Signs.{slash};
-ghost use Rattle.nc_paths.specs.inner.Parts.{IsNext, parts_of};
-ghost use Rattle.nc_paths.specs.inner.Stops.{OnRefused};
+ghost use Rattle.nc_paths.specs.Parts.{IsNext, parts_of};
+ghost use Rattle.nc_paths.specs.Stops.{OnRefused};
 ghost use Rattle.nc_schema.specs.InstancePaths as paths;
 
 use crate::cut::up_to;
@@ -17,7 +17,7 @@ use std::alloc::Global;
 
 /// What stands before the next slash, and the text after it, where there is one.
 #[tactic(auto, using(crate::proofs::LeafrefLemmas::part_cut, crate::proofs::LeafrefLemmas::part_last))]
-pub(crate) fn next_part(text: &str) -> (&str, Option<&str>)
+pub fn next_part(text: &str) -> (&str, Option<&str>)
     ensures parts { slice_split (λ c. c == slash) text.now ≡ result.0.now ∷ parts_of (option_copied
         result.1) }
     ensures next { IsNext text.now result.0.now (option_copied result.1) }
@@ -29,7 +29,7 @@ pub(crate) fn next_part(text: &str) -> (&str, Option<&str>)
 }
 
 /// The name of a step: `prefix:name`, or `name` in that namespace.
-pub(crate) fn leafref_name<B: Binds>(
+pub fn leafref_name<B: Binds>(
     alloc: Global,
     schema: &Schema,
     space: &Text,
@@ -113,7 +113,7 @@ fn leafref_below<B: Binds>(
 }
 
 /// The node above a node.
-pub(crate) fn parent_of(schema: &Schema, number: u32) -> Option<u32>
+pub fn parent_of(schema: &Schema, number: u32) -> Option<u32>
     ensures { result ≡ paths.parent_of schema.now number }
 {
     schema.node(number)?.parent

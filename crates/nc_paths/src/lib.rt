@@ -2,33 +2,23 @@
 //! identifiers (RFC 8341 3.5.2), the keys of an anchor (RFC 7950 7.8.6) and the paths of leafrefs
 //! (RFC 7950 9.9.2). It stands on the plain types of `nc_names` and on the schema.
 //!
-//! Each call answers exactly what the definitions of `nc_schema` say; keys are as they are written. What
-//! is not of the grammar, or names nothing in the schema, is refused, and `at` is the first byte that no
-//! path of the schema has there (clause `place`): of an instance identifier and a node-instance identifier
-//! where no predicate is of two keys of a list, as in every schema that modules define
-//! (`proper_keys_are_apart`), and of the path of a leafref in every schema.
+//! Each call answers exactly what the definitions of `nc_schema` say, or nothing exactly where they have nothing;
+//! keys are as they are written. The words, names and signs of path texts are read by calls of their own, on which
+//! `nc_path_places` stands: it says where a text is at fault.
 #![tactic(auto)]
 
-mod candidates;
 mod cut;
-mod fault;
-mod halt;
 mod instance;
-mod laws;
 mod leafref;
-mod leafref_place;
-mod leafref_ways;
-mod place;
 mod resolve;
 mod steps;
 mod stop;
 mod words;
 
-pub use cut::after_white;
-pub use fault::PathFault;
-pub use instance::{
-    entry_keys, instance_id, instance_path, leafref_end, leafref_path, node_instance_id,
-    node_pattern,
-};
-pub use laws::proper_keys_are_apart;
-pub use resolve::{key_nodes, module_of};
+pub use cut::{after_byte, begins_with};
+pub use instance::{entry_keys, instance_path, leafref_end, node_pattern};
+pub use leafref::{leafref_name, next_part, parent_of};
+pub use resolve::{is_of_key, key_nodes, module_of, qualified};
+pub use steps::own_name;
+pub use stop::Stop;
+pub use words::{Name, read_key, read_name, read_quoted};

@@ -1,7 +1,7 @@
 //! What written steps name in a schema.
 ghost use Rattle.std.specs.Prelude.{◌≡◌, false, None, Some, IfOk, IfErr, count_by, is_some, option_copied};
 ghost use Rattle.std.specs.Option.{option_map_or};
-ghost use Rattle.nc_paths.specs.inner.Stops.{OnRefused};
+ghost use Rattle.nc_paths.specs.Stops.{OnRefused};
 ghost use Rattle.nc_schema.specs.Bindings as modules;
 ghost use Rattle.nc_schema.specs.InstancePaths as paths;
 
@@ -35,7 +35,7 @@ fn module_named<'a, B: Binds>(
 }
 
 /// The qualified name for which a written one stands.
-pub(crate) fn qualified<B: Binds>(
+pub fn qualified<B: Binds>(
     schema: &Schema,
     bounds: &B,
     written: &WrittenName,
@@ -68,7 +68,7 @@ fn is_named<B: Binds>(schema: &Schema, bounds: &B, key: u32, written: &WrittenNa
 }
 
 /// Whether the predicate of an entry of the node is that of the key.
-pub(crate) fn is_of_key<B: Binds>(
+pub fn is_of_key<B: Binds>(
     schema: &Schema,
     bounds: &B,
     number: u32,
@@ -110,24 +110,13 @@ pub fn key_nodes(alloc: Global, schema: &Schema, number: u32) -> Result<Many<u32
         return Ok(nodes);
     };
     match node.kind {
-        Kind::List => copy_numbers(alloc, node.keys.as_slice()),
+        Kind::List => node.keys.copy(),
         Kind::LeafList => {
             nodes.push(number)?;
             Ok(nodes)
         }
         Kind::Container { .. } | Kind::Leaf => Ok(nodes),
     }
-}
-
-// The same numbers.
-fn copy_numbers(alloc: Global, numbers: &[u32]) -> Result<Many<u32>, Memory>
-    ensures { IfOk result (λ it. it ≡ numbers.now) }
-{
-    let mut copied = Many::new(alloc);
-    for number in numbers {
-        copied.push(*number)?;
-    }
-    Ok(copied)
 }
 
 // The values of the keys.

@@ -1,7 +1,7 @@
 //! The steps and predicates of a path text, with memory of their own.
-ghost use Rattle.std.specs.Prelude.{◌≡◌, [], ◌∷◌, ◌++◌, None, Some, length, option_map, IfOk, IfErr};
-ghost use Rattle.nc_paths.specs.inner.Stops.{OnRefused};
-ghost use Rattle.nc_paths.specs.inner.Written.{name_of, predicate_of};
+ghost use Rattle.std.specs.Prelude.{◌≡◌, [], ◌∷◌, ◌++◌, None, Some, length, IfOk, IfErr};
+ghost use Rattle.nc_paths.specs.Stops.{OnRefused};
+ghost use Rattle.nc_paths.specs.Written.{name_of, predicate_of};
 ghost use Rattle.nc_schema.specs.PathWords as words;
 ghost use Rattle.nc_schema.specs.declared.written.WrittenStep.{WrittenStep};
 
@@ -13,23 +13,13 @@ use nc_schema::{WrittenName, WrittenPredicate, WrittenStep};
 use std::alloc::Global;
 
 /// A name with memory of its own.
-pub(crate) fn own_name(alloc: Global, written: Name<'_>) -> Result<WrittenName, Memory>
+pub fn own_name(alloc: Global, written: Name<'_>) -> Result<WrittenName, Memory>
     ensures { IfOk result (λ it. it ≡ name_of written.entry) }
 {
     Ok(WrittenName {
         prefix: Text::from_text(alloc, written.prefix)?,
         name: Text::from_text(alloc, written.name)?,
     })
-}
-
-/// The key of a predicate with memory of its own.
-pub(crate) fn own_key(alloc: Global, key: Option<Name<'_>>) -> Result<Option<WrittenName>, Memory>
-    ensures { IfOk result (λ it. it ≡ option_map name_of key.entry) }
-{
-    match key {
-        Some(name) => Ok(Some(own_name(alloc, name)?)),
-        None => Ok(None),
-    }
 }
 
 // A predicate with memory of its own.

@@ -6,7 +6,7 @@ use nc_names::Memory;
 
 /// Why a text is not read.
 #[derive(Clone, Copy, PartialEq, Eq, Debug)]
-pub(crate) enum Stop {
+pub enum Stop {
     /// It is no such text.
     Refused,
     /// Want of memory.

@@ -1,15 +1,18 @@
 //! The words of a path text: names, values and predicates (RFC 7950 14).
 ghost use Rattle.std.specs.Prelude.{◌≡◌, None, Some, MatchOption};
-ghost use Rattle.nc_paths.specs.inner.Written.{ReadsName, ReadsKey, ReadsPredicate};
+ghost use Rattle.nc_paths.specs.Written.{ReadsName, ReadsKey, ReadsPredicate};
 ghost use Rattle.nc_schema.specs.PathWords as words;
 
-use crate::cut::{after_byte, after_white, begins_with, identifier, up_to};
+use crate::cut::{after_byte, begins_with, identifier, up_to};
+use nc_names::after_white;
 
 /// A name as it is written: its prefix and its identifier.
 #[derive(Clone, Copy)]
-pub(crate) struct Name<'a> {
-    pub(crate) prefix: &'a str,
-    pub(crate) name: &'a str,
+pub struct Name<'a> {
+    /// The prefix.
+    pub prefix: &'a str,
+    /// The identifier after the colon.
+    pub name: &'a str,
 }
 
 /// A predicate as it is written; without a name it is that of a leaf-list entry.
@@ -21,7 +24,7 @@ pub(crate) struct Predicate<'a> {
 
 /// `prefix:name`, and the text after it.
 #[tactic(auto, using(crate::proofs::WordLemmas::name_no_prefix, crate::proofs::WordLemmas::name_no_colon, crate::proofs::WordLemmas::name_no_name, crate::proofs::WordLemmas::name_whole))]
-pub(crate) fn read_name(text: &str) -> Option<(Name<'_>, &str)>
+pub fn read_name(text: &str) -> Option<(Name<'_>, &str)>
     ensures { ReadsName text.now result }
 {
     let (prefix, rest) = identifier(text)?;
@@ -32,7 +35,7 @@ pub(crate) fn read_name(text: &str) -> Option<(Name<'_>, &str)>
 
 /// A value between two quotation marks of one kind, and the text after it.
 #[tactic(auto, using(crate::proofs::WordLemmas::apostrophe_open, crate::proofs::WordLemmas::apostrophe_whole, crate::proofs::WordLemmas::no_mark, crate::proofs::WordLemmas::quote_open, crate::proofs::WordLemmas::quote_whole))]
-pub(crate) fn read_quoted(text: &str) -> Option<(&str, &str)>
+pub fn read_quoted(text: &str) -> Option<(&str, &str)>
     ensures { MatchOption result (words.quoted_string text.now ≡ None) (λ x. words.quoted_string text.now ≡
         Some (x.0.now, x.1.now)) }
 {
@@ -51,7 +54,7 @@ pub(crate) fn read_quoted(text: &str) -> Option<(&str, &str)>
 
 /// `prefix:name` or `.`, and the text after it.
 #[tactic(auto, using(crate::proofs::WordLemmas::key_dot, crate::proofs::WordLemmas::key_none, crate::proofs::WordLemmas::key_name))]
-pub(crate) fn read_key(text: &str) -> Option<(Option<Name<'_>>, &str)>
+pub fn read_key(text: &str) -> Option<(Option<Name<'_>>, &str)>
     ensures { ReadsKey text.now result }
 {
     if let Some(rest) = after_byte(text, b'.') {

@@ -13,8 +13,8 @@ use Rattle.nc_schema.specs.Standing.{cases_differ, cases_of}
 use Rattle.nc_schema.specs.Tables.{Tables}
 use Rattle.nc_schema.specs.declared.node.Case.{Case}
 use Rattle.nc_schema.specs.declared.node.Node.{Node}
-use Rattle.nc_model.specs.Faults.{clashes, stands_once}
-use Rattle.nc_model.specs.declared.position.Under.{Under}
+use Rattle.nc_protocol.specs.Faults.{clashes, stands_once}
+use Rattle.nc_protocol.specs.declared.position.Under.{Under}
 use Rattle.nc_payload.specs.inner.Earlier.{AddsNumber, AddsStep, AreNumbersOf, AreStepsOf}
 
 turned : (s b : Bool) → cond s true b ≡ (b || s)

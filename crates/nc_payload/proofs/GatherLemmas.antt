@@ -22,13 +22,13 @@ use Rattle.nc_schema.specs.Blocks.{at_node, rows_of_node, with_block}
 use Rattle.nc_schema.specs.Kinds.{has_value}
 use Rattle.nc_schema.specs.Standing.{block_at, excludes, exists, has_row, is_by_user, is_less, steps_before}
 use Rattle.nc_schema.specs.Tables.{Tables}
-use Rattle.nc_model.specs.Edited.{left_by}
-use Rattle.nc_model.specs.declared.edit.Action.TheVariants.{Merge}
-use Rattle.nc_model.specs.declared.edit.Edit.{Edit}
-use Rattle.nc_model.proofs.ListLemmas.{all_one, contains_behind, contains_split, fold_join, last_cut, same_before, some_same, too_long}
-use Rattle.nc_model.proofs.Parts.{all_at, all_from, contains_kept}
-use Rattle.nc_model.proofs.PathViews.{IsLower}
-use Rattle.nc_model.proofs.PlaceLemmas.{below_is_below, less_is}
+use Rattle.nc_protocol.specs.Edited.{left_by}
+use Rattle.nc_protocol.specs.declared.edit.Action.TheVariants.{Merge}
+use Rattle.nc_protocol.specs.declared.edit.Edit.{Edit}
+use Rattle.nc_protocol.proofs.ListLemmas.{all_one, contains_behind, contains_split, fold_join, last_cut, same_before, some_same, too_long}
+use Rattle.nc_protocol.proofs.Parts.{all_at, all_from, contains_kept}
+use Rattle.nc_protocol.proofs.PathViews.{IsLower}
+use Rattle.nc_protocol.proofs.PlaceLemmas.{below_is_below, less_is}
 use Rattle.nc_payload.proofs.HeldLemmas.{AreBeside, IsApart, is_apart, known_at, none_excludes, row_seen}
 use Rattle.nc_payload.proofs.MarkLemmas.{marks_total}
 use Rattle.nc_payload.proofs.PutLemmas.{all_kept, climbs_all, contains_either, cut_rows, first_before, first_or_behind, is_first, kept_true, none_in, none_kept, put_all, put_entry, same_kept, sorted_behind}

@@ -15,13 +15,13 @@ use Rattle.nc_schema.specs.Order.{keys_above}
 use Rattle.nc_schema.specs.Standing.{cases_differ, cases_of, entries, excludes, has_entry, has_row, is_by_user, keys_in, kept_or_last, place_at, placed, sibling_before, stands_before, steps_before}
 use Rattle.nc_schema.specs.Tables.{Tables}
 use Rattle.nc_schema.specs.declared.node.Case.{Case}
-use Rattle.nc_model.proofs.AboveLemmas.{path_decide_to, some_passes}
-use Rattle.nc_model.proofs.CaseLemmas.{cases_agree}
-use Rattle.nc_model.proofs.EntryLemmas.{has_its_entry, keys_back}
+use Rattle.nc_protocol.proofs.AboveLemmas.{path_decide_to, some_passes}
+use Rattle.nc_protocol.proofs.CaseLemmas.{cases_agree}
+use Rattle.nc_protocol.proofs.EntryLemmas.{has_its_entry, keys_back}
 use Rattle.std.proofs.lemmas.List.{append_cancel_left}
-use Rattle.nc_model.proofs.ListLemmas.{contains_behind, some_same}
-use Rattle.nc_model.proofs.Parts.{all_at}
-use Rattle.nc_model.proofs.PathViews.{IsHigher, IsLower, IsParting, before_higher, before_parting, below_higher, below_parting, excludes_higher, excludes_lower, excludes_parting, node_after, view}
+use Rattle.nc_protocol.proofs.ListLemmas.{contains_behind, some_same}
+use Rattle.nc_protocol.proofs.Parts.{all_at}
+use Rattle.nc_protocol.proofs.PathViews.{IsHigher, IsLower, IsParting, before_higher, before_parting, below_higher, below_parting, excludes_higher, excludes_lower, excludes_parting, node_after, view}
 use Rattle.nc_payload.proofs.MarkLemmas.{AreSides, are_sides, higher_marks, last_marks, parting_marks, sides, user_sides}
 use Rattle.nc_payload.proofs.PutLemmas.{first_before, is_first, sorted_behind}
 use Rattle.nc_payload.proofs.TurnLemmas.{AreBelow, IsBelow, Keys, Rises, kept_turns}

@@ -15,7 +15,7 @@ use Rattle.nc_schema.proofs.OrderLemmas.{same_node}
 use Rattle.nc_schema.specs.Order.{keys_above, sibling_place}
 use Rattle.nc_schema.specs.Standing.{entry_before, is_by_user, is_less, sibling_before, stands_before}
 use Rattle.nc_schema.specs.Tables.{Tables}
-use Rattle.nc_model.proofs.PathViews.{node_after}
+use Rattle.nc_protocol.proofs.PathViews.{node_after}
 use Rattle.nc_payload.specs.contracts.marks.MarkOrd.TheImpl.{ghosts as of_marks}
 use Rattle.nc_payload.specs.declared.marks.Mark.{Mark}
 use Rattle.nc_payload.specs.inner.Marks.{in_marks, mark, marks, marks_from}

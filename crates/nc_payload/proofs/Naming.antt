@@ -10,7 +10,7 @@ use denote.Hole.Carrier.{hidden}
 use Rattle.nc_schema.specs.declared.node.Case.{Case}
 use Rattle.nc_schema.specs.Standing.{cases_differ}
 use Rattle.nc_schema.specs.Values.{Gives, canonical_keys}
-use Rattle.nc_model.specs.Elements.{elem_of}
+use Rattle.nc_protocol.specs.Elements.{elem_of}
 
 -- the element that a child is
 pub elem_is : (e : Elem) → elem_of (Child e) ≡ Some e

@@ -18,11 +18,11 @@ use Rattle.nc_message.specs.declared.tree.Part.TheVariants.{Child}
 use Rattle.nc_message.specs.declared.tree.Part.TheBlock.{Row_of-Elem, end_of-Elem, more_of-Elem, items-the_row-Part, items_hidden-the_row-Part-0}
 use Rattle.nc_message.specs.declared.tree.Part.TheBlock.{hidden-the_row-Part-0, hidden-the_row-Elem-1}
 use denote.Hole.Carrier.{hidden}
-use Rattle.nc_model.specs.declared.request.Cause.{Cause}
-use Rattle.nc_model.specs.Elements.{Reading, Named, keys_read, named}
-use Rattle.nc_model.specs.Payload.{element_places, if_read, is_at_fault, part_places, parts_places, places_at}
-use Rattle.nc_model.proofs.ListLemmas.{last_cut}
-use Rattle.nc_model.proofs.PlaceLemmas.{below_is_below}
+use Rattle.nc_protocol.specs.declared.request.Cause.{Cause}
+use Rattle.nc_protocol.specs.Elements.{Reading, Named, keys_read, named}
+use Rattle.nc_protocol.specs.Payload.{element_places, if_read, is_at_fault, part_places, parts_places, places_at}
+use Rattle.nc_protocol.proofs.ListLemmas.{last_cut}
+use Rattle.nc_protocol.proofs.PlaceLemmas.{below_is_below}
 use Rattle.nc_payload.specs.declared.payload_paths.Places.{Places}
 use Rattle.nc_payload.specs.inner.Places.{AddsPlace, AddsPlaces, HasAbove, ends_at, has, inside_places, is_above_any, order}
 

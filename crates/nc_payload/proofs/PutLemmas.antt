@@ -12,7 +12,7 @@ use Rattle.std.specs.declared.cmp.Ordering.{Ordering}
 use Rattle.std.specs.declared.cmp.Ordering.TheVariants.{Less, Equal, Greater}
 use Rattle.nc_names.specs.declared.path.Row.{Row}
 use Rattle.nc_schema.specs.Tables.{Tables}
-use Rattle.nc_model.proofs.ListLemmas.{contains_behind}
+use Rattle.nc_protocol.proofs.ListLemmas.{contains_behind}
 use Rattle.nc_payload.proofs.MarkLemmas.{marks_total}
 use Rattle.nc_payload.specs.declared.marks.Mark.{Mark}
 use Rattle.nc_payload.specs.declared.marks.Turns.{Turns}

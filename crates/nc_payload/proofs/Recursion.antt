@@ -5,16 +5,16 @@ use Rattle.std.specs.Prelude.{Result, Ok, Err}
 use Rattle.nc_message.specs.declared.tree.Elem.{Elem}
 use Rattle.nc_message.specs.declared.tree.Part.{Part}
 use Rattle.nc_names.specs.declared.path.Step.{Step}
-use Rattle.nc_model.specs.declared.edit.Edit.{Edit}
-use Rattle.nc_model.specs.declared.request.Cause.{Cause}
-use Rattle.nc_model.specs.declared.position.Position.{Position}
+use Rattle.nc_protocol.specs.declared.edit.Edit.{Edit}
+use Rattle.nc_protocol.specs.declared.request.Cause.{Cause}
+use Rattle.nc_protocol.specs.declared.position.Position.{Position}
 use Rattle.nc_payload.specs.declared.own.Found.{Found}
 use Rattle.nc_payload.specs.declared.payload.PayloadFault.{PayloadFault}
 use Rattle.nc_payload.specs.declared.payload.PayloadFault.TheVariants.{Bad, Memory}
-use Rattle.nc_model.specs.Payload.{part_edits, list_edits, elem_edits, with_more, made}
-use Rattle.nc_model.specs.Faults.{inside}
+use Rattle.nc_protocol.specs.Payload.{part_edits, list_edits, elem_edits, with_more, made}
+use Rattle.nc_protocol.specs.Faults.{inside}
 use Rattle.nc_payload.specs.inner.Reads.{Answers, Owns}
-use Rattle.nc_model.specs.Elements.{Reading, with_step}
+use Rattle.nc_protocol.specs.Elements.{Reading, with_step}
 
 pub answers_ok : {A : Type 0} (defined : Result A Cause) (it : A) → Answers defined (Ok it) → defined ≡ Ok it
 answers_ok (Ok other) it same = ap (λ x. Ok x) (sym same)

@@ -2,20 +2,19 @@
 ghost use Rattle.std.specs.Prelude.{◌≡◌, [], ◌∷◌, false, IfOk, option_map};
 ghost use Rattle.std.specs.Option.{option_copied};
 ghost use Rattle.std.specs.List.{find, list_any};
-ghost use Rattle.nc_model.specs.Edited as edited;
-ghost use Rattle.nc_schema.specs.Kinds as kinds;
-ghost use Rattle.nc_model.specs.Attributes as meant;
+ghost use Rattle.nc_protocol.specs.Edited as edited;
+ghost use Rattle.nc_protocol.specs.Attributes as meant;
 ghost use Rattle.nc_payload.specs.inner.Reads.{meaning};
-ghost use Rattle.nc_model.specs.Payload.{reading_of};
+ghost use Rattle.nc_protocol.specs.Payload.{reading_of};
 
 use crate::causes::{cause_in, two_names};
 use crate::elements::{Named, is_key, one_text, steps_to};
 use crate::texts::{canonical, canonical_entry};
 use crate::words;
 use nc_message::Attr;
-use nc_model::{Cause, EditOperation, Position, Under};
 use nc_names::{CauseKind, Many, Memory, Place, Text};
-use nc_schema::{Kind, Node, Schema};
+use nc_protocol::{Cause, EditOperation, Position, Under};
+use nc_schema::{Node, Schema};
 use std::alloc::Global;
 
 fn is_operation(attr: &Attr) -> bool
@@ -100,17 +99,10 @@ fn takes_operation(under: Under, key: bool, operation: EditOperation) -> bool
     }
 }
 
-/// Whether a node of the kind has a value (RFC 7950 7.6, 7.7).
-pub(crate) fn has_value(kind: Kind) -> bool
-    ensures { result ≡ kinds.has_value kind }
-{
-    matches!(kind, Kind::Leaf | Kind::LeafList)
-}
-
 fn anchor_word(node: &Node) -> &'static str
     ensures { result.now ≡ edited.anchor_word node.now }
 {
-    if has_value(node.kind) {
+    if node.kind.has_value() {
         words::value_word()
     } else {
         words::key_word()
@@ -153,7 +145,7 @@ fn anchor_in(
     ensures { IfOk result (λ it. it ≡
         meant.anchor_in (reading_of schema.now) (meaning named.entry) attr.now) }
 {
-    if has_value(named.node.kind) {
+    if named.node.kind.has_value() {
         return anchor_value(alloc, schema, named, attr);
     }
     canonical_entry(

@@ -1,9 +1,9 @@
 //! Causes of faults in a payload.
 ghost use Rattle.std.specs.Prelude.{◌≡◌, ◌∷◌, [], IfOk};
-ghost use Rattle.nc_model.specs.Attributes as meant;
+ghost use Rattle.nc_protocol.specs.Attributes as meant;
 
-use nc_model::Cause;
 use nc_names::{CauseKind, Copies, Many, Memory, Path, Step, Text};
+use nc_protocol::Cause;
 use std::alloc::Global;
 
 fn path_of(steps: Many<Step>) -> Option<Path>

@@ -6,16 +6,15 @@ ghost use Rattle.std.specs.Option.{option_copied};
 ghost use Rattle.nc_names.specs.Signs as signs;
 ghost use Rattle.nc_schema.specs.Order.{keys_above};
 ghost use Rattle.nc_schema.specs.Children as children;
-ghost use Rattle.nc_model.specs.Elements as meant;
+ghost use Rattle.nc_protocol.specs.Elements as meant;
 ghost use Rattle.nc_payload.specs.inner.Reads.{Answers, meaning};
-ghost use Rattle.nc_model.specs.Payload.{reading_of};
+ghost use Rattle.nc_protocol.specs.Payload.{reading_of};
 
-use crate::attributes::has_value;
 use crate::earlier::Earlier;
 use crate::texts::canonical;
 use nc_message::{Elem, Part};
-use nc_model::{Position, Under};
 use nc_names::{Copies, Many, Memory, QName, Step, Text, is_white};
+use nc_protocol::{Position, Under};
 use nc_schema::{Kind, Node, Schema};
 use std::alloc::Global;
 
@@ -249,7 +248,7 @@ fn keys_of(
 ) -> Result<Many<Text>, Memory>
     ensures { IfOk result (λ it. it ≡ meant.keys_of (reading_of schema.now) under (meaning named.entry)) }
 {
-    if is_dropped(under) && has_value(named.node.kind) {
+    if is_dropped(under) && named.node.kind.has_value() {
         return Ok(Many::new(alloc));
     }
     match keys_read(alloc, schema, named)? {

@@ -4,11 +4,11 @@ ghost use Rattle.std.specs.List.{list_any};
 ghost use Rattle.nc_names.specs.Same as same;
 ghost use Rattle.nc_names.specs.Same.{is_same_text};
 ghost use Rattle.nc_schema.specs.Standing as standing;
-ghost use Rattle.nc_model.specs.Faults as meant;
+ghost use Rattle.nc_protocol.specs.Faults as meant;
 ghost use Rattle.nc_payload.specs.inner.Reads.{meaning};
-ghost use Rattle.nc_model.specs.Payload.{reading_of};
+ghost use Rattle.nc_protocol.specs.Payload.{reading_of};
 
-use crate::attributes::{attributes_fault, has_value, operation_of};
+use crate::attributes::{attributes_fault, operation_of};
 use crate::causes::{cause_in, one_name, two_names};
 use crate::earlier::Earlier;
 use crate::elements::{
@@ -16,8 +16,8 @@ use crate::elements::{
     steps_to, value_in,
 };
 use nc_message::{Attr, Part};
-use nc_model::{Cause, EditOperation, Position, Under};
 use nc_names::{CauseKind, Copies, Many, Memory, QName, Step, Text};
+use nc_protocol::{Cause, EditOperation, Position, Under};
 use nc_schema::{Kind, Node, Schema};
 use std::alloc::Global;
 
@@ -39,7 +39,7 @@ fn has_clash(schema: &Schema, under: Under, node: &Node, step: &Step, earlier: &
 fn has_bad_content(kind: Kind, parts: &Many<Part>) -> bool
     ensures { result ≡ meant.has_bad_content kind parts.now }
 {
-    if has_value(kind) {
+    if kind.has_value() {
         has_child(parts)
     } else {
         has_text(parts)

@@ -6,17 +6,16 @@ ghost use Rattle.nc_names.specs.declared.path.Place.TheVariants.{Kept};
 ghost use Rattle.nc_schema.specs.Blocks.{at_node};
 ghost use Rattle.nc_schema.specs.Kinds as kinds;
 ghost use Rattle.nc_schema.specs.Standing.{cases_of, is_less};
-ghost use Rattle.nc_model.specs.Edited.{left_by};
-ghost use Rattle.nc_model.specs.declared.edit.Action.TheVariants.{Merge};
+ghost use Rattle.nc_protocol.specs.Edited.{left_by};
+ghost use Rattle.nc_protocol.specs.declared.edit.Action.TheVariants.{Merge};
 ghost use Rattle.nc_payload.specs.inner.Marks.{in_marks};
 ghost use Rattle.nc_payload.specs.inner.Gathered as meant;
 ghost use Rattle.nc_payload.specs.inner.Gathered.{AreBelow, AreChosen, Climbs, Gathers, IsFree};
 ghost use Rattle.nc_payload.specs.inner.Gathered.{Receives, TakesPlace, TakesRow, TakesRows};
 
-use crate::attributes::has_value;
 use crate::marks::{Mark, Turns, is_by_user, marks_of, turn_of};
-use nc_model::{Action, Edit};
 use nc_names::{Copies, Many, Memory, Path, Place, Row, Step, Text, same_rows, same_steps};
+use nc_protocol::{Action, Edit};
 use nc_schema::{Case, Schema};
 use nc_tree::{node_of, rows_of_node};
 use std::alloc::Global;
@@ -75,7 +74,7 @@ fn is_leaf(schema: &Schema, steps: &Many<Step>) -> bool
     ensures { result ≡ at_node schema.now (record { steps = steps.now }) kinds.has_value }
 {
     match node_of(schema, steps.as_slice()) {
-        Some(node) => has_value(node.kind),
+        Some(node) => node.kind.has_value(),
         None => false,
     }
 }

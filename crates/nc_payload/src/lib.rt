@@ -1,7 +1,7 @@
 //! Payloads of edit-config, copy-config and validate (RFC 6241 7.2, 7.3 and 8.6.4): `edits` reads the
 //! edits of an edit-config's `config`, `rows` the configuration that an inline `config` holds, and `Names`
 //! is the paths that the payload of a request names. It stands on the trees of `nc_message`, the schema of
-//! `nc_schema` with `nc_paths` and `nc_types`, the definitions of `nc_model`, the configurations of
+//! `nc_schema` with `nc_paths` and `nc_types`, the definitions of `nc_protocol`, the configurations of
 //! `nc_tree` and the edits of `nc_edit`.
 //!
 //! The first two answer exactly what `edits_of` and `rows_of` define: the edits or rows, or the first fault

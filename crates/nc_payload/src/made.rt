@@ -1,12 +1,12 @@
 //! The edits of an element, from its operation and the edits of what is in it.
 ghost use Rattle.std.specs.Prelude.{◌≡◌, ◌∷◌, IfOk};
-ghost use Rattle.nc_model.specs.Payload as meant;
+ghost use Rattle.nc_protocol.specs.Payload as meant;
 ghost use Rattle.nc_payload.specs.inner.Reads.{edit_at};
 
 use crate::gather::in_order;
 use nc_edit::make;
-use nc_model::{Action, Edit, EditOperation, Under};
 use nc_names::{Copies, Many, Memory, Path, Place, Row};
+use nc_protocol::{Action, Edit, EditOperation, Under};
 use nc_schema::Schema;
 use nc_tree::Config;
 use std::alloc::Global;

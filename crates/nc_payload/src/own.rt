@@ -1,19 +1,19 @@
 //! One element of a payload, without its children.
 ghost use Rattle.std.specs.Prelude.{◌≡◌, if◌then◌else◌, None, IfOk};
 ghost use Rattle.nc_schema.specs.Kinds as kinds;
-ghost use Rattle.nc_model.specs.Payload.{merge_of};
-ghost use Rattle.nc_model.specs.Elements.{value_in};
+ghost use Rattle.nc_protocol.specs.Payload.{merge_of};
+ghost use Rattle.nc_protocol.specs.Elements.{value_in};
 ghost use Rattle.nc_payload.specs.inner.Reads.{Owns, OwnsNamed, meaning};
-ghost use Rattle.nc_model.specs.Payload.{reading_of};
+ghost use Rattle.nc_protocol.specs.Payload.{reading_of};
 
-use crate::attributes::{has_value, operation_of, place_of};
+use crate::attributes::{operation_of, place_of};
 use crate::earlier::Earlier;
 use crate::elements::{Named, find_named, steps_to};
 use crate::faults::{inside, own_fault, unknown_cause};
 use crate::{PayloadFault, elements};
 use nc_message::Elem;
-use nc_model::{Action, Edit, EditOperation, Position};
 use nc_names::{Many, Memory, Path, Place, Step, Text};
+use nc_protocol::{Action, Edit, EditOperation, Position};
 use nc_schema::Schema;
 use std::alloc::Global;
 
@@ -49,7 +49,7 @@ fn merged_value(alloc: Global, schema: &Schema, named: Named<'_>) -> Result<Opti
         (if kinds.has_value named.entry.node.now.kind then value_in (reading_of schema.now)
         (meaning named.entry) else None)) }
 {
-    if has_value(named.node.kind) {
+    if named.node.kind.has_value() {
         return elements::value_in(alloc, schema, named);
     }
     Ok(None)

@@ -1,9 +1,9 @@
 //! The edits of a payload.
 ghost use Rattle.std.specs.Prelude.{◌≡◌, [], ◌∷◌};
-ghost use Rattle.nc_model.specs.Payload as meant;
-ghost use Rattle.nc_model.specs.Payload.{elem_edits, part_edits, list_edits};
+ghost use Rattle.nc_protocol.specs.Payload as meant;
+ghost use Rattle.nc_protocol.specs.Payload.{elem_edits, part_edits, list_edits};
 ghost use Rattle.nc_payload.specs.inner.Reads.{Answers};
-ghost use Rattle.nc_model.specs.Payload.{reading_of};
+ghost use Rattle.nc_protocol.specs.Payload.{reading_of};
 
 use crate::causes::{cause_in, one_name};
 use crate::earlier::Earlier;
@@ -11,8 +11,8 @@ use crate::elements::{has_text, remember};
 use crate::made::{config_merged, made_from};
 use crate::own::own;
 use nc_message::{Elem, Part};
-use nc_model::{Cause, Default3, Edit, EditOperation, Position, Under};
 use nc_names::{CauseKind, Many, Memory, Step};
+use nc_protocol::{Cause, Default3, Edit, EditOperation, Position, Under};
 use nc_schema::Schema;
 use nc_tree::Config;
 use std::alloc::Global;

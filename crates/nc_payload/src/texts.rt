@@ -1,7 +1,7 @@
 //! Values and keys as the schema's types read them.
 ghost use Rattle.std.specs.Prelude.{◌≡◌, IfOk};
 ghost use Rattle.nc_schema.specs.Values as values;
-ghost use Rattle.nc_model.specs.Payload as payload;
+ghost use Rattle.nc_protocol.specs.Payload as payload;
 
 use nc_message::Bounds;
 use nc_names::{Many, Memory, Text};

@@ -7,14 +7,14 @@ use Rattle.std.proofs.lemmas.Bool.{lt-ltb, ltb-true}
 use Rattle.std.proofs.lemmas.Bool.Decides.{Decides-eqb}
 use Rattle.std.proofs.lemmas.List.Folds.{list_any_at}
 use Rattle.std.proofs.lemmas.List.Splits.{slice_split_at, slice_split_none}
+use Rattle.nc_names.specs.Ends.{past, trimmed, without_last}
 use Rattle.nc_names.specs.Same.{is_same_text}
 use Rattle.nc_names.specs.Signs.{blank, is_white}
-use Rattle.nc_schema.specs.PathWords.{past, without_last}
-use Rattle.nc_schema.specs.Values.{bits_text, trimmed, words_of}
-use Rattle.nc_model.proofs.AboveLemmas.{some_passes}
-use Rattle.nc_model.proofs.BoolLemmas.{is_false}
-use Rattle.nc_model.proofs.ListLemmas.{contains_behind}
-use Rattle.nc_model.proofs.Parts.{contains_kept, kept_contains, kept_true}
+use Rattle.nc_schema.specs.Values.{bits_text, words_of}
+use Rattle.nc_protocol.proofs.AboveLemmas.{some_passes}
+use Rattle.nc_protocol.proofs.BoolLemmas.{is_false}
+use Rattle.nc_protocol.proofs.ListLemmas.{contains_behind}
+use Rattle.nc_protocol.proofs.Parts.{contains_kept, kept_contains, kept_true}
 use Rattle.nc_print.proofs.SimpleAgain.{passed}
 use Rattle.nc_print.proofs.TrimAgain.{HasNoWhite, IsTrimmed, begins_past, kept_whole, left_true, not_true, right_true}
 

@@ -4,7 +4,7 @@ use Rattle.nc_names.specs.declared.name.Bound.{Bound}
 use Rattle.nc_schema.specs.Proper.{IsProperSchema}
 use Rattle.nc_schema.specs.Tables.{Tables}
 use Rattle.nc_schema.specs.Values.{Gives, IsCanonical, canonical, text_within}
-use Rattle.nc_model.specs.ModuleNames.{value_bounds}
+use Rattle.nc_protocol.specs.ModuleNames.{value_bounds}
 use Rattle.nc_print.proofs.InstancePathsBack.{instances_again, instances_same}
 use Rattle.nc_print.proofs.NodePaths.{nodes_again, nodes_same}
 use Rattle.nc_print.proofs.ValuesAgain.{KeysAgain, PathsAgain, node_keys, node_printed}

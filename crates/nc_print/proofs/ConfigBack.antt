@@ -6,10 +6,10 @@ use Rattle.std.specs.Prelude.{Err, fold}
 use Rattle.std.specs.List.{Contains}
 use Rattle.nc_names.specs.declared.cause.CauseKind.TheVariants.{BadElement}
 use Rattle.nc_names.specs.declared.path.Row.{Row}
-use Rattle.nc_model.specs.Attributes.{cause_in}
-use Rattle.nc_model.specs.Elements.{has_text}
-use Rattle.nc_model.specs.Payload.{list_edits}
-use Rattle.nc_model.specs.Printed.{longest}
+use Rattle.nc_protocol.specs.Attributes.{cause_in}
+use Rattle.nc_protocol.specs.Elements.{has_text}
+use Rattle.nc_protocol.specs.Payload.{list_edits}
+use Rattle.nc_protocol.specs.Printed.{longest}
 use Rattle.nc_print.proofs.PartsLemmas.{printed_holds_no_text}
 use Rattle.nc_print.specs.Laws.{inline_at}
 use Rattle.nc_print.specs.Laws.{PrintedIsMerges}

@@ -2,7 +2,7 @@
 use Rattle.std.proofs.Common.{◌≡◌, Bool, true, false, cond, List, [], ◌∷◌, ◌++◌, refl, ap, ◌∙◌}
 use Rattle.std.specs.List.{flat_map}
 use Rattle.nc_names.specs.declared.path.Row.{Row}
-use Rattle.nc_model.specs.Printed.{cut, onto_cut}
+use Rattle.nc_protocol.specs.Printed.{cut, onto_cut}
 
 abbrev pub Chain : (Row → Row → Bool) → Row → List Row → Type 0
 Chain goes row [] = Unit {0}

@@ -10,10 +10,9 @@ use Rattle.std.proofs.Math.Nat.{div-div-eq-div-mul, div-le_self, pow-suc}
 use Rattle.std.proofs.lemmas.Bool.{lt-ltb, ltb-true}
 use Rattle.std.proofs.lemmas.Bool.Decides.{nat_tests, Decides-eqb}
 use Rattle.std.proofs.lemmas.Fmt.{decimal_is_IsNumeral_wide}
+use Rattle.nc_names.specs.Ends.{trimmed, without_last}
 use Rattle.nc_names.specs.Signs.{dot, hyphen, is_white}
 use Rattle.nc_schema.specs.NumberTexts.{decimal_text, fraction_of, has_128_bits, in_range, is_among, last_digits, number_of, shortened, units_of, units_text, without_point, zero_digit}
-use Rattle.nc_schema.specs.PathWords.{without_last}
-use Rattle.nc_schema.specs.Values.{trimmed}
 use Rattle.nc_schema.specs.declared.value_type.Between.{Between}
 use Rattle.nc_print.proofs.SimpleAgain.{digits_are, digits_are_black, digits_number, number_small, numeral_is}
 use Rattle.nc_print.proofs.TrimAgain.{HasNoWhite, left_true, no_white, right_true}

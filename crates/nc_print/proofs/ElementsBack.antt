@@ -8,11 +8,11 @@ use Rattle.nc_schema.specs.Proper.{IsProperSchema}
 use Rattle.nc_schema.specs.declared.node.Kind.{Kind}
 use Rattle.nc_schema.specs.declared.node.Kind.TheVariants.{Container, Leaf, LeafList, List as ListKind}
 use Rattle.nc_schema.specs.declared.node.Node.{Node}
-use Rattle.nc_model.specs.declared.edit.Edit.{Edit}
-use Rattle.nc_model.specs.declared.position.Under.TheVariants.{Inline}
-use Rattle.nc_model.specs.Elements.{Reading, Named, has_text, key_values, keys_read, step_of, with_step}
-use Rattle.nc_model.specs.Payload.{if_read, list_edits, part_edits}
-use Rattle.nc_model.specs.Printed.{node_part}
+use Rattle.nc_protocol.specs.declared.edit.Edit.{Edit}
+use Rattle.nc_protocol.specs.declared.position.Under.TheVariants.{Inline}
+use Rattle.nc_protocol.specs.Elements.{Reading, Named, has_text, key_values, keys_read, step_of, with_step}
+use Rattle.nc_protocol.specs.Payload.{if_read, list_edits, part_edits}
+use Rattle.nc_protocol.specs.Printed.{node_part}
 use Rattle.nc_print.proofs.EntryBack.{list_entry_is_read_back}
 use Rattle.nc_print.proofs.ReadBack.{container_is_read_back, leaf_is_read_back, leaf_list_is_read_back, printed_is_named, printed_value_is_read}
 use Rattle.nc_print.specs.Laws.{StandsFree, inline_at, merge_at, printed_elem}

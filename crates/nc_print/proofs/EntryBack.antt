@@ -10,15 +10,15 @@ use Rattle.nc_message.specs.declared.tree.Part.TheBlock.{Row_of-Elem, end_of-Ele
 use Rattle.nc_schema.specs.Proper.{IsProperSchema}
 use Rattle.nc_schema.specs.declared.node.Kind.TheVariants.{List as ListKind}
 use Rattle.nc_schema.specs.declared.node.Node.{Node}
-use Rattle.nc_model.proofs.ElementLemmas.{or_none, same_either}
-use Rattle.nc_model.proofs.PayloadLemmas.{child_is_element}
-use Rattle.nc_model.specs.declared.edit.Edit.{Edit}
-use Rattle.nc_model.specs.declared.position.Position.{Position}
-use Rattle.nc_model.specs.declared.request.Cause.{Cause}
-use Rattle.nc_model.specs.Elements.{Reading, Named, elem_in, first_child, has_text, is_key, key_values, named, value_in, with_key, with_step}
-use Rattle.nc_model.specs.Faults.{element_fault, entry_fault, key_fault, keys_fault, own_fault, unknown_or}
-use Rattle.nc_model.specs.Payload.{child_edits, element_edits, list_edits, node_edits, part_edits, parts_edits, unless_fault, with_more}
-use Rattle.nc_model.specs.Printed.{node_part}
+use Rattle.nc_protocol.proofs.ElementLemmas.{or_none, same_either}
+use Rattle.nc_protocol.proofs.PayloadLemmas.{child_is_element}
+use Rattle.nc_protocol.specs.declared.edit.Edit.{Edit}
+use Rattle.nc_protocol.specs.declared.position.Position.{Position}
+use Rattle.nc_protocol.specs.declared.request.Cause.{Cause}
+use Rattle.nc_protocol.specs.Elements.{Reading, Named, elem_in, first_child, has_text, is_key, key_values, named, value_in, with_key, with_step}
+use Rattle.nc_protocol.specs.Faults.{element_fault, entry_fault, key_fault, keys_fault, own_fault, unknown_or}
+use Rattle.nc_protocol.specs.Payload.{child_edits, element_edits, list_edits, node_edits, part_edits, parts_edits, unless_fault, with_more}
+use Rattle.nc_protocol.specs.Printed.{node_part}
 use Rattle.nc_print.proofs.ReadBack.{named_is}
 use Rattle.nc_print.specs.Laws.{ListEntryIsReadBack, StandsFree, inline_at, merge_at, printed_elem}
 

@@ -11,9 +11,9 @@ use Rattle.nc_schema.specs.Configuration.{IsDataTree, key_rows}
 use Rattle.nc_schema.specs.Tables.{Tables}
 use Rattle.nc_schema.specs.declared.node.Node.{Node}
 use Rattle.nc_schema.proofs.ProperLemmas.{HasProperNodes}
-use Rattle.nc_model.proofs.ListLemmas.{no_element, heads_same, tails_same}
-use Rattle.nc_model.proofs.PathViews.{IsLower, node_after}
-use Rattle.nc_model.specs.Printed.{cut, goes_on, own_value, parts_at, run_parts, step_parts}
+use Rattle.nc_protocol.proofs.ListLemmas.{no_element, heads_same, tails_same}
+use Rattle.nc_protocol.proofs.PathViews.{IsLower, node_after}
+use Rattle.nc_protocol.specs.Printed.{cut, goes_on, own_value, parts_at, run_parts, step_parts}
 use Rattle.nc_print.specs.Laws.{key_parts}
 use Rattle.nc_print.proofs.CutLemmas.{WellCut, joined, cut_is_well, cut_is_whole}
 use Rattle.nc_print.proofs.KeysFirst.{keys_walk, own_alone}

@@ -8,21 +8,22 @@ use Rattle.nc_names.specs.declared.name.Bound.{Bound}
 use Rattle.nc_names.specs.declared.name.Module.{Module}
 use Rattle.nc_names.specs.declared.name.QName.{QName}
 use Rattle.nc_names.specs.Bindings.{space_of}
+use Rattle.nc_names.specs.Ends.{past, trimmed, without_last}
 use Rattle.nc_names.specs.Identifiers.{IsIdentifier}
 use Rattle.nc_names.specs.Same.{is_same_name, is_same_text}
 use Rattle.nc_names.specs.Signs.{colon, is_in_identifier, is_white}
 use Rattle.nc_names.proofs.SameLemmas.{name_decide}
 use Rattle.nc_schema.specs.Bindings.{module_bounds, module_of}
-use Rattle.nc_schema.specs.PathWords.{◌>>=◌, past, without_last}
+use Rattle.nc_schema.specs.PathWords.{◌>>=◌}
 use Rattle.nc_schema.specs.Proper.{IsIdentityOf, IsProperModule, IsProperSchema}
 use Rattle.nc_schema.specs.Tables.{Tables}
-use Rattle.nc_schema.specs.Values.{identity_name, identity_text, name_in, trimmed}
+use Rattle.nc_schema.specs.Values.{identity_name, identity_text, name_in}
 use Rattle.nc_schema.proofs.TextLemmas.{all_in_identifier}
-use Rattle.nc_model.proofs.AboveLemmas.{some_passes}
-use Rattle.nc_model.proofs.BoolLemmas.{is_false}
-use Rattle.nc_model.proofs.ListLemmas.{contains_behind, tails_same}
-use Rattle.nc_model.proofs.Parts.{all_at}
-use Rattle.nc_model.specs.ModuleNames.{is_apart}
+use Rattle.nc_protocol.proofs.AboveLemmas.{some_passes}
+use Rattle.nc_protocol.proofs.BoolLemmas.{is_false}
+use Rattle.nc_protocol.proofs.ListLemmas.{contains_behind, tails_same}
+use Rattle.nc_protocol.proofs.Parts.{all_at}
+use Rattle.nc_protocol.specs.ModuleNames.{is_apart}
 use Rattle.nc_print.proofs.NamesKnown.{EndsApart, IsPrefix, Knows, before_colon, bounds_of, knows_part}
 use Rattle.nc_print.proofs.SimpleAgain.{passed}
 use Rattle.nc_print.proofs.TrimAgain.{HasNoWhite, left_true, no_white, right_true}
@@ -186,7 +187,7 @@ module _ (tables : Tables) (schema : IsProperSchema tables) (among : List QName)
   again name found is has =
       ap (identity_text tables among (module_bounds tables)) (no_white (found.name ++ colon ∷ name.name) black)
       ∙ (λ i. cond (first.1 i) (cond (length (first.0 i) == 0) None (name_in (space_of (first.0 i) (module_bounds tables)) (after_colon found.name name.name named i))) (name_in (space_of [] (module_bounds tables)) (found.name ++ colon ∷ name.name)) >>= give)
-      ∙ (λ i. cond (some_name found.name module_is.name i) None (name_in (module_space tables.modules found schema.modules_apart there.0 i) name.name) >>= give)
+      ∙ (λ i. cond (some_name found.name module_is.name i) None (name_in (module_space tables.modules found schema.modules.modules_apart there.0 i) name.name) >>= give)
       ∙ ap give (λ i. record { space = same_space_is i; name = name.name })
       ∙ ap (λ o. o >>= show) is
       ∙ ap (λ b. cond b (Some (found.name ++ colon ∷ name.name)) None) has
@@ -204,7 +205,7 @@ module _ (tables : Tables) (schema : IsProperSchema tables) (among : List QName)
       same_space_is = (bytes_decides found.space name.space).0 there.1
 
       module_is : IsProperModule found
-      module_is = all_at IsProperModule tables.modules found schema.modules there.0
+      module_is = all_at IsProperModule tables.modules found schema.modules.modules there.0
 
       named : IsPrefix found.name
       named = all_in_identifier found.name module_is.name

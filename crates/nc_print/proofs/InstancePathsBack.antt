@@ -7,6 +7,7 @@ use Rattle.std.specs.Prelude.{option_map}
 use Rattle.nc_names.specs.declared.name.Bound.{Bound}
 use Rattle.nc_names.specs.declared.path.Path.{Path}
 use Rattle.nc_names.specs.declared.path.Step.{Step}
+use Rattle.nc_names.specs.Ends.{trimmed}
 use Rattle.nc_names.specs.Signs.{slash}
 use Rattle.nc_schema.specs.Bindings.{module_bounds}
 use Rattle.nc_schema.specs.InstancePaths.{all_given, instance_path, instance_step, instance_steps, key_nodes, keys_of_kind, pattern_steps}
@@ -14,12 +15,12 @@ use Rattle.nc_schema.specs.PathTexts.{key_predicate, key_predicates, path_text_o
 use Rattle.nc_schema.specs.PathWords.{◌>>=◌, written_steps}
 use Rattle.nc_schema.specs.Proper.{IsProperSchema}
 use Rattle.nc_schema.specs.Tables.{Tables}
-use Rattle.nc_schema.specs.Values.{Gives, canonical_given, canonical_keys, canonical_pattern, canonical_step, canonical_steps, given_predicate, instance_text, pattern_step_text, trimmed}
+use Rattle.nc_schema.specs.Values.{Gives, canonical_given, canonical_keys, canonical_pattern, canonical_step, canonical_steps, given_predicate, instance_text, pattern_step_text}
 use Rattle.nc_schema.specs.declared.node.Kind.{Kind}
 use Rattle.nc_schema.specs.declared.node.Kind.TheVariants.{Container, Leaf, LeafList, List as ListKind}
 use Rattle.nc_schema.specs.declared.node.Node.{Node}
 use Rattle.nc_schema.specs.declared.pattern.PatternStep.{PatternStep}
-use Rattle.nc_model.proofs.ListLemmas.{contains_behind, heads_same, some_same, tails_same}
+use Rattle.nc_protocol.proofs.ListLemmas.{contains_behind, heads_same, some_same, tails_same}
 use Rattle.nc_print.proofs.IdentityAgain.{IsPartOfText}
 use Rattle.nc_print.proofs.KeyNodes.{not_itself}
 use Rattle.nc_print.proofs.NamesKnown.{Knows, modules_know}

@@ -23,10 +23,10 @@ use Rattle.nc_schema.specs.declared.node.Kind.TheVariants.{Container, Leaf, Leaf
 use Rattle.nc_schema.specs.declared.node.Node.{Node}
 use Rattle.nc_schema.specs.declared.written.WrittenName.{WrittenName}
 use Rattle.nc_schema.proofs.ProperLemmas.{HasProperNodes, proper_nodes}
-use Rattle.nc_model.proofs.BoolLemmas.{is_false}
-use Rattle.nc_model.proofs.ListLemmas.{contains_at}
-use Rattle.nc_model.proofs.Parts.{all_at}
-use Rattle.nc_model.proofs.SiblingLemmas.{some_and}
+use Rattle.nc_protocol.proofs.BoolLemmas.{is_false}
+use Rattle.nc_protocol.proofs.ListLemmas.{contains_at}
+use Rattle.nc_protocol.proofs.Parts.{all_at}
+use Rattle.nc_protocol.proofs.SiblingLemmas.{some_and}
 use Rattle.nc_print.proofs.BitsAgain.{any_has}
 use Rattle.nc_print.proofs.IdentityAgain.{module_back, module_space}
 
@@ -54,17 +54,17 @@ module _ (tables : Tables) (schema : IsProperSchema tables) where
 
   pub written_is : (number : ℕ) (node : Node) → slice_get tables.nodes number ≡ Some node → IsWritten tables number node
   written_is number node is =
-      let found = some_and (slice_get tables.modules node.module) (λ (m : Module). m.space ≡ node.name.space) (schema.names number node is).space in
+      let found = some_and (slice_get tables.modules node.module) (λ (m : Module). m.space ≡ node.name.space) (schema.places.names number node is).space in
       let has = contains_at tables.modules node.module found.0 found.1 in
       let name_is : module_name tables node.module ≡ found.0.name = ap (λ o. option_map_or (λ (m : Module). m.name) o []) found.1 in
       record {
         prefix = found.0.name;
         named = ap (λ o. option_map_or (λ (n : Node). record { prefix = module_name tables n.module; name = n.name.name }) o (record { prefix = []; name = [] })) is ∙ (λ i. record { prefix = name_is i; name = node.name.name });
         text = ap (λ o. option_map_or (λ (n : Node). module_name tables n.module ++ colon ∷ n.name.name) o []) is ∙ ap (λ p. p ++ colon ∷ node.name.name) name_is;
-        prefix_is = (all_at IsProperModule tables.modules found.0 schema.modules has).name;
-        name_is = (schema.names number node is).name;
-        back = ap (λ o. option_map (λ (m : Module). record { space = m.space; name = node.name.name }) (o >>= module_of tables)) (module_space tables.modules found.0 schema.modules_apart has)
-            ∙ ap (option_map (λ (m : Module). record { space = m.space; name = node.name.name })) (module_back tables.modules found.0 found.0.space schema.modules_apart has refl)
+        prefix_is = (all_at IsProperModule tables.modules found.0 schema.modules.modules has).name;
+        name_is = (schema.places.names number node is).name;
+        back = ap (λ o. option_map (λ (m : Module). record { space = m.space; name = node.name.name }) (o >>= module_of tables)) (module_space tables.modules found.0 schema.modules.modules_apart has)
+            ∙ ap (option_map (λ (m : Module). record { space = m.space; name = node.name.name })) (module_back tables.modules found.0 found.0.space schema.modules.modules_apart has refl)
             ∙ (λ i. Some (record { space = found.2 i; name = node.name.name }));
       }
 
@@ -88,7 +88,7 @@ module _ (tables : Tables) (schema : IsProperSchema tables) where
       where
         by : (found : Node) → slice_get tables.nodes key ≡ Some found → found.parent ≡ Some number → key ≡ number → ⊥
         by found found_is parent same =
-            let stands = schema.parents key found found_is in
+            let stands = schema.places.parents key found found_is in
             let less : number < key = (subst (λ (p : Option ℕ). StandsIn tables key p) parent stands).0 in
             omega (arith, less, same)
 
@@ -118,7 +118,7 @@ module _ (tables : Tables) (schema : IsProperSchema tables) where
       own = λ key has. written_key key has key has ∙ (name_decide (key_in key has).0.name (key_in key has).0.name).1 refl;
       other = λ key another has there differ. written_key key has another there
           ∙ is_false (is_same_name (key_in another there).0.name (key_in key has).0.name) (λ e.
-          differ (sym (schema.siblings_apart another (key_in another there).0 (key_in another there).1 key (key_in key has).0 (key_in key has).1
+          differ (sym (schema.places.siblings_apart another (key_in another there).0 (key_in another there).1 key (key_in key has).0 (key_in key has).1
           ((key_in another there).2.parent ∙ sym (key_in key has).2.parent) ((name_decide (key_in another there).0.name (key_in key has).0.name).0 e))));
       apart = proper.keys_apart number node is;
       paths = key_above;

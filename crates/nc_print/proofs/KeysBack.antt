@@ -7,9 +7,9 @@ use Rattle.std.proofs.lemmas.Bool.Decides.{Decides-eqb}
 use Rattle.std.proofs.lemmas.Option.{get_or_from_slice_get, none-some, slice_get_within}
 use Rattle.nc_message.specs.declared.tree.Part.{Part}
 use Rattle.nc_schema.specs.Proper.{IsProperSchema}
-use Rattle.nc_model.proofs.ElementLemmas.{find_in, found_here}
-use Rattle.nc_model.specs.Elements.{Reading, Named, first_child, key_values, named_part, value_in, with_key}
-use Rattle.nc_model.specs.Printed.{node_part}
+use Rattle.nc_protocol.proofs.ElementLemmas.{find_in, found_here}
+use Rattle.nc_protocol.specs.Elements.{Reading, Named, first_child, key_values, named_part, value_in, with_key}
+use Rattle.nc_protocol.specs.Printed.{node_part}
 use Rattle.nc_print.proofs.ReadBack.{printed_is_named, printed_value_is_read}
 use Rattle.nc_print.specs.Laws.{IsKeyReadBack, PrintedKeysAreRead, key_parts, printed_elem}
 

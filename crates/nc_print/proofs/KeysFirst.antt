@@ -16,11 +16,11 @@ use Rattle.nc_schema.specs.Tables.{Tables}
 use Rattle.nc_schema.specs.declared.node.Kind.TheVariants.{Leaf}
 use Rattle.nc_schema.specs.declared.node.Node.{Node}
 use Rattle.nc_schema.proofs.ProperLemmas.{HasProperNodes}
-use Rattle.nc_model.proofs.ListLemmas.{no_element, heads_same, tails_same, contains_behind, some_same}
-use Rattle.nc_model.proofs.Parts.{IsPartOf, pair_at}
-use Rattle.nc_model.proofs.PathViews.{IsLower, node_after}
-use Rattle.nc_model.proofs.SiblingLemmas.{IsStepAt, path_step, some_and}
-use Rattle.nc_model.specs.Printed.{goes_on, node_at, own_value, parts_at, run_parts, step_parts}
+use Rattle.nc_protocol.proofs.ListLemmas.{no_element, heads_same, tails_same, contains_behind, some_same}
+use Rattle.nc_protocol.proofs.Parts.{IsPartOf, pair_at}
+use Rattle.nc_protocol.proofs.PathViews.{IsLower, node_after}
+use Rattle.nc_protocol.proofs.SiblingLemmas.{IsStepAt, path_step, some_and}
+use Rattle.nc_protocol.specs.Printed.{goes_on, node_at, own_value, parts_at, run_parts, step_parts}
 use Rattle.nc_print.proofs.PartsLemmas.{nothing_below_its_end}
 use Rattle.nc_print.specs.Laws.{key_parts}
 use Rattle.nc_print.proofs.CutLemmas.{Chain, WellCut, joined}

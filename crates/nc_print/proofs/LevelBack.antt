@@ -12,15 +12,15 @@ use Rattle.nc_schema.specs.Configuration.{IsDataTree}
 use Rattle.nc_schema.specs.Proper.{IsProperSchema}
 use Rattle.nc_schema.specs.declared.node.Node.{Node}
 use Rattle.nc_schema.proofs.ProperLemmas.{HasProperNodes, proper_nodes}
-use Rattle.nc_model.proofs.ListLemmas.{contains_here, last_same}
-use Rattle.nc_model.proofs.Parts.{IsPartOf, contains_part, part_join}
-use Rattle.nc_model.proofs.PathViews.{IsLower, node_after}
-use Rattle.nc_model.proofs.SiblingLemmas.{IsStepAt, path_step, together_at}
-use Rattle.nc_model.specs.declared.edit.Edit.{Edit}
-use Rattle.nc_model.specs.declared.position.Position.{Position}
-use Rattle.nc_model.specs.Elements.{Reading, with_step}
-use Rattle.nc_model.specs.Payload.{list_edits, part_edits, with_more}
-use Rattle.nc_model.specs.Printed.{cut, goes_on, node_part, own_value, parts_at, run_parts, step_parts}
+use Rattle.nc_protocol.proofs.ListLemmas.{contains_here, last_same}
+use Rattle.nc_protocol.proofs.Parts.{IsPartOf, contains_part, part_join}
+use Rattle.nc_protocol.proofs.PathViews.{IsLower, node_after}
+use Rattle.nc_protocol.proofs.SiblingLemmas.{IsStepAt, path_step, together_at}
+use Rattle.nc_protocol.specs.declared.edit.Edit.{Edit}
+use Rattle.nc_protocol.specs.declared.position.Position.{Position}
+use Rattle.nc_protocol.specs.Elements.{Reading, with_step}
+use Rattle.nc_protocol.specs.Payload.{list_edits, part_edits, with_more}
+use Rattle.nc_protocol.specs.Printed.{cut, goes_on, node_part, own_value, parts_at, run_parts, step_parts}
 use Rattle.nc_print.specs.Laws.{inline_at, merge_at}
 use Rattle.nc_print.specs.Laws.{merges_at, run_merges, step_merges}
 use Rattle.nc_print.specs.Laws.{AreReadAsThemselves}

@@ -10,13 +10,13 @@ use Rattle.nc_schema.specs.Configuration.{IsDataTree}
 use Rattle.nc_schema.specs.Paths.{IsPathOf}
 use Rattle.nc_schema.specs.Tables.{Tables}
 use Rattle.nc_schema.proofs.ProperLemmas.{HasProperNodes}
-use Rattle.nc_model.proofs.ListLemmas.{contains_behind, contains_here, fold_join, heads_same, no_element, tails_same, too_long}
-use Rattle.nc_model.proofs.Parts.{IsPartOf, all_at, contains_part, part_join}
-use Rattle.nc_model.proofs.PathViews.{IsLower}
-use Rattle.nc_model.proofs.SiblingLemmas.{IsStepAt, path_step}
-use Rattle.nc_model.specs.Edited.{left_by}
-use Rattle.nc_model.specs.declared.edit.Edit.{Edit}
-use Rattle.nc_model.specs.Printed.{cut, goes_on, longest, own_value}
+use Rattle.nc_protocol.proofs.ListLemmas.{contains_behind, contains_here, fold_join, heads_same, no_element, tails_same, too_long}
+use Rattle.nc_protocol.proofs.Parts.{IsPartOf, all_at, contains_part, part_join}
+use Rattle.nc_protocol.proofs.PathViews.{IsLower}
+use Rattle.nc_protocol.proofs.SiblingLemmas.{IsStepAt, path_step}
+use Rattle.nc_protocol.specs.Edited.{left_by}
+use Rattle.nc_protocol.specs.declared.edit.Edit.{Edit}
+use Rattle.nc_protocol.specs.Printed.{cut, goes_on, longest, own_value}
 use Rattle.nc_print.specs.Laws.{merge_at}
 use Rattle.nc_print.specs.Laws.{merges_at, merges_of, run_merges, step_merges}
 use Rattle.nc_print.proofs.ConfigBack.{longest_covers}

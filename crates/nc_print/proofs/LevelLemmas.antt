@@ -4,7 +4,7 @@ use Rattle.std.specs.List.{flat_map}
 use Rattle.nc_names.specs.declared.path.Row.{Row}
 use Rattle.nc_message.specs.declared.tree.Part.{Part}
 use Rattle.nc_schema.specs.Tables.{Tables}
-use Rattle.nc_model.specs.Printed.{cut, goes_on, parts_at, run_parts}
+use Rattle.nc_protocol.specs.Printed.{cut, goes_on, parts_at, run_parts}
 use Rattle.nc_print.specs.inner.Runs.{IsRun}
 
 pub levels_are : (tables : Tables) (levels depth : ℕ) (rows : List Row) → levels ≢ 0 →

@@ -19,16 +19,16 @@ use Rattle.nc_schema.specs.declared.node.Kind.{Kind}
 use Rattle.nc_schema.specs.declared.node.Kind.TheVariants.{Container, Leaf, LeafList, List as ListKind}
 use Rattle.nc_schema.specs.declared.node.Node.{Node}
 use Rattle.nc_schema.proofs.ProperLemmas.{HasProperNodes}
-use Rattle.nc_model.proofs.KeyLemmas.{IsKeyRow, key_row_of, keys_follow_append}
-use Rattle.nc_model.proofs.KeyPlace.{leaf_is_put}
-use Rattle.nc_model.proofs.ListLemmas.{contains_behind, contains_here, heads_same, last_same, one_element, some_same, tails_same}
-use Rattle.nc_model.proofs.Parts.{IsPartOf, all_at, part_at}
-use Rattle.nc_model.proofs.PathViews.{IsLower}
-use Rattle.nc_model.proofs.PlaceLemmas.{last_of}
-use Rattle.nc_model.proofs.SiblingLemmas.{some_and}
-use Rattle.nc_model.proofs.SubtreeLemmas.{own_rows_are}
-use Rattle.nc_model.specs.Edited.{left_by, new_block}
-use Rattle.nc_model.specs.declared.edit.Action.TheVariants.{Merge}
+use Rattle.nc_protocol.proofs.KeyLemmas.{IsKeyRow, key_row_of, keys_follow_append}
+use Rattle.nc_protocol.proofs.KeyPlace.{leaf_is_put}
+use Rattle.nc_protocol.proofs.ListLemmas.{contains_behind, contains_here, heads_same, last_same, one_element, some_same, tails_same}
+use Rattle.nc_protocol.proofs.Parts.{IsPartOf, all_at, part_at}
+use Rattle.nc_protocol.proofs.PathViews.{IsLower}
+use Rattle.nc_protocol.proofs.PlaceLemmas.{last_of}
+use Rattle.nc_protocol.proofs.SiblingLemmas.{some_and}
+use Rattle.nc_protocol.proofs.SubtreeLemmas.{own_rows_are}
+use Rattle.nc_protocol.specs.Edited.{left_by, new_block}
+use Rattle.nc_protocol.specs.declared.edit.Action.TheVariants.{Merge}
 use Rattle.nc_print.specs.Laws.{merge_at}
 use Rattle.nc_print.proofs.PutLast.{front_is_tree, new_there, put_last}
 use Rattle.nc_print.proofs.StartLemmas.{Fresh}

@@ -14,12 +14,12 @@ use Rattle.nc_schema.specs.declared.node.Kind.{Kind}
 use Rattle.nc_schema.specs.declared.node.Kind.TheVariants.{Container, Leaf, LeafList, List as ListKind}
 use Rattle.nc_schema.specs.declared.node.Node.{Node}
 use Rattle.nc_schema.proofs.ProperLemmas.{HasProperNodes, HoldsNodes}
-use Rattle.nc_model.proofs.ListLemmas.{contains_here, heads_same, last_cut}
-use Rattle.nc_model.proofs.Parts.{all_at}
-use Rattle.nc_model.proofs.PathViews.{IsLower, after_last}
-use Rattle.nc_model.proofs.SiblingLemmas.{IsStepAt, path_step}
-use Rattle.nc_model.proofs.SubtreeLemmas.{own_rows_are}
-use Rattle.nc_model.specs.Edited.{left_by}
+use Rattle.nc_protocol.proofs.ListLemmas.{contains_here, heads_same, last_cut}
+use Rattle.nc_protocol.proofs.Parts.{all_at}
+use Rattle.nc_protocol.proofs.PathViews.{IsLower, after_last}
+use Rattle.nc_protocol.proofs.SiblingLemmas.{IsStepAt, path_step}
+use Rattle.nc_protocol.proofs.SubtreeLemmas.{own_rows_are}
+use Rattle.nc_protocol.specs.Edited.{left_by}
 use Rattle.nc_print.specs.Laws.{merge_at}
 use Rattle.nc_print.proofs.MergeLast.{IsBuilt, IsKeyOf}
 use Rattle.nc_print.proofs.PutLast.{new_there, put_last}

@@ -3,7 +3,7 @@ use Rattle.std.proofs.Common.{◌≡◌, ℕ, List, take, drop, ◌+◌, ap}
 use Rattle.std.specs.Prelude.{fold}
 use Rattle.nc_names.specs.declared.name.Bound.{Bound}
 use Rattle.nc_schema.specs.Tables.{Tables}
-use Rattle.nc_model.specs.ModuleNames.{with_names, with_piece}
+use Rattle.nc_protocol.specs.ModuleNames.{with_names, with_piece}
 use Rattle.nc_print.specs.inner.Pieces.{IsOnePiece, EndsAt}
 
 pub next_piece : (tables : Tables) (bounds : List Bound) (text : List ℕ) (end : ℕ) → EndsAt text end →

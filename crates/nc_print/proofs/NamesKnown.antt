@@ -15,9 +15,9 @@ use Rattle.nc_schema.specs.Bindings.{module_bounds}
 use Rattle.nc_schema.specs.Proper.{IsProperModule, IsProperSchema}
 use Rattle.nc_schema.specs.Tables.{Tables}
 use Rattle.nc_schema.proofs.TextLemmas.{all_in_identifier}
-use Rattle.nc_model.proofs.BoolLemmas.{is_false}
-use Rattle.nc_model.proofs.ListLemmas.{contains_behind}
-use Rattle.nc_model.specs.ModuleNames.{is_apart, is_bound, is_colon, names_bound, with_module, with_name, with_piece}
+use Rattle.nc_protocol.proofs.BoolLemmas.{is_false}
+use Rattle.nc_protocol.proofs.ListLemmas.{contains_behind}
+use Rattle.nc_protocol.specs.ModuleNames.{is_apart, is_bound, is_colon, names_bound, with_module, with_name, with_piece}
 use Rattle.nc_print.proofs.TrimAgain.{left_true, right_true}
 
 -- ---- where a name may stand
@@ -333,7 +333,7 @@ no_identifier prefix e = is_false (is_identifier prefix) (λ named. (let all : l
 
 module _ (tables : Tables) (schema : IsProperSchema tables) where
   none_named : (prefix : List ℕ) → is_identifier prefix ≡ false → space_of prefix (module_bounds tables) ≡ None
-  none_named prefix none = module_none tables.modules prefix schema.modules none
+  none_named prefix none = module_none tables.modules prefix schema.modules.modules none
 
   -- the names of all modules know every text
   pub modules_know : (text : List ℕ) → Knows tables (module_bounds tables) text

@@ -6,6 +6,7 @@ use Rattle.std.specs.Cmp.Lexicographic.{bytes_decides}
 use Rattle.std.specs.List.{Contains, flat_map, zip}
 use Rattle.std.specs.Prelude.{option_map}
 use Rattle.nc_names.specs.declared.name.Bound.{Bound}
+use Rattle.nc_names.specs.Ends.{trimmed}
 use Rattle.nc_names.specs.Identifiers.{IsIdentifier}
 use Rattle.nc_names.specs.Same.{is_same_text}
 use Rattle.nc_names.specs.Signs.{colon, slash}
@@ -15,11 +16,11 @@ use Rattle.nc_schema.specs.PathTexts.{prefixed_name}
 use Rattle.nc_schema.specs.PathWords.{◌>>=◌, written_steps}
 use Rattle.nc_schema.specs.Proper.{IsProperSchema}
 use Rattle.nc_schema.specs.Tables.{Tables}
-use Rattle.nc_schema.specs.Values.{Gives, canonical_given, canonical_pattern, given_predicate, node_instance_text, pattern_step_text, pattern_text, trimmed}
+use Rattle.nc_schema.specs.Values.{Gives, canonical_given, canonical_pattern, given_predicate, node_instance_text, pattern_step_text, pattern_text}
 use Rattle.nc_schema.specs.declared.pattern.Pattern.{Pattern}
 use Rattle.nc_schema.specs.declared.pattern.PatternStep.{PatternStep}
-use Rattle.nc_model.proofs.BoolLemmas.{is_false}
-use Rattle.nc_model.proofs.ListLemmas.{contains_behind}
+use Rattle.nc_protocol.proofs.BoolLemmas.{is_false}
+use Rattle.nc_protocol.proofs.ListLemmas.{contains_behind}
 use Rattle.nc_print.proofs.IdentityAgain.{IsPartOfText}
 use Rattle.nc_print.proofs.KeyNodes.{written_is}
 use Rattle.nc_print.proofs.NamesKnown.{Knows, knows_part, modules_know}

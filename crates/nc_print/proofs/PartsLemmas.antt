@@ -15,8 +15,8 @@ use Rattle.nc_message.specs.declared.tree.Part.TheBlock.{hidden-the_row-Part-0, 
 use Rattle.nc_message.specs.declared.tree.Part.TheVariants.{Child}
 use Rattle.nc_schema.specs.Tables.{Tables}
 use Rattle.nc_schema.specs.declared.node.Node.{Node}
-use Rattle.nc_model.specs.Elements.{has_text, text_of}
-use Rattle.nc_model.specs.Printed.{cut, goes_on, node_part, own_value, parts_at, run_parts, step_parts}
+use Rattle.nc_protocol.specs.Elements.{has_text, text_of}
+use Rattle.nc_protocol.specs.Printed.{cut, goes_on, node_part, own_value, parts_at, run_parts, step_parts}
 use Rattle.nc_print.specs.Laws.{PrintedHoldsNoText, NothingBelowItsEnd, printed_elem}
 
 no_text_in_child : (e : Elem) → text_of (Child e) ≡ []

@@ -23,7 +23,7 @@ use Rattle.nc_schema.specs.declared.pattern.PatternStep.{PatternStep}
 use Rattle.nc_schema.specs.declared.written.WrittenStep.{WrittenStep}
 use Rattle.nc_names.proofs.SameLemmas.{first_true}
 use Rattle.nc_schema.proofs.TextLemmas.{all_in_identifier}
-use Rattle.nc_model.proofs.ListLemmas.{contains_behind, some_same}
+use Rattle.nc_protocol.proofs.ListLemmas.{contains_behind, some_same}
 use Rattle.nc_print.proofs.BitsAgain.{KeepsEnd, keeps_behind, keeps_trimmed, word_keeps}
 use Rattle.nc_print.proofs.IdentityAgain.{prefix_black}
 use Rattle.nc_print.proofs.KeyNodes.{IsWritten, are_keys, written_is}

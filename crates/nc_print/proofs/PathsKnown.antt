@@ -3,12 +3,13 @@ use Rattle.std.proofs.Common.{◌≡◌, ◌&&◌, ◌||◌, ◌==◌, cond, ℕ
 use Rattle.std.specs.List.{Contains, list_all}
 use Rattle.std.specs.Prelude.{option_map}
 use Rattle.std.proofs.lemmas.Bool.Decides.{nat_tests, Decides-eqb}
+use Rattle.nc_names.specs.Ends.{after_white, past}
 use Rattle.nc_names.specs.Signs.{apostrophe, closing_bracket, colon, dot, equals, is_in_identifier, opening_bracket, quote, slash}
-use Rattle.nc_schema.specs.PathWords.{◌>>=◌, after_white, begins_name, begins_with, identifier, leading, past, predicate, predicate_key, predicates, quoted_string, sign, steps_within, up_to, written_name, written_step, written_steps}
+use Rattle.nc_schema.specs.PathWords.{◌>>=◌, begins_name, begins_with, identifier, leading, predicate, predicate_key, predicates, quoted_string, sign, steps_within, up_to, written_name, written_step, written_steps}
 use Rattle.nc_schema.specs.declared.written.WrittenName.{WrittenName}
 use Rattle.nc_schema.specs.declared.written.WrittenPredicate.{WrittenPredicate}
 use Rattle.nc_schema.specs.declared.written.WrittenStep.{WrittenStep}
-use Rattle.nc_model.specs.ModuleNames.{is_apart}
+use Rattle.nc_protocol.specs.ModuleNames.{is_apart}
 use Rattle.nc_print.proofs.IdentityAgain.{IsPartOfText, past_front}
 use Rattle.nc_print.proofs.NamesKnown.{EndsApart, IsPrefix, ends_behind, ends_more}
 

@@ -22,7 +22,7 @@ use Rattle.nc_schema.specs.declared.pattern.PatternStep.{PatternStep}
 use Rattle.nc_schema.specs.declared.written.WrittenName.{WrittenName}
 use Rattle.nc_schema.specs.declared.written.WrittenPredicate.{WrittenPredicate}
 use Rattle.nc_schema.specs.declared.written.WrittenStep.{WrittenStep}
-use Rattle.nc_model.proofs.ListLemmas.{contains_behind}
+use Rattle.nc_protocol.proofs.ListLemmas.{contains_behind}
 use Rattle.nc_print.proofs.ReadBack.{child_of_its_name}
 use Rattle.nc_print.proofs.KeyNodes.{AreKeys, IsWritten, are_keys, key_for, name_for, written_is}
 use Rattle.nc_print.proofs.PathsWritten.{IsMarked, Stops, key_predicate_there, name_there, value_predicate_there}

@@ -13,7 +13,7 @@ use Rattle.nc_schema.specs.declared.pattern.PatternStep.{PatternStep}
 use Rattle.nc_schema.specs.declared.written.WrittenName.{WrittenName}
 use Rattle.nc_schema.specs.declared.written.WrittenPredicate.{WrittenPredicate}
 use Rattle.nc_schema.specs.declared.written.WrittenStep.{WrittenStep}
-use Rattle.nc_model.proofs.ListLemmas.{contains_behind}
+use Rattle.nc_protocol.proofs.ListLemmas.{contains_behind}
 use Rattle.nc_print.proofs.IdentityAgain.{IsPartOfText, find_is, same_space}
 use Rattle.nc_print.proofs.NamesKnown.{Knows}
 use Rattle.nc_print.proofs.PathsKnown.{KeyIn, NameIn, PredicateIn, StepIn, bind_is, map_is, written_in}

@@ -3,10 +3,11 @@ use Rattle.std.proofs.Common.{◌≡◌, ◌⊎◌, ◌&&◌, ◌||◌, ◌==◌
 use Rattle.std.specs.List.{list_all, list_any}
 use Rattle.std.specs.Prelude.{option_map}
 use Rattle.std.proofs.lemmas.Bool.Decides.{nat_tests, Decides-eqb}
+use Rattle.nc_names.specs.Ends.{after_white, past}
 use Rattle.nc_names.specs.Identifiers.{IsIdentifier}
 use Rattle.nc_names.specs.Signs.{apostrophe, begins_identifier, closing_bracket, colon, dot, equals, is_in_identifier, is_white, opening_bracket, quote}
 use Rattle.nc_schema.specs.PathTexts.{mark_round}
-use Rattle.nc_schema.specs.PathWords.{◌>>=◌, after_white, begins_name, begins_with, identifier, leading, past, predicate, predicate_key, quoted_string, sign, up_to, written_name}
+use Rattle.nc_schema.specs.PathWords.{◌>>=◌, begins_name, begins_with, identifier, leading, predicate, predicate_key, quoted_string, sign, up_to, written_name}
 use Rattle.nc_schema.specs.Values.{is_quotable}
 use Rattle.nc_schema.specs.declared.written.WrittenName.{WrittenName}
 use Rattle.nc_schema.specs.declared.written.WrittenPredicate.{WrittenPredicate}

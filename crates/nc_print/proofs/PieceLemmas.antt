@@ -4,7 +4,7 @@ use Rattle.std.specs.Prelude.{position}
 use Rattle.std.specs.List.{onto_first, position_or_len, slice_split}
 use Rattle.std.proofs.lemmas.Bool.{lt-ltb, ltb-true}
 use Rattle.std.proofs.lemmas.List.Splits.{slice_split_first}
-use Rattle.nc_model.specs.ModuleNames.{is_apart}
+use Rattle.nc_protocol.specs.ModuleNames.{is_apart}
 use Rattle.nc_print.specs.inner.Pieces.{IsOnePiece, EndsAt}
 
 one_case : (p : ℕ → Bool) (c : ℕ) (cs : List ℕ) (b : Bool) → p c ≡ b → suc (length cs) ≤ cond (not (p c)) (1 + position_or_len p cs) 0 →

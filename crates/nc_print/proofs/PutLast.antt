@@ -19,18 +19,18 @@ use Rattle.nc_schema.specs.Standing.{block_at, cases_of, entries, excludes, exis
 use Rattle.nc_schema.specs.Tables.{Tables}
 use Rattle.nc_schema.specs.declared.node.Node.{Node}
 use Rattle.nc_schema.proofs.ProperLemmas.{HasProperNodes}
-use Rattle.nc_model.proofs.BoolLemmas.{is_false, neither}
-use Rattle.nc_model.proofs.CaseLemmas.{cases_agree, from_cases}
-use Rattle.nc_model.proofs.EntryLemmas.{has_its_entry}
-use Rattle.nc_model.proofs.KeyLemmas.{filter_none, filter_whole}
-use Rattle.nc_model.proofs.ListLemmas.{contains_here, some_same}
-use Rattle.nc_model.proofs.Parts.{IsPartOf, all_at, all_from, pair_at, pairs_from, part_at, part_first, part_front, part_of_part, part_three}
-use Rattle.nc_model.proofs.PathViews.{IsHigher, IsLower, IsParting, below_parting, before_higher, before_parting, excludes_higher, excludes_lower, excludes_parting, node_after, view}
-use Rattle.nc_model.proofs.PlaceLemmas.{below_is_below, sibling_from}
-use Rattle.nc_model.proofs.RiseLemmas.{user_true}
-use Rattle.nc_model.proofs.SiblingLemmas.{GoesBefore, IsEntryOf, IsStepAt, entry_of, path_step, siblings, together_at}
-use Rattle.nc_model.specs.Edited.{new_block}
-use Rattle.nc_model.specs.declared.edit.Action.TheVariants.{Merge}
+use Rattle.nc_protocol.proofs.BoolLemmas.{is_false, neither}
+use Rattle.nc_protocol.proofs.CaseLemmas.{cases_agree, from_cases}
+use Rattle.nc_protocol.proofs.EntryLemmas.{has_its_entry}
+use Rattle.nc_protocol.proofs.KeyLemmas.{filter_none, filter_whole}
+use Rattle.nc_protocol.proofs.ListLemmas.{contains_here, some_same}
+use Rattle.nc_protocol.proofs.Parts.{IsPartOf, all_at, all_from, pair_at, pairs_from, part_at, part_first, part_front, part_of_part, part_three}
+use Rattle.nc_protocol.proofs.PathViews.{IsHigher, IsLower, IsParting, below_parting, before_higher, before_parting, excludes_higher, excludes_lower, excludes_parting, node_after, view}
+use Rattle.nc_protocol.proofs.PlaceLemmas.{below_is_below, sibling_from}
+use Rattle.nc_protocol.proofs.RiseLemmas.{user_true}
+use Rattle.nc_protocol.proofs.SiblingLemmas.{GoesBefore, IsEntryOf, IsStepAt, entry_of, path_step, siblings, together_at}
+use Rattle.nc_protocol.specs.Edited.{new_block}
+use Rattle.nc_protocol.specs.declared.edit.Action.TheVariants.{Merge}
 use Rattle.nc_print.proofs.StartLemmas.{Fresh}
 
 -- ---- an entry that stands before another in a list stands so where the list is cut, or the other put last

@@ -12,17 +12,17 @@ use Rattle.nc_schema.specs.Children.{IsChild, child_number}
 use Rattle.nc_schema.specs.Proper.{IsProperSchema}
 use Rattle.nc_schema.specs.Tables.{Tables}
 use Rattle.nc_schema.specs.declared.node.Node.{Node}
-use Rattle.nc_model.proofs.ContentLemmas.{elem_of_child}
-use Rattle.nc_model.proofs.PayloadLemmas.{child_is_element}
-use Rattle.nc_model.specs.declared.edit.Edit.{Edit}
-use Rattle.nc_model.specs.declared.position.Position.{Position}
-use Rattle.nc_model.specs.declared.request.Cause.{Cause}
+use Rattle.nc_protocol.proofs.ContentLemmas.{elem_of_child}
+use Rattle.nc_protocol.proofs.PayloadLemmas.{child_is_element}
+use Rattle.nc_protocol.specs.declared.edit.Edit.{Edit}
+use Rattle.nc_protocol.specs.declared.position.Position.{Position}
+use Rattle.nc_protocol.specs.declared.request.Cause.{Cause}
 use Rattle.nc_schema.specs.declared.node.Kind.TheVariants.{Container, Leaf, LeafList}
-use Rattle.nc_model.specs.Content.{text_parts}
-use Rattle.nc_model.specs.Elements.{Reading, Named, named, has_child, has_text, whole_text}
-use Rattle.nc_model.specs.Payload.{element_edits, if_read, list_edits, part_edits}
-use Rattle.nc_model.specs.Printed.{node_part}
-use Rattle.nc_model.specs.ModuleNames.{value_bounds}
+use Rattle.nc_protocol.specs.Content.{text_parts}
+use Rattle.nc_protocol.specs.Elements.{Reading, Named, named, has_child, has_text, whole_text}
+use Rattle.nc_protocol.specs.Payload.{element_edits, if_read, list_edits, part_edits}
+use Rattle.nc_protocol.specs.Printed.{node_part}
+use Rattle.nc_protocol.specs.ModuleNames.{value_bounds}
 use Rattle.nc_print.specs.Laws.{PrintedIsNamed, PrintedValueIsRead, LeafIsReadBack, LeafListIsReadBack, ContainerIsReadBack, StandsFree, inline_at, merge_at, printed_elem}
 
 -- a data node is the first of its name in its parent, since it is the only one
@@ -37,7 +37,7 @@ child_of_its_name tables number node proper at =
           let beside : Node = get_or tables.nodes k x in
           let is_there : slice_get tables.nodes k ≡ Some beside = slice_get-get_or tables.nodes k x (omega (arith, small, within)) in
           let is : IsChild node.parent node.name beside = subst (IsChild node.parent node.name) (get_or-take number tables.nodes k x small) child in
-          let same : number ≡ k = proper.siblings_apart number node at k beside is_there (sym is.0) (sym is.1) in
+          let same : number ≡ k = proper.places.siblings_apart number node at k beside is_there (sym is.0) (sym is.1) in
           absurd (omega (arith, same, small)),
     ))
 

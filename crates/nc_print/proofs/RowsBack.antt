@@ -8,7 +8,7 @@ use Rattle.nc_schema.specs.Proper.{IsProperSchema}
 use Rattle.nc_schema.specs.Tables.{Tables}
 use Rattle.nc_schema.specs.Values.{IsCanonical}
 use Rattle.nc_schema.proofs.ProperLemmas.{proper_nodes}
-use Rattle.nc_model.specs.Payload.{if_read, reading_of, rows_merged}
+use Rattle.nc_protocol.specs.Payload.{if_read, reading_of, rows_merged}
 use Rattle.nc_print.proofs.CanonicalBack.{canonical_again}
 use Rattle.nc_print.proofs.ConfigBack.{printed_is_merges}
 use Rattle.nc_print.proofs.LevelLast as last

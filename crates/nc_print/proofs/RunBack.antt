@@ -19,18 +19,18 @@ use Rattle.nc_schema.specs.declared.node.Kind.{Kind}
 use Rattle.nc_schema.specs.declared.node.Kind.TheVariants.{Container, Leaf, LeafList, List as ListKind}
 use Rattle.nc_schema.specs.declared.node.Node.{Node}
 use Rattle.nc_schema.proofs.ProperLemmas.{HasProperNodes, HoldsNodes, proper_nodes}
-use Rattle.nc_model.proofs.BoolLemmas.{is_false}
-use Rattle.nc_model.proofs.CaseLemmas.{cases_agree, from_cases}
-use Rattle.nc_model.proofs.ListLemmas.{contains_at, contains_behind}
-use Rattle.nc_model.proofs.Parts.{all_at, all_from}
-use Rattle.nc_model.proofs.PathViews.{IsLower, node_after, after_last}
-use Rattle.nc_model.proofs.SiblingLemmas.{IsStepAt, some_and}
-use Rattle.nc_model.specs.declared.edit.Edit.{Edit}
-use Rattle.nc_model.specs.declared.position.Under.TheVariants.{Inline}
-use Rattle.nc_model.specs.Elements.{Reading, key_values}
-use Rattle.nc_model.specs.Faults.{clashes}
-use Rattle.nc_model.specs.Payload.{list_edits}
-use Rattle.nc_model.specs.Printed.{own_value, parts_at}
+use Rattle.nc_protocol.proofs.BoolLemmas.{is_false}
+use Rattle.nc_protocol.proofs.CaseLemmas.{cases_agree, from_cases}
+use Rattle.nc_protocol.proofs.ListLemmas.{contains_at, contains_behind}
+use Rattle.nc_protocol.proofs.Parts.{all_at, all_from}
+use Rattle.nc_protocol.proofs.PathViews.{IsLower, node_after, after_last}
+use Rattle.nc_protocol.proofs.SiblingLemmas.{IsStepAt, some_and}
+use Rattle.nc_protocol.specs.declared.edit.Edit.{Edit}
+use Rattle.nc_protocol.specs.declared.position.Under.TheVariants.{Inline}
+use Rattle.nc_protocol.specs.Elements.{Reading, key_values}
+use Rattle.nc_protocol.specs.Faults.{clashes}
+use Rattle.nc_protocol.specs.Payload.{list_edits}
+use Rattle.nc_protocol.specs.Printed.{own_value, parts_at}
 use Rattle.nc_print.proofs.KeysBack.{printed_keys_are_read}
 use Rattle.nc_print.proofs.PartsLemmas.{nothing_below_its_end, printed_holds_no_text}
 use Rattle.nc_print.specs.Laws.{IsKeyReadBack, StandsFree, inline_at}
@@ -263,7 +263,7 @@ module _ (reading : Reading) (schema : IsProperSchema reading.tables) (rows : Li
           where
             none : (keys : List ℕ) (values : List (List ℕ)) → at.node.keys ≡ keys → step.keys ≡ values → length step.keys ≡ length at.node.keys →
                 key_values reading (it_is reading step.node at.node None (parts_at reading.tables 0 (depth + 1) (row ∷ more))) at.node.keys ≡ Some step.keys
-            none [] values is values_are long = absurd ((schema.keys step.node at.node at.node_is).some.0 kind_is is)
+            none [] values is values_are long = absurd ((schema.places.keys step.node at.node at.node_is).some.0 kind_is is)
             none (key ∷ keys) [] is values_are long = absurd (let a = ap (λ (ks : List ℕ). length ks) is in let b = ap (λ (vs : List (List ℕ)). length vs) values_are in omega (arith, a, b, long))
             none (key ∷ keys) (value ∷ values) is values_are long =
                 let next = keys_next kind_is in

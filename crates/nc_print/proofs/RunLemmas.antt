@@ -1,7 +1,7 @@
 -- The rows that stand first in one element, counted.
 use Rattle.std.proofs.Common.{◌≡◌, ◌≤◌, ℕ, zero, suc, Bool, true, false, cond, List, [], ◌∷◌, length, take, drop, refl, sym, ap, ◌∙◌, arith}
 use Rattle.nc_names.specs.declared.path.Row.{Row}
-use Rattle.nc_model.specs.Printed.{cut, onto_cut}
+use Rattle.nc_protocol.specs.Printed.{cut, onto_cut}
 use Rattle.nc_print.specs.inner.Runs.{IsRun, run_length}
 
 run_some : (b : Bool) (n : ℕ) → 1 ≤ cond b (suc n) 1

@@ -10,10 +10,11 @@ use Rattle.std.proofs.lemmas.Bool.Decides.{nat_tests}
 use Rattle.std.proofs.lemmas.Fmt.{decimal_is_IsNumeral_wide}
 use Rattle.base64.specs.Engines.{standard}
 use Rattle.base64.specs.GeneralPurpose.{decoded_of}
+use Rattle.nc_names.specs.Ends.{trimmed}
 use Rattle.nc_names.specs.Same.{is_same_text}
 use Rattle.nc_names.specs.Signs.{is_white}
 use Rattle.nc_schema.specs.NumberTexts.{has_128_bits, in_range, is_among, is_numeral, number_of, whole_text}
-use Rattle.nc_schema.specs.Values.{binary_text, boolean_text, empty_text, one_of, string_text, trimmed}
+use Rattle.nc_schema.specs.Values.{binary_text, boolean_text, empty_text, one_of, string_text}
 use Rattle.nc_schema.specs.declared.value_type.Between.{Between}
 use Rattle.nc_print.proofs.TrimAgain.{HasNoWhite, left_true, right_true, no_white, trimmed_again}
 

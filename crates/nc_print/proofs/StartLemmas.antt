@@ -11,11 +11,11 @@ use Rattle.nc_schema.specs.Configuration.{IsDataTree}
 use Rattle.nc_schema.specs.Tables.{Tables}
 use Rattle.nc_schema.specs.declared.node.Kind.{Kind}
 use Rattle.nc_schema.proofs.ProperLemmas.{HoldsNodes, HasProperNodes}
-use Rattle.nc_model.proofs.Parts.{IsPartOf, pair_at, part_at}
-use Rattle.nc_model.proofs.ListLemmas.{contains_here, contains_behind}
-use Rattle.nc_model.proofs.PathViews.{IsLower, after_last}
-use Rattle.nc_model.proofs.SiblingLemmas.{IsStepAt, path_step, together_at}
-use Rattle.nc_model.specs.Printed.{ends_at, goes_on, node_at}
+use Rattle.nc_protocol.proofs.Parts.{IsPartOf, pair_at, part_at}
+use Rattle.nc_protocol.proofs.ListLemmas.{contains_here, contains_behind}
+use Rattle.nc_protocol.proofs.PathViews.{IsLower, after_last}
+use Rattle.nc_protocol.proofs.SiblingLemmas.{IsStepAt, path_step, together_at}
+use Rattle.nc_protocol.specs.Printed.{ends_at, goes_on, node_at}
 use Rattle.nc_print.proofs.CutLemmas.{Chain}
 use Rattle.nc_print.proofs.StepLemmas.{ends_in, lower_step, node_there, goes_further, lower_is_later, same_step, path_of}
 

@@ -17,11 +17,11 @@ use Rattle.nc_schema.specs.declared.node.Kind.{Kind}
 use Rattle.nc_schema.specs.declared.node.Kind.TheVariants.{Container, Leaf, LeafList, List as ListKind}
 use Rattle.nc_schema.specs.declared.node.Node.{Node}
 use Rattle.nc_schema.proofs.ProperLemmas.{HoldsNodes, HasProperNodes}
-use Rattle.nc_model.proofs.ListLemmas.{some_same, contains_here}
-use Rattle.nc_model.proofs.Parts.{IsPartOf, all_at, pair_at}
-use Rattle.nc_model.proofs.PathViews.{IsLower, after_last, higher_order}
-use Rattle.nc_model.proofs.SiblingLemmas.{IsStepAt, path_step, together_at}
-use Rattle.nc_model.specs.Printed.{ends_at, goes_on, node_at}
+use Rattle.nc_protocol.proofs.ListLemmas.{some_same, contains_here}
+use Rattle.nc_protocol.proofs.Parts.{IsPartOf, all_at, pair_at}
+use Rattle.nc_protocol.proofs.PathViews.{IsLower, after_last, higher_order}
+use Rattle.nc_protocol.proofs.SiblingLemmas.{IsStepAt, path_step, together_at}
+use Rattle.nc_protocol.specs.Printed.{ends_at, goes_on, node_at}
 
 -- ---- steps of a path by their depth
 pub step_there : (above : List Step) (step : Step) (rest : List Step) (depth : ℕ) → length above ≡ depth → slice_get (above ++ step ∷ rest) depth ≡ Some step

@@ -1,9 +1,8 @@
 -- White space at the ends of a text.
 use Rattle.std.proofs.Common.{◌≡◌, ◌&&◌, not, cond, ℕ, Bool, true, false, List, [], ◌∷◌, ◌++◌, refl, sym, ap, ◌∙◌}
 use Rattle.std.specs.List.{list_all}
+use Rattle.nc_names.specs.Ends.{past, trimmed, without_last}
 use Rattle.nc_names.specs.Signs.{is_white}
-use Rattle.nc_schema.specs.PathWords.{past, without_last}
-use Rattle.nc_schema.specs.Values.{trimmed}
 
 -- no white space at either end
 abbrev pub IsTrimmed : List ℕ → Type 0

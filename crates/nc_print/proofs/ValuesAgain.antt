@@ -7,17 +7,18 @@ use Rattle.std.specs.List.{Contains, list_all, list_any}
 use Rattle.std.specs.Option.{option_map_or}
 use Rattle.std.specs.Prelude.{option_and_then, slice_get}
 use Rattle.nc_names.specs.declared.name.Bound.{Bound}
+use Rattle.nc_names.specs.Ends.{trimmed}
 use Rattle.nc_names.specs.Same.{is_same_text}
 use Rattle.nc_schema.specs.Bindings.{module_bounds}
 use Rattle.nc_schema.specs.PathWords.{◌>>=◌}
 use Rattle.nc_schema.specs.Proper.{IsProperSchema, IsProperType}
 use Rattle.nc_schema.specs.Tables.{Tables}
-use Rattle.nc_schema.specs.Values.{Givers, Gives, agrees, fits_paths, instance_text, node_instance_text, node_text, text_in_type, trimmed, type_of, type_text, union_text}
+use Rattle.nc_schema.specs.Values.{Givers, Gives, agrees, fits_paths, instance_text, node_instance_text, node_text, text_in_type, type_of, type_text, union_text}
 use Rattle.nc_schema.specs.declared.value_type.ValueType.{ValueType}
 use Rattle.nc_schema.specs.declared.value_type.ValueType.TheVariants.{Whole, Decimal, Chars, Boolean, Enumeration, Bits, Binary, Empty, Union, Identity, Leafref, Instance, NodeInstance}
-use Rattle.nc_model.proofs.ListLemmas.{contains_at, contains_behind, none_passes}
-use Rattle.nc_model.proofs.Parts.{all_at}
-use Rattle.nc_model.specs.ModuleNames.{holds_names, may_hold_names, names_bound, value_bounds}
+use Rattle.nc_protocol.proofs.ListLemmas.{contains_at, contains_behind, none_passes}
+use Rattle.nc_protocol.proofs.Parts.{all_at}
+use Rattle.nc_protocol.specs.ModuleNames.{holds_names, may_hold_names, names_bound, value_bounds}
 use Rattle.nc_print.proofs.BitsAgain.{bits_again}
 use Rattle.nc_print.proofs.DecimalAgain.{decimal_again}
 use Rattle.nc_print.proofs.IdentityAgain.{identity_again, knows_trimmed, same_identity}
@@ -208,7 +209,7 @@ module _ (tables : Tables) (schema : IsProperSchema tables) (keys : List Bound �
 
   -- ---- types by their numbers
   proper_at : (number : ℕ) (type : ValueType) → slice_get tables.types number ≡ Some type → IsProperType tables type
-  proper_at number type is = all_at (IsProperType tables) tables.types type schema.types (contains_at tables.types number type is)
+  proper_at number type is = all_at (IsProperType tables) tables.types type schema.types.types (contains_at tables.types number type is)
 
   types_again : (most : ℕ) (chain : List ℕ) (bounds : List Bound) (number : ℕ) (given text : List ℕ) → type_text tables keys most chain bounds number given ≡ Some text →
       type_text tables keys most chain (module_bounds tables) number text ≡ Some text

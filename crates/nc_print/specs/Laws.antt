@@ -13,17 +13,17 @@ use Rattle.nc_schema.specs.Tables.{Tables}
 use Rattle.nc_schema.specs.Values.{IsCanonical}
 use Rattle.nc_schema.specs.declared.node.Kind.TheVariants.{Container, Leaf, LeafList, List as ListKind}
 use Rattle.nc_schema.specs.declared.node.Node.{Node}
-use Rattle.nc_model.specs.declared.edit.Action.TheVariants.{Merge}
-use Rattle.nc_model.specs.declared.edit.Edit.{Edit}
-use Rattle.nc_model.specs.declared.position.Position.{Position}
-use Rattle.nc_model.specs.declared.position.Under.TheVariants.{Inline}
-use Rattle.nc_model.specs.Content.{text_parts}
-use Rattle.nc_model.specs.Edited.{left_by}
-use Rattle.nc_model.specs.Elements.{Reading, Named, has_text, key_values, named_part, value_in}
-use Rattle.nc_model.specs.Faults.{clashes}
-use Rattle.nc_model.specs.ModuleNames.{value_bounds}
-use Rattle.nc_model.specs.Payload.{config_edits, if_read, list_edits, part_edits, reading_of, rows_of}
-use Rattle.nc_model.specs.Printed.{cut, goes_on, longest, node_part, own_value, parts_at, printed, step_parts}
+use Rattle.nc_protocol.specs.declared.edit.Action.TheVariants.{Merge}
+use Rattle.nc_protocol.specs.declared.edit.Edit.{Edit}
+use Rattle.nc_protocol.specs.declared.position.Position.{Position}
+use Rattle.nc_protocol.specs.declared.position.Under.TheVariants.{Inline}
+use Rattle.nc_protocol.specs.Content.{text_parts}
+use Rattle.nc_protocol.specs.Edited.{left_by}
+use Rattle.nc_protocol.specs.Elements.{Reading, Named, has_text, key_values, named_part, value_in}
+use Rattle.nc_protocol.specs.Faults.{clashes}
+use Rattle.nc_protocol.specs.ModuleNames.{value_bounds}
+use Rattle.nc_protocol.specs.Payload.{config_edits, if_read, list_edits, part_edits, reading_of, rows_of}
+use Rattle.nc_protocol.specs.Printed.{cut, goes_on, longest, node_part, own_value, parts_at, printed, step_parts}
 
 -- the element that is printed for a data node
 abbrev pub printed_elem : Tables → ℕ → Option (List ℕ) → List Part → Node → Elem

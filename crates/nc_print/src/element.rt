@@ -1,9 +1,9 @@
 //! The element of a data node.
 ghost use Rattle.std.specs.Prelude.{◌≡◌, [], IfOk};
 ghost use Rattle.std.specs.Option.{option_copied, option_map_or};
-ghost use Rattle.nc_model.specs.Content.{text_parts};
-ghost use Rattle.nc_model.specs.ModuleNames as names;
-ghost use Rattle.nc_model.specs.Printed as printed;
+ghost use Rattle.nc_protocol.specs.Content.{text_parts};
+ghost use Rattle.nc_protocol.specs.ModuleNames as names;
+ghost use Rattle.nc_protocol.specs.Printed as printed;
 
 use crate::value_types::value_bounds;
 use nc_message::{Bounds, Elem, Part};

@@ -1,7 +1,7 @@
 //! The rows as elements.
 ghost use Rattle.std.specs.Prelude.{◌≡◌, ◌+◌, ◌^◌, ◌<◌, ◌≤◌, ◌++◌, length, take, drop, Some, IfOk};
 ghost use Rattle.std.specs.Option.{option_copied};
-ghost use Rattle.nc_model.specs.Printed as printed;
+ghost use Rattle.nc_protocol.specs.Printed as printed;
 
 use crate::element::node_part;
 use crate::runs::{ends_at, longest, run};

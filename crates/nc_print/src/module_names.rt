@@ -3,7 +3,7 @@ ghost use Rattle.std.specs.Prelude.{◌≡◌, ◌≤◌, length, take, drop, no
 ghost use Rattle.std.specs.Option.{option_copied};
 ghost use Rattle.std.specs.List.{before_first, find, list_any, prefix_len};
 ghost use Rattle.nc_names.specs.Same.{is_same_text};
-ghost use Rattle.nc_model.specs.ModuleNames as names;
+ghost use Rattle.nc_protocol.specs.ModuleNames as names;
 ghost use Rattle.nc_print.specs.inner.Pieces.{IsOnePiece, EndsAt};
 
 use nc_message::Bounds;

@@ -1,7 +1,7 @@
 //! The rows that stand in one element.
 ghost use Rattle.std.specs.Prelude.{◌≡◌, ◌+◌, ◌^◌, ◌<◌, length, max};
 ghost use Rattle.nc_schema.specs.Children.{is_same_number};
-ghost use Rattle.nc_model.specs.Printed as printed;
+ghost use Rattle.nc_protocol.specs.Printed as printed;
 ghost use Rattle.nc_print.specs.inner.Runs.{IsRun, run_length};
 
 use nc_names::Row;

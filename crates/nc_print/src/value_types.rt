@@ -3,7 +3,7 @@ ghost use Rattle.std.specs.Prelude.{◌≡◌, false, IfOk};
 ghost use Rattle.std.specs.List.{list_any};
 ghost use Rattle.std.specs.Option.{option_map_or};
 ghost use Rattle.nc_schema.specs.Values.{type_of};
-ghost use Rattle.nc_model.specs.ModuleNames as names;
+ghost use Rattle.nc_protocol.specs.ModuleNames as names;
 
 use crate::module_names::names_bound;
 use nc_message::Bounds;

@@ -8,10 +8,10 @@ use Rattle.std.proofs.lemmas.Bool.{lt-ltb}
 use Rattle.std.proofs.lemmas.Option.{slice_get_past}
 use Rattle.nc_message.specs.declared.tree.Elem.{Elem}
 use Rattle.nc_message.specs.declared.tree.Part.{Part}
-use Rattle.nc_model.specs.declared.asked.Select.{Select}
-use Rattle.nc_model.specs.Asking.{is_select, only, select_in}
-use Rattle.nc_model.specs.Content.{children}
-use Rattle.nc_model.specs.Elements.{elem_of}
+use Rattle.nc_protocol.specs.declared.asked.Select.{Select}
+use Rattle.nc_protocol.specs.Asking.{is_select, only, select_in}
+use Rattle.nc_protocol.specs.Content.{children}
+use Rattle.nc_protocol.specs.Elements.{elem_of}
 use Rattle.nc_requests.specs.inner.Parameters.{selects_among}
 
 one_of : {X : Type 0} (o : Option X) → cons_option o [] ≡ option_to_list o

@@ -1,2 +1,1 @@
-pub mod WhiteLemmas
 pub mod ContentLemmas

@@ -1,29 +1,29 @@
 //! What the elements of an operation ask for.
 ghost use Rattle.std.specs.Prelude.{◌≡◌, [], ◌∷◌, ◌++◌, false, None, Some, IfOk, position};
 ghost use Rattle.nc_names.specs.Same.{is_same_name};
-ghost use Rattle.nc_model.specs.Asking as asking;
-ghost use Rattle.nc_model.specs.Decoded as decoded;
-ghost use Rattle.nc_model.specs.declared.request.Cause.{Cause};
-ghost use Rattle.nc_model.specs.declared.asked.Default3.TheVariants.{Merge};
-ghost use Rattle.nc_model.specs.declared.asked.ErrorOption.TheVariants.{Stop as StopOnError};
-ghost use Rattle.nc_model.specs.declared.asked.Operation.TheVariants.{Get, GetConfig, EditConfig, CopyConfig, DeleteConfig, Lock, Unlock, KillSession, Commit, CancelCommit, Validate, PartialLock, PartialUnlock};
-ghost use Rattle.nc_model.specs.declared.asked.TestOption.TheVariants.{Set};
+ghost use Rattle.nc_protocol.specs.Asking as asking;
+ghost use Rattle.nc_protocol.specs.Decoded as decoded;
+ghost use Rattle.nc_protocol.specs.declared.request.Cause.{Cause};
+ghost use Rattle.nc_protocol.specs.declared.asked.Default3.TheVariants.{Merge};
+ghost use Rattle.nc_protocol.specs.declared.asked.ErrorOption.TheVariants.{Stop as StopOnError};
+ghost use Rattle.nc_protocol.specs.declared.asked.Operation.TheVariants.{Get, GetConfig, EditConfig, CopyConfig, DeleteConfig, Lock, Unlock, KillSession, Commit, CancelCommit, Validate, PartialLock, PartialUnlock};
+ghost use Rattle.nc_protocol.specs.declared.asked.TestOption.TheVariants.{Set};
 ghost use Rattle.nc_requests.specs.declared.parameter.Parameter.TheVariants.{Origin as OriginParameter, Config as ConfigParameter, Filter as FilterParameter, DefaultOperation, TestOption as TestParameter, ErrorOption as ErrorParameter, Confirmed, ConfirmTimeout};
 ghost use Rattle.nc_requests.specs.inner.Parameters.{means, needs, has_or, select_of, selects_among};
 ghost use Rattle.nc_requests.specs.inner.Reads.{Reads, StopsFor};
 
 use crate::faults::first_fault;
-use crate::parameter::{Parameter, element_named, names, naming, parameters_of, refused, word_of};
+use crate::parameter::{Parameter, element_named, names, parameters_of, refused, word_of};
 use crate::reading::{
     datastore_in, default_operation_in, error_option_in, is_filter, number_in, origin_in,
     presence_in, select_in, test_option_in, whole_text_in,
 };
 use crate::stop::Stop;
 use nc_message::Elem;
-use nc_model::{
+use nc_names::{CauseKind, Many, Memory, Text};
+use nc_protocol::{
     Asked, Cause, Datastore, Default3, ErrorOption, Operation, Origin, Select, TestOption,
 };
-use nc_names::{CauseKind, Many, Memory, Text};
 use std::alloc::Global;
 
 // The seconds after which a confirmed commit is reverted, where none are given (RFC 6241 8.4.5.1).
@@ -50,7 +50,7 @@ fn bad(alloc: Global, parameter: Parameter) -> Stop
 fn missing(alloc: Global, parameter: Parameter) -> Stop
     ensures { StopsFor result (asking.missing_parameter (means parameter).name) }
 {
-    stop_for(naming(alloc, CauseKind::MissingParameter, word_of(parameter)))
+    stop_for(Cause::naming(alloc, CauseKind::MissingParameter, word_of(parameter)))
 }
 
 // The value of a parameter, or the stop where it has none.

@@ -3,15 +3,15 @@ ghost use Rattle.std.specs.Prelude.{◌≡◌, ◌++◌, not, option_to_list, If
 ghost use Rattle.std.specs.List.{list_any};
 ghost use Rattle.std.specs.Option.{option_copied};
 ghost use Rattle.nc_names.specs.Signs as signs;
-ghost use Rattle.nc_model.specs.Asking as asking;
-ghost use Rattle.nc_model.specs.Content as content;
-ghost use Rattle.nc_model.specs.Elements as elements;
+ghost use Rattle.nc_protocol.specs.Asking as asking;
+ghost use Rattle.nc_protocol.specs.Content as content;
+ghost use Rattle.nc_protocol.specs.Elements as elements;
 
 use nc_message::{Elem, Part};
 use nc_names::{Many, Memory, Text, is_white};
 
 /// The child element that a part is.
-#[tactic(auto, using(nc_model::proofs::ContentLemmas::elem_of_child))]
+#[tactic(auto, using(nc_protocol::proofs::ContentLemmas::elem_of_child))]
 pub(crate) fn child_of(part: &Part) -> Option<&Elem>
     ensures { option_copied result ≡ elements.elem_of part.now }
 {
@@ -22,7 +22,7 @@ pub(crate) fn child_of(part: &Part) -> Option<&Elem>
 }
 
 // The same, moved out of the part.
-#[tactic(auto, using(nc_model::proofs::ContentLemmas::elem_of_child))]
+#[tactic(auto, using(nc_protocol::proofs::ContentLemmas::elem_of_child))]
 fn into_child(part: Part) -> Option<Elem>
     ensures { result ≡ elements.elem_of part }
 {

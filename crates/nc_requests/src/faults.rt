@@ -1,12 +1,12 @@
 //! The first fault of the elements of an operation.
 ghost use Rattle.std.specs.Prelude.{◌≡◌, ◌≤◌, [], Some, length, map, take, IfOk};
-ghost use Rattle.nc_model.specs.Decoded as decoded;
+ghost use Rattle.nc_protocol.specs.Decoded as decoded;
 ghost use Rattle.nc_requests.specs.inner.Parameters.{means};
 
-use crate::parameter::{Parameter, admits, naming, parameter_named, refused, repeats};
+use crate::parameter::{Parameter, admits, parameter_named, refused, repeats};
 use nc_message::Elem;
-use nc_model::Cause;
 use nc_names::{CauseKind, Memory, QName, same_name};
+use nc_protocol::Cause;
 use std::alloc::Global;
 
 // Whether one of the elements has the name.
@@ -35,7 +35,11 @@ fn fault_as_parameter(
     ensures { IfOk result (λ it. it ≡ decoded.fault_as elems.now earlier.now elem.now (Some (means parameter))) }
 {
     if !repeats(parameter) && has_name(&elem.name, earlier) {
-        return Ok(Some(naming(alloc, CauseKind::RepeatedParameter, elem.name.name.as_str())?));
+        return Ok(Some(Cause::naming(
+            alloc,
+            CauseKind::RepeatedParameter,
+            elem.name.name.as_str(),
+        )?));
     }
     if admits(parameter, elems, elem)? {
         return Ok(None);
@@ -54,7 +58,11 @@ fn fault_of(
     ensures { IfOk result (λ it. it ≡ decoded.fault_as elems.now earlier.now elem.now (decoded.parameter_named (map means among.now) elem.now.name)) }
 {
     match parameter_named(among, &elem.name) {
-        None => Ok(Some(naming(alloc, CauseKind::UnknownParameter, elem.name.name.as_str())?)),
+        None => Ok(Some(Cause::naming(
+            alloc,
+            CauseKind::UnknownParameter,
+            elem.name.name.as_str(),
+        )?)),
         Some(parameter) => fault_as_parameter(alloc, elems, earlier, elem, parameter),
     }
 }

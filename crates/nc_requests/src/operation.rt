@@ -1,10 +1,10 @@
 //! The operations by their names.
 ghost use Rattle.std.specs.Prelude.{◌≡◌};
 ghost use Rattle.nc_names.specs.Same.{is_same_name};
-ghost use Rattle.nc_model.specs.Decoded as decoded;
+ghost use Rattle.nc_protocol.specs.Decoded as decoded;
 
-use nc_model::{Operation, request_words as words};
 use nc_names::QName;
+use nc_protocol::{Operation, request_words as words};
 
 // The namespace of an operation.
 fn space_of(operation: Operation) -> &'static str

@@ -1,9 +1,9 @@
 //! The parameters of the operations: their names, and whether an element has a reading as one.
-ghost use Rattle.std.specs.Prelude.{◌≡◌, [], ◌∷◌, map, option_map, IfOk};
+ghost use Rattle.std.specs.Prelude.{◌≡◌, map, option_map, IfOk};
 ghost use Rattle.std.specs.Option.{option_copied};
 ghost use Rattle.nc_names.specs.Same.{is_same_name};
-ghost use Rattle.nc_model.specs.Asking as asking;
-ghost use Rattle.nc_model.specs.Decoded as decoded;
+ghost use Rattle.nc_protocol.specs.Asking as asking;
+ghost use Rattle.nc_protocol.specs.Decoded as decoded;
 ghost use Rattle.nc_requests.specs.inner.Parameters.{means};
 
 use crate::reading::{
@@ -11,8 +11,8 @@ use crate::reading::{
     presence_in, test_option_in, text_in, whole_text_in,
 };
 use nc_message::Elem;
-use nc_model::{Cause, Operation, request_words as words};
-use nc_names::{CauseKind, Many, Memory, QName, Text};
+use nc_names::{CauseKind, Memory, QName};
+use nc_protocol::{Cause, Operation, request_words as words};
 use std::alloc::Global;
 
 /// A parameter of an operation.
@@ -136,30 +136,13 @@ pub(crate) fn admits(parameter: Parameter, elems: &[Elem], elem: &Elem) -> Resul
     }
 }
 
-/// A cause that names one element.
-pub(crate) fn naming(alloc: Global, kind: CauseKind, name: &str) -> Result<Cause, Memory>
-    ensures { IfOk result (λ it. it ≡ asking.plain_cause kind (name.now ∷ [])) }
-{
-    let mut names = Many::new(alloc);
-    names.push(Text::from_text(alloc, name)?)?;
-    Ok(Cause {
-        kind,
-        path: None,
-        names,
-    })
-}
-
 /// Why an element that has no reading as the parameter is refused.
 pub(crate) fn refused(alloc: Global, parameter: Parameter) -> Result<Cause, Memory>
     ensures { IfOk result (λ it. it ≡ (means parameter).refused) }
 {
     match parameter {
-        Parameter::Filter => Ok(Cause {
-            kind: CauseKind::BadFilterType,
-            path: None,
-            names: Many::new(alloc),
-        }),
-        _ => naming(alloc, CauseKind::BadParameter, word_of(parameter)),
+        Parameter::Filter => Ok(Cause::plain(alloc, CauseKind::BadFilterType)),
+        _ => Cause::naming(alloc, CauseKind::BadParameter, word_of(parameter)),
     }
 }
 

@@ -2,15 +2,14 @@
 ghost use Rattle.std.specs.Prelude.{◌≡◌, is_some, option_and_then, IfOk};
 ghost use Rattle.std.specs.Option.{option_copied};
 ghost use Rattle.nc_schema.specs.NumberTexts.{number_of};
-ghost use Rattle.nc_model.specs.Asking as asking;
+ghost use Rattle.nc_protocol.specs.Asking as asking;
 
 use crate::content::{children, has_child, has_text, only_child, only_of, whole_text};
-use crate::white::trimmed;
 use nc_message::{Attr, Elem};
-use nc_model::{
+use nc_names::{Copies, Memory, Text, trimmed};
+use nc_protocol::{
     Datastore, Default3, ErrorOption, Origin, Select, TestOption, request_words as words,
 };
-use nc_names::{Copies, Memory, Text};
 use nc_schema::read_number;
 
 /// The text of an element without child elements.

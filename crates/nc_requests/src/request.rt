@@ -3,17 +3,16 @@ ghost use Rattle.std.specs.Prelude.{◌≡◌, [], ◌∷◌, None, slice_get, I
 ghost use Rattle.std.specs.List.{list_any};
 ghost use Rattle.nc_names.specs.declared.cause.CauseKind.TheVariants.{TwoOperations};
 ghost use Rattle.nc_names.specs.Same.{is_same_name};
-ghost use Rattle.nc_model.specs.Content as content;
-ghost use Rattle.nc_model.specs.Decoded as decoded;
-ghost use Rattle.nc_model.specs.Words as w;
+ghost use Rattle.nc_protocol.specs.Content as content;
+ghost use Rattle.nc_protocol.specs.Decoded as decoded;
+ghost use Rattle.nc_protocol.specs.Words as w;
 
 use crate::asking::asked;
 use crate::content::children;
 use crate::operation::operation_named;
-use crate::parameter::naming;
 use nc_message::{Attr, Elem, Tree, Why};
-use nc_model::{Cause, Request, request_words as words};
 use nc_names::{CauseKind, Many, Memory};
+use nc_protocol::{Cause, Request, request_words as words};
 use std::alloc::Global;
 
 // A request that asks for nothing known, for a cause without names.
@@ -23,11 +22,7 @@ fn refused(alloc: Global, attributes: Many<Attr>, kind: CauseKind) -> Request
     Request {
         attributes,
         operation: None,
-        asked: Err(Cause {
-            kind,
-            path: None,
-            names: Many::new(alloc),
-        }),
+        asked: Err(Cause::plain(alloc, kind)),
     }
 }
 
@@ -35,7 +30,7 @@ fn refused(alloc: Global, attributes: Many<Attr>, kind: CauseKind) -> Request
 fn refused_for(alloc: Global, attributes: Many<Attr>, second: &Elem) -> Result<Request, Memory>
     ensures { IfOk result (λ it. it ≡ decoded.refused_request attributes TwoOperations (second.now.name.name ∷ [])) }
 {
-    let cause = naming(alloc, CauseKind::TwoOperations, second.name.name.as_str())?;
+    let cause = Cause::naming(alloc, CauseKind::TwoOperations, second.name.name.as_str())?;
     Ok(Request {
         attributes,
         operation: None,

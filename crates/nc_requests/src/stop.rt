@@ -1,6 +1,6 @@
 //! Why a reading stops.
-use nc_model::Cause;
 use nc_names::Memory;
+use nc_protocol::Cause;
 
 /// Why a reading stops.
 #[derive(Debug, Drop)]

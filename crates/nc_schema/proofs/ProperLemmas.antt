@@ -92,10 +92,10 @@ proper_nodes tables proper = record {
   parents = λ number above node over is parent over_is.
       let P : Option ℕ → Type 0 = StandsIn tables number in
       let Q : Option Node → Type 0 = λ found. IsSomeAnd found (λ over. IsTrue (holds_nodes over.kind)) in
-      holds over.kind (subst Q over_is (subst P parent (proper.parents number node is)).1);
-  keys = λ number key node is has. each_contained (λ key. IsSomeAnd (slice_get tables.nodes key) (IsKeyIn number)) node.keys key (proper.keys number node is).leafs has;
-  keys_apart = λ number node is. (proper.keys number node is).apart;
-  cases_apart = λ number node is. cases_differ_in tables node.parent node.cases (proper.cases number node is);
+      holds over.kind (subst Q over_is (subst P parent (proper.places.parents number node is)).1);
+  keys = λ number key node is has. each_contained (λ key. IsSomeAnd (slice_get tables.nodes key) (IsKeyIn number)) node.keys key (proper.places.keys number node is).leafs has;
+  keys_apart = λ number node is. (proper.places.keys number node is).apart;
+  cases_apart = λ number node is. cases_differ_in tables node.parent node.cases (proper.places.cases number node is);
 }
 
 -- the module of a node
@@ -115,24 +115,24 @@ same_some x y e = cc
 
 pub proper_names : (tables : Tables) → IsProperSchema tables → HasProperNames tables
 proper_names tables proper = record {
-  node_names = λ number node is. (proper.names number node is).name;
-  module_names = λ number found is. (each_at IsProperModule tables.modules number found proper.modules is).name;
-  known_modules = λ number node is. let there = module_there tables node (proper.names number node is) in is_some_by (slice_get tables.modules node.module) there.0 there.1;
+  node_names = λ number node is. (proper.places.names number node is).name;
+  module_names = λ number found is. (each_at IsProperModule tables.modules number found proper.modules.modules is).name;
+  known_modules = λ number node is. let there = module_there tables node (proper.places.names number node is) in is_some_by (slice_get tables.modules node.module) there.0 there.1;
   modules_apart = apart;
   siblings_apart = λ number other node beside is beside_is parent same_module same_name.
-      let there = module_there tables node (proper.names number node is) in
-      let also = module_there tables beside (proper.names other beside beside_is) in
+      let there = module_there tables node (proper.places.names number node is) in
+      let also = module_there tables beside (proper.places.names other beside beside_is) in
       let one = same_some there.0 also.0 (sym there.1 ∙ ap (slice_get tables.modules) same_module ∙ also.1) in
       let space : node.name.space ≡ beside.name.space = sym there.2 ∙ ap (λ m. m.space) one ∙ also.2 in
       let name : node.name ≡ beside.name = λ i. record { space = space i; name = same_name i } in
-      proper.siblings_apart number node is other beside beside_is parent name;
+      proper.places.siblings_apart number node is other beside beside_is parent name;
 }
   where
     differ : (i j : ℕ) (found another : Module) → i < j → slice_get tables.modules i ≡ Some found → slice_get tables.modules j ≡ Some another → found.name ≡ another.name → ⊥
     differ i j found another less is another_is same =
         let at = found_at tables.modules i found found is in
         let at_other = found_at tables.modules j another found another_is in
-        (proper.modules_apart i j found less at_other.0).0 (ap (λ m. m.name) at.1 ∙ same ∙ sym (ap (λ m. m.name) at_other.1))
+        (proper.modules.modules_apart i j found less at_other.0).0 (ap (λ m. m.name) at.1 ∙ same ∙ sym (ap (λ m. m.name) at_other.1))
 
     order : (a b : ℕ) → (a < b) ⊎ (a ≡ b) ⊎ (b < a)
     order zero zero = inr (inl refl)

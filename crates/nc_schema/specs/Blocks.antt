@@ -21,6 +21,7 @@ own_rows Leaf keys path values value = record { path = path; value = value } ∷
 own_rows LeafList keys path values value = record { path = path; value = value } ∷ []
 own_rows ListKind keys path values value = record { path = path; value = None } ∷ key_rows path.steps keys values
 
+-- the rows that the node at a path has by itself, with that value (RFC 7950 7.5 to 7.8)
 abbrev pub rows_of_node : Tables → Path → Option (List ℕ) → List Row
 rows_of_node tables path value =
     option_map_or
@@ -28,6 +29,7 @@ rows_of_node tables path value =
     own_rows node.kind node.keys path (option_map_or (λ step. step.keys) (last_or None path.steps) []) value)
     (node_of tables path.steps) []
 
+-- the path leads to a data node whose kind passes
 abbrev pub at_node : Tables → Path → (Kind → Bool) → Bool
 at_node tables path test = option_map_or (λ node. test node.kind) (node_of tables path.steps) false
 
@@ -54,6 +56,7 @@ abbrev pub above_from : Step → List Step → List Step
 above_from step [] = []
 above_from step (next ∷ rest) = step ∷ above_from next rest
 
+-- the steps to the node in which the one at these steps stands
 abbrev pub above_last : List Step → List Step
 above_last [] = []
 above_last (step ∷ rest) = above_from step rest

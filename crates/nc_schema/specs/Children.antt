@@ -34,6 +34,7 @@ pub record IsListOfNodes (nodes : List Node) : Type 0 where
   pub few : length nodes < 2 ^ 32
   pub lower : HasLowerParents nodes
 
+-- two nodes stand in one parent, or both at the top
 abbrev pub is_same_number : Option ℕ → Option ℕ → Bool
 is_same_number None None = true
 is_same_number (Some a) (Some b) = a == b

@@ -36,6 +36,7 @@ IsRowValue Leaf step value = IsSome value
 IsRowValue LeafList step value = value ≡ slice_get step.keys 0
 IsRowValue ListKind step value = value ≡ None
 
+-- the row has a value where its data node's kind has one, and no other (RFC 7950 7.5 to 7.8)
 abbrev pub HasItsValue : Tables → Row → Type 0
 HasItsValue tables row =
     (above : List Step) (step : Step) (node : Node) → LeadsTo tables above step node row →

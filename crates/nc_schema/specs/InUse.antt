@@ -13,6 +13,7 @@ use Rattle.nc_schema.specs.Places.{top_place}
 use Rattle.nc_schema.specs.Standing.{cases_of}
 use Rattle.nc_schema.specs.Tables.{Tables}
 
+-- the value of the first row
 abbrev pub first_value : List Row → Option (List ℕ)
 first_value [] = None
 first_value (row ∷ rows) = row.value
@@ -21,6 +22,7 @@ first_value (row ∷ rows) = row.value
 abbrev pub values_there : Place → ℕ → List (List ℕ)
 values_there place number = filter_map (λ part. first_value part.rows) (parts_of place number)
 
+-- the defaults of a leaf or leaf-list (RFC 7950 7.6.4, 7.7.4)
 abbrev pub defaults_of : Tables → ℕ → List (List ℕ)
 defaults_of tables number = option_map_or (λ node. node.defaults) (slice_get tables.nodes number) []
 
@@ -31,6 +33,7 @@ defaults_there tables place number =
     let in_use = place.defaults && list_all (is_chosen_or_default tables place) (cases_of tables number) in
     if in_use then defaults_of tables number else []
 
+-- values, or the others where there is none
 abbrev pub or_else : List (List ℕ) → List (List ℕ) → List (List ℕ)
 or_else [] others = others
 or_else (value ∷ values) others = value ∷ values
@@ -54,9 +57,11 @@ value_from tables place (step ∷ next ∷ rest) =
 abbrev pub value_in_use : Tables → List Row → Path → Option (List ℕ)
 value_in_use tables rows path = value_from tables (top_place rows) path.steps
 
+-- the data node in which one stands; none at the top
 abbrev pub parent_of : Tables → ℕ → Option ℕ
 parent_of tables number = option_and_then (λ node. node.parent) (slice_get tables.nodes number)
 
+-- the place is an instance of that parent, or the top
 abbrev pub stands_in : Option ℕ → Place → Bool
 stands_in parent place = is_same_number parent (node_there place)
 

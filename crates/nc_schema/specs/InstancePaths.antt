@@ -43,10 +43,12 @@ keys_of_kind LeafList number keys = number ∷ []
 keys_of_kind ListKind number keys = keys
 keys_of_kind kind number keys = []
 
+-- those of the data node of a number
 abbrev pub key_nodes : Tables → ℕ → List ℕ
 key_nodes tables number =
     option_map_or (λ node. keys_of_kind node.kind number node.keys) (slice_get tables.nodes number) []
 
+-- the data node of a number has that name
 abbrev pub has_name : Tables → ℕ → QName → Bool
 has_name tables number name =
     option_map_or (λ node. is_same_name node.name name) (slice_get tables.nodes number) false
@@ -96,9 +98,11 @@ all_given [] = Some []
 all_given (None ∷ keys) = None
 all_given (Some key ∷ keys) = option_map (λ more. key ∷ more) (all_given keys)
 
+-- the step to an instance: each key has its value (RFC 7950 9.13)
 abbrev pub instance_step : PatternStep → Option Step
 instance_step step = option_map (λ keys. record { node = step.node; keys = keys }) (all_given step.keys)
 
+-- the steps to an instance, where each key in each of them has its value
 abbrev pub instance_steps : List PatternStep → Option (List Step)
 instance_steps [] = Some []
 instance_steps (step ∷ rest) = do
@@ -120,6 +124,7 @@ node_pattern tables text bounds =
     if is_same_text text (slash ∷ []) then Some (record { steps = [] })
     else option_map (λ steps. record { steps = steps }) (written_steps text >>= pattern_steps tables bounds None)
 
+-- the data node of a number is a list
 abbrev pub is_list_there : Tables → ℕ → Bool
 is_list_there tables number = option_map_or (λ node. is_list node.kind) (slice_get tables.nodes number) false
 
@@ -152,6 +157,7 @@ leafref_below tables space bounds above parts = do
   node ← slice_get tables.nodes target
   if has_value node.kind then Some (record { target = target; above = above }) else None
 
+-- the data node in which one stands; none at the top
 abbrev pub parent_of : Tables → ℕ → Option ℕ
 parent_of tables number = option_and_then (λ node. node.parent) (slice_get tables.nodes number)
 

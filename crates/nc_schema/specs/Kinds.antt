@@ -9,6 +9,7 @@ holds_nodes (Container presence) = true
 holds_nodes ListKind = true
 holds_nodes kind = false
 
+-- a list (RFC 7950 7.8)
 abbrev pub is_list : Kind → Bool
 is_list ListKind = true
 is_list kind = false
@@ -20,17 +21,18 @@ has_entries ListKind = true
 has_entries kind = false
 
 -- leafs, and the entries of leaf-lists, have values
-
 abbrev pub has_value : Kind → Bool
 has_value (Container presence) = false
 has_value Leaf = true
 has_value LeafList = true
 has_value ListKind = false
 
+-- a container without presence, which exists only for what stands in it (RFC 7950 7.5.1)
 abbrev pub is_plain_container : Kind → Bool
 is_plain_container (Container presence) = not presence
 is_plain_container kind = false
 
+-- a leaf (RFC 7950 7.6)
 abbrev pub is_leaf : Kind → Bool
 is_leaf (Container presence) = false
 is_leaf Leaf = true

@@ -4,8 +4,8 @@ use Rattle.std.specs.Char.{is_ascii_digit}
 use Rattle.std.specs.Fmt.{decimal, signed_decimal}
 use Rattle.std.specs.List.{list_all, list_any, before_first, after_first}
 use Rattle.std.specs.Str.Parse.{without_leading_sign, signed_digits_value}
+use Rattle.nc_names.specs.Ends.{without_last}
 use Rattle.nc_names.specs.Signs.{dot, hyphen}
-use Rattle.nc_schema.specs.PathWords.{without_last}
 use Rattle.nc_schema.specs.declared.value_type.Between.{Between}
 
 -- `0`

@@ -67,7 +67,8 @@ path_text_of tables path = flat_map (step_text tables) path.steps
 
 -- a value can stand between quotation marks: it lacks one of the two kinds
 abbrev pub CanBeQuoted : List ℕ → Type 0
-CanBeQuoted value = IsFalse (list_any (λ sign. sign == apostrophe) value) ⊎ IsFalse (list_any (λ sign. sign == quote) value)
+CanBeQuoted value =
+    IsFalse (list_any (λ sign. sign == apostrophe) value) ⊎ IsFalse (list_any (λ sign. sign == quote) value)
 
 -- so can each key of the path
 abbrev pub HasQuotableKeys : Path → Type 0

@@ -2,42 +2,33 @@
 -- with their prefixes, predicates and steps. Each reading gives what stands first in a text, and the
 -- text after it.
 use Rattle.std.specs.Prelude.{ℕ, zero, suc, Bool, false, ◌==◌, ◌||◌, if◌then◌else◌, List, [], ◌∷◌, length, Option, Some, None, option_and_then, option_map}
-use Rattle.std.specs.List.{list_all}
-use Rattle.nc_names.specs.Signs.{begins_identifier, is_in_identifier, is_white, apostrophe, quote, dot, slash, colon, equals, opening_bracket, closing_bracket}
+use Rattle.nc_names.specs.Ends.{after_white, past}
+use Rattle.nc_names.specs.Signs.{begins_identifier, is_in_identifier, apostrophe, quote, dot, slash, colon, equals, opening_bracket, closing_bracket}
 use Rattle.nc_schema.specs.declared.written.WrittenName.{WrittenName}
 use Rattle.nc_schema.specs.declared.written.WrittenPredicate.{WrittenPredicate}
 use Rattle.nc_schema.specs.declared.written.WrittenStep.{WrittenStep}
 
+-- goes on with what was found, if anything was
 infixl 10 ◌>>=◌
 abbrev pub ◌>>=◌ : {A B : Type 0} → Option A → (A → Option B) → Option B
 o >>= f = option_and_then f o
 
--- the signs from the front on that pass, and the text after them
+-- the signs at the front that pass; `past` is the text after them
 abbrev pub leading : (ℕ → Bool) → List ℕ → List ℕ
 leading p [] = []
 leading p (c ∷ cs) = if p c then c ∷ leading p cs else []
-
-abbrev pub past : (ℕ → Bool) → List ℕ → List ℕ
-past p [] = []
-past p (c ∷ cs) = if p c then past p cs else c ∷ cs
-
--- the text without the signs at its end that pass
-abbrev pub without_last : (ℕ → Bool) → List ℕ → List ℕ
-without_last p [] = []
-without_last p (c ∷ cs) = if list_all p (c ∷ cs) then [] else c ∷ without_last p cs
-
-abbrev pub after_white : List ℕ → List ℕ
-after_white text = past is_white text
 
 -- the text after this sign
 abbrev pub sign : ℕ → List ℕ → Option (List ℕ)
 sign wanted [] = None
 sign wanted (c ∷ cs) = if c == wanted then Some cs else None
 
+-- the text begins with this sign
 abbrev pub begins_with : ℕ → List ℕ → Bool
 begins_with wanted [] = false
 begins_with wanted (c ∷ cs) = c == wanted
 
+-- the text begins with a sign with which an identifier can begin (RFC 7950 6.2)
 abbrev pub begins_name : List ℕ → Bool
 begins_name [] = false
 begins_name (c ∷ cs) = begins_identifier c

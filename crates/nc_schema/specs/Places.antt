@@ -22,11 +22,13 @@ pub record Part : Type 0 where
   pub step : Option Step
   pub rows : List Row
 
+-- the next steps of two rows are one, or neither has one
 abbrev pub is_same_next : Option Step → Option Step → Bool
 is_same_next None None = true
 is_same_next (Some step) (Some other) = is_same_step step other
 is_same_next step other = false
 
+-- one row more in front: in the first part where that has the same step, else in one of its own
 abbrev pub onto_first : Option Step → Row → List Part → List Part
 onto_first step row [] = record { step = step; rows = row ∷ [] } ∷ []
 onto_first step row (part ∷ more) =
@@ -50,6 +52,7 @@ pub record Place : Type 0 where
   -- defaults are in use in it (RFC 7950 7.6.1)
   pub defaults : Bool
 
+-- the top of the data tree with these rows: everything is required and every default in use there
 abbrev pub top_place : List Row → Place
 top_place rows = record { steps = []; rows = rows; required = true; defaults = true }
 
@@ -57,9 +60,11 @@ top_place rows = record { steps = []; rows = rows; required = true; defaults = t
 abbrev pub node_there : Place → Option ℕ
 node_there place = option_map (λ step. step.node) (last_or None place.steps)
 
+-- the nodes that stand directly in a place, with the rows at and below each
 abbrev pub parts_there : Place → List Part
 parts_there place = parts (length place.steps) place.rows
 
+-- an instance of that data node
 abbrev pub is_of : ℕ → Part → Bool
 is_of number part = is_same_number (option_map (λ step. step.node) part.step) (Some number)
 

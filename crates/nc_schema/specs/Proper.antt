@@ -57,6 +57,7 @@ IsChain tables above [] = Unit {0}
 IsChain tables above (number ∷ rest) =
     IsSomeAnd (slice_get tables.nodes number) (λ node. node.parent ≡ Some above) × IsChain tables number rest
 
+-- a container (RFC 7950 7.5)
 abbrev pub IsContainer : Tables → ℕ → Type 0
 IsContainer tables number =
     IsSomeAnd (slice_get tables.nodes number) (λ node. IsTrue (holds_nodes node.kind) × IsFalse (is_list node.kind))
@@ -98,25 +99,45 @@ IsProperType tables (Leafref target above required) =
     IsSomeAnd (slice_get tables.nodes target) (λ node. IsTrue (has_value node.kind))
 IsProperType tables other = Unit {0}
 
--- a schema that modules define
-pub record IsProperSchema (tables : Tables) : Type 0 where
+-- the modules of a schema
+pub record AreModules (tables : Tables) : Type 0 where
+  -- their names are identifiers, and they have namespaces (RFC 7950 7.1)
   pub modules : All IsProperModule tables.modules
-  -- two modules have two names and two namespaces (RFC 7950 5.1, 5.3)
+  -- two have two names and two namespaces (RFC 7950 5.1, 5.3)
   pub modules_apart : AllPairs (λ one later. (one.name ≢ later.name) × (one.space ≢ later.space)) tables.modules
+
+-- the data nodes and choices of a schema in their places
+pub record AreInPlace (tables : Tables) : Type 0 where
+  -- each node stands in a container or a list, which has a lower number (RFC 7950 7.5, 7.8)
   pub parents : EachNode tables (λ number node. StandsIn tables number node.parent)
+  -- its name is an identifier in the namespace of its module (RFC 7950 5.3, 6.2)
   pub names : EachNode tables (λ number node. IsNamed tables node)
   -- two data nodes in one place have two names (RFC 7950 6.2.1)
   pub siblings_apart : EachNode tables (λ number node. EachNode tables (λ other beside.
       node.parent ≡ beside.parent → node.name ≡ beside.name → number ≡ other))
+  -- keys are leafs directly in their list, each once (RFC 7950 7.8.2)
   pub keys : EachNode tables (HasItsKeys tables)
+  -- `unique` leafs stand in their list, or in containers in it (RFC 7950 7.8.3)
+  pub uniques : EachNode tables (HasItsUniques tables)
   -- the user orders entries alone (RFC 7950 7.7.7)
   pub by_user : EachNode tables (λ number node. IsTrue node.by_user → IsTrue (has_entries node.kind))
+  -- cases are of choices in the same place (RFC 7950 7.9)
   pub cases : EachNode tables (λ number node. AreNested tables node.parent node.cases)
   pub outer_cases : All (λ choice. AreNested tables choice.parent choice.within) tables.choices
+
+-- the types of a schema
+pub record AreTypesProper (tables : Tables) : Type 0 where
   -- a leaf and a leaf-list have a type (RFC 7950 7.6.3, 7.7.3)
   pub typed : EachNode tables (λ number node. IsTrue (has_value node.kind) →
       IsSome (slice_get tables.types node.kind_of_value))
+  -- each type names types, data nodes and identities of the schema (RFC 7950 9)
   pub types : All (IsProperType tables) tables.types
-  pub uniques : EachNode tables (HasItsUniques tables)
-  pub defaults : EachNode tables (λ number node. HasItsDefaults node)
+  -- a leafref turns down at a node above the leaf or leaf-list (RFC 7950 9.9.2)
   pub leafrefs : EachNode tables (TurnsAbove tables)
+
+-- a schema that modules define
+pub record IsProperSchema (tables : Tables) : Type 0 where
+  pub modules : AreModules tables
+  pub places : AreInPlace tables
+  pub types : AreTypesProper tables
+  pub defaults : EachNode tables (λ number node. HasItsDefaults node)

@@ -21,6 +21,7 @@ use Rattle.nc_schema.specs.Kinds.{stands_for_itself}
 abbrev pub node_of : Tables → List Step → Option Node
 node_of tables steps = option_and_then (λ step. slice_get tables.nodes step.node) (last_or None steps)
 
+-- there is a row of the node to which the steps lead
 abbrev pub has_row : List Row → List Step → Bool
 has_row rows steps = list_any (λ row. is_same_path row.path.steps steps) rows
 
@@ -53,20 +54,25 @@ keys_in above number steps = None
 abbrev pub entries : List Row → List Step → ℕ → List (List (List ℕ))
 entries rows above number = filter_map (λ row. keys_in above number row.path.steps) rows
 
+-- the entry with these keys is among them
 abbrev pub has_entry : List (List ℕ) → List (List (List ℕ)) → Bool
 has_entry keys order = list_any (λ entry. is_same_keys entry keys) order
 
+-- the entries but the one with these keys
 abbrev pub without_entry : List (List ℕ) → List (List (List ℕ)) → List (List (List ℕ))
 without_entry keys order = filter (λ entry. not (is_same_keys entry keys)) order
 
+-- the entry keeps its place; a new one is put behind all others (RFC 7950 7.7.9, 7.8.6)
 abbrev pub kept_or_last : List (List ℕ) → List (List (List ℕ)) → List (List (List ℕ))
 kept_or_last keys order = if has_entry keys order then order else order ++ keys ∷ []
 
+-- an entry put before the anchor; without the anchor it is not put anywhere
 abbrev pub put_before : List (List ℕ) → List (List ℕ) → List (List (List ℕ)) → List (List (List ℕ))
 put_before anchor keys [] = []
 put_before anchor keys (entry ∷ more) =
     if is_same_keys entry anchor then keys ∷ entry ∷ more else entry ∷ put_before anchor keys more
 
+-- an entry put after the anchor; without the anchor it is not put anywhere
 abbrev pub put_after : List (List ℕ) → List (List ℕ) → List (List (List ℕ)) → List (List (List ℕ))
 put_after anchor keys [] = []
 put_after anchor keys (entry ∷ more) =
@@ -90,11 +96,13 @@ stands_before (entry ∷ more) keys others =
     if is_same_keys entry others then false
     else (if is_same_keys entry keys then true else stands_before more keys others)
 
+-- the comparison says that the first is less
 abbrev pub is_less : Ordering → Bool
 is_less Less = true
 is_less Equal = false
 is_less Greater = false
 
+-- the user orders the entries of the data node (RFC 7950 7.7.7)
 abbrev pub is_by_user : Tables → ℕ → Bool
 is_by_user tables number = option_map_or (λ node. node.by_user) (slice_get tables.nodes number) false
 
@@ -131,6 +139,7 @@ abbrev pub cases_differ : List Case → List Case → Bool
 cases_differ some others =
     list_any (λ one. list_any (λ other. one.choice == other.choice && not (one.case == other.case)) others) some
 
+-- the cases to which a data node belongs (RFC 7950 7.9.2)
 abbrev pub cases_of : Tables → ℕ → List Case
 cases_of tables number = option_map_or (λ node. node.cases) (slice_get tables.nodes number) []
 

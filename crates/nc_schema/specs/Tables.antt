@@ -5,6 +5,7 @@ use Rattle.nc_schema.specs.declared.node.Node.{Node}
 use Rattle.nc_schema.specs.declared.node.Choice.{Choice}
 use Rattle.nc_schema.specs.declared.value_type.ValueType.{ValueType}
 
+-- the data nodes, choices, types and modules of a schema (RFC 7950 3)
 pub record Tables : Type 0 where
   pub nodes : List Node
   pub choices : List Choice

@@ -9,6 +9,7 @@ use Rattle.nc_names.specs.declared.name.Bound.{Bound}
 use Rattle.nc_names.specs.declared.name.QName.{QName}
 use Rattle.nc_names.specs.declared.path.Step.{Step}
 use Rattle.nc_names.specs.Bindings.{space_of}
+use Rattle.nc_names.specs.Ends.{trimmed}
 use Rattle.nc_names.specs.Same.{is_same_name, is_same_text}
 use Rattle.nc_names.specs.Signs.{is_white, apostrophe, asterisk, blank, colon, quote, slash}
 use Rattle.nc_schema.specs.Bindings.{module_bounds, module_of}
@@ -17,7 +18,7 @@ use Rattle.nc_schema.specs.Kinds.{has_value}
 use Rattle.nc_schema.specs.NumberTexts.{decimal_text, is_among, whole_text}
 use Rattle.nc_schema.specs.Order.{keys_above}
 use Rattle.nc_schema.specs.PathTexts.{key_predicate, path_text_of, prefixed_name, value_predicate}
-use Rattle.nc_schema.specs.PathWords.{◌>>=◌, after_white, begins_with, without_last}
+use Rattle.nc_schema.specs.PathWords.{◌>>=◌, begins_with}
 use Rattle.nc_schema.specs.Tables.{Tables}
 use Rattle.nc_schema.specs.declared.pattern.PatternStep.{PatternStep}
 use Rattle.nc_schema.specs.declared.value_type.Between.{Between}
@@ -28,14 +29,11 @@ use Rattle.nc_schema.specs.declared.value_type.ValueType.TheVariants.{Whole, Dec
 abbrev pub Gives : Type 0
 Gives = ℕ → List ℕ → Option (List ℕ)
 
--- the text without white space at its ends
-abbrev pub trimmed : List ℕ → List ℕ
-trimmed text = without_last is_white (after_white text)
-
--- how many characters a text has: that many of its bytes begin one (RFC 3629 3)
+-- a byte that begins a character (RFC 3629 3)
 abbrev pub begins_character : ℕ → Bool
 begins_character byte = nat_lt byte 0x80 || nat_le 0xC0 byte
 
+-- so many bytes begin a character
 abbrev pub character_count : List ℕ → ℕ
 character_count text = count_by begins_character text
 
@@ -43,12 +41,14 @@ character_count text = count_by begins_character text
 -- (RFC 8341, `group-name-type`)
 unfoldable pub string_text : List Between → Bool → List ℕ → Option (List ℕ)
 string_text lengths starless text =
-    if is_among lengths (pos (character_count text)) && not (starless && begins_with asterisk text) then Some text else None
+    if is_among lengths (pos (character_count text)) && not (starless && begins_with asterisk text) then Some text
+    else None
 
 -- the text, where it is one of these (RFC 7950 9.5.1, 9.6.1)
 abbrev pub one_of : List (List ℕ) → List ℕ → Option (List ℕ)
 one_of names text = if list_any (λ name. is_same_text name text) names then Some text else None
 
+-- a boolean: `true` or `false` (RFC 7950 9.5)
 unfoldable pub boolean_text : List ℕ → Option (List ℕ)
 boolean_text text = one_of (codes "true" ∷ codes "false" ∷ []) text
 
@@ -71,9 +71,11 @@ binary_text lengths text =
     option_and_then (λ octets. if is_among lengths (pos (length octets)) then Some symbols else None)
     (decoded_of standard symbols)
 
+-- an empty value: no text at all (RFC 7950 9.11)
 unfoldable pub empty_text : List ℕ → Option (List ℕ)
 empty_text text = if length text == 0 then Some [] else None
 
+-- the name in that namespace, where there is one
 abbrev pub name_in : Option (List ℕ) → List ℕ → Option QName
 name_in space name = option_map (λ found. record { space = found; name = name }) space
 
@@ -117,10 +119,13 @@ canonical_keys gives (node ∷ nodes) (key ∷ keys) = do
   Some (first ∷ more)
 canonical_keys gives nodes keys = Some []
 
+-- the step with canonical keys
 abbrev pub canonical_step : Tables → Gives → Step → Option Step
 canonical_step tables gives step =
-    option_map (λ keys. record { node = step.node; keys = keys }) (canonical_keys gives (key_nodes tables step.node) step.keys)
+    option_map (λ keys. record { node = step.node; keys = keys })
+    (canonical_keys gives (key_nodes tables step.node) step.keys)
 
+-- the steps with canonical keys
 abbrev pub canonical_steps : Tables → Gives → List Step → Option (List Step)
 canonical_steps tables gives [] = Some []
 canonical_steps tables gives (step ∷ rest) = do
@@ -144,10 +149,13 @@ canonical_given gives (node ∷ nodes) (Some key ∷ keys) = do
   Some (Some first ∷ more)
 canonical_given gives nodes keys = Some []
 
+-- the step of a pattern with canonical keys where they are given
 abbrev pub canonical_part : Tables → Gives → PatternStep → Option PatternStep
 canonical_part tables gives step =
-    option_map (λ keys. record { node = step.node; keys = keys }) (canonical_given gives (key_nodes tables step.node) step.keys)
+    option_map (λ keys. record { node = step.node; keys = keys })
+    (canonical_given gives (key_nodes tables step.node) step.keys)
 
+-- the steps of a pattern with canonical keys where they are given
 abbrev pub canonical_pattern : Tables → Gives → List PatternStep → Option (List PatternStep)
 canonical_pattern tables gives [] = Some []
 canonical_pattern tables gives (step ∷ rest) = do
@@ -155,20 +163,23 @@ canonical_pattern tables gives (step ∷ rest) = do
   more ← canonical_pattern tables gives rest
   Some (first ∷ more)
 
--- the text of a pattern: that of a path, without the predicates that are left out
+-- the predicate of a key, or of the value of a leaf-list entry; none where it is left out
 abbrev pub given_predicate : Tables → ℕ → ℕ → Option (List ℕ) → List ℕ
 given_predicate tables number key None = []
 given_predicate tables number key (Some value) =
     if key == number then value_predicate value else key_predicate tables key value
 
+-- the text of one step of a pattern, without the predicates that are left out
 abbrev pub pattern_step_text : Tables → PatternStep → List ℕ
 pattern_step_text tables step =
     slash ∷ prefixed_name tables step.node
     ++ flat_map (λ pair. given_predicate tables step.node pair.0 pair.1) (zip (key_nodes tables step.node) step.keys)
 
+-- the text of a pattern: that of a path without the predicates that are left out; `/` for the root
 abbrev pub pattern_text : Tables → List PatternStep → List ℕ
 pattern_text tables steps = if length steps == 0 then slash ∷ [] else flat_map (pattern_step_text tables) steps
 
+-- the text of the pattern, with canonical keys, that a node-instance identifier names (RFC 8341 3.5.2)
 unfoldable pub node_instance_text : Tables → (keys : List Bound → Gives) → List Bound → List ℕ → Option (List ℕ)
 node_instance_text tables keys bounds text = do
   pattern ← node_pattern tables text bounds
@@ -224,13 +235,14 @@ is_quotable value = not (list_any (λ c. c == apostrophe) value && list_any (λ 
 -- the node is a key of the list in which it stands
 abbrev pub is_key_above : Tables → ℕ → Bool
 is_key_above tables number =
-    option_map_or (λ node. list_any (λ key. key == number) (keys_above tables node.parent)) (slice_get tables.nodes number)
-    false
+    option_map_or (λ node. list_any (λ key. key == number) (keys_above tables node.parent))
+    (slice_get tables.nodes number) false
 
 -- the values of the node stand in paths: it is a key or a leaf-list
 abbrev pub stands_in_paths : Tables → ℕ → Bool
 stands_in_paths tables number = is_key_above tables number || list_any (λ key. key == number) (key_nodes tables number)
 
+-- a value that stands in paths can be quoted there
 abbrev pub fits_paths : Tables → ℕ → List ℕ → Bool
 fits_paths tables number value = not (stands_in_paths tables number) || is_quotable value
 
@@ -260,4 +272,5 @@ canonical tables number text bounds = text_within tables value_depth bounds numb
 
 -- the text is the canonical one of a value, whichever text the value was given as
 abbrev pub IsCanonical : Tables → ℕ → List ℕ → Type 0
-IsCanonical tables number text = (given : List ℕ) × (bounds : List Bound) × (canonical tables number given bounds ≡ Some text)
+IsCanonical tables number text =
+    (given : List ℕ) × (bounds : List Bound) × (canonical tables number given bounds ≡ Some text)

@@ -23,6 +23,7 @@ use Rattle.nc_schema.specs.declared.value_type.ValueType.{ValueType}
 use Rattle.nc_schema.specs.declared.value_type.ValueType.TheVariants.{Leafref, Instance}
 use Rattle.nc_schema.specs.declared.violation.Violation.{Violation}
 
+-- the one violation of that kind there, where the constraint is broken
 abbrev pub violated : Bool → CauseKind → List Step → List Violation
 violated broken kind steps = if broken then record { kind = kind; path = record { steps = steps } } ∷ [] else []
 
@@ -33,6 +34,7 @@ violated broken kind steps = if broken then record { kind = kind; path = record 
 abbrev pub is_required : Tables → Place → List Case → Bool
 is_required tables place cases = place.required && list_all (is_chosen tables place) cases
 
+-- the text is one of these
 abbrev pub has_text : List ℕ → List (List ℕ) → Bool
 has_text text texts = list_any (is_same_text text) texts
 
@@ -148,6 +150,7 @@ row_violation tables rows row = option_map_or
     (λ text. option_map_or (reference_violation tables rows row.path.steps text) (type_there tables row.path.steps) [])
     row.value []
 
+-- those of all leafs and leaf-list entries, in document order
 abbrev pub reference_violations : Tables → List Row → List Violation
 reference_violations tables rows = flat_map (row_violation tables rows) rows
 
@@ -155,5 +158,6 @@ reference_violations tables rows = flat_map (row_violation tables rows) rows
 abbrev pub violations : Tables → List Row → List Violation
 violations tables rows = structural_violations tables rows ++ reference_violations tables rows
 
+-- a configuration that breaks no constraint (RFC 7950 8.1)
 abbrev pub IsValid : Tables → List Row → Type 0
 IsValid tables rows = violations tables rows ≡ []

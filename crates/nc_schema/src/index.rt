@@ -60,7 +60,8 @@ impl Index {
     pub(crate) fn add(&mut self, node: &Node) -> Result<(), Memory>
         requires few { length self.old.below.items < 2 ^ 32 }
         requires above { IfSome node.now.parent (λ above. above < length self.old.below.items) }
-        ensures { OnOk result ((nodes : List Node) → IsIndexOf nodes self.old → IsIndexOf (nodes ++ node.now ∷ []) self.new) }
+        ensures { OnOk result ((nodes : List Node) → IsIndexOf nodes self.old →
+            IsIndexOf (nodes ++ node.now ∷ []) self.new) }
     {
         let alloc = *self.below.allocator();
         let number = self.below.len() as u32;

@@ -1,5 +1,8 @@
 //! Data nodes and choices of a schema (RFC 7950 7.5 to 7.9).
-use nc_names::{Many, QName, Text};
+ghost use Rattle.std.specs.Prelude.{◌≡◌};
+ghost use Rattle.nc_schema.specs.Kinds.{has_value};
+
+use nc_names::{Copies, Many, Memory, QName, Text};
 
 /// What kind of data node it is (RFC 7950 7.5 to 7.8).
 #[derive(Clone, Copy, PartialEq, Eq, Debug)]
@@ -12,6 +15,15 @@ pub enum Kind {
     LeafList,
     /// A list (RFC 7950 7.8).
     List,
+}
+
+impl Kind {
+    /// Whether a node of this kind has a value: a leaf, and an entry of a leaf-list (RFC 7950 7.6, 7.7).
+    pub fn has_value(self) -> bool
+        ensures { result ≡ has_value self }
+    {
+        matches!(self, Kind::Leaf | Kind::LeafList)
+    }
 }
 
 /// What access control denies at a node without a rule (RFC 8341 3.4.5).
@@ -32,6 +44,12 @@ pub struct Case {
     pub choice: u32,
     /// The number of the case among those of its choice, from 0 in their order.
     pub case: u32,
+}
+
+impl Copies for Case {
+    fn copy(&self) -> Result<Case, Memory> {
+        Ok(*self)
+    }
 }
 
 /// A choice (RFC 7950 7.9).
@@ -80,4 +98,25 @@ pub struct Node {
     pub cases: Many<Case>,
     /// What access control denies here without a rule.
     pub deny: Deny,
+}
+
+impl Copies for Node {
+    fn copy(&self) -> Result<Node, Memory> {
+        Ok(Node {
+            name: self.name.copy()?,
+            module: self.module,
+            parent: self.parent,
+            kind: self.kind,
+            kind_of_value: self.kind_of_value,
+            keys: self.keys.copy()?,
+            uniques: self.uniques.copy()?,
+            mandatory: self.mandatory,
+            defaults: self.defaults.copy()?,
+            least: self.least,
+            most: self.most,
+            by_user: self.by_user,
+            cases: self.cases.copy()?,
+            deny: self.deny,
+        })
+    }
 }

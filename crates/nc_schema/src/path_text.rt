@@ -67,7 +67,8 @@ fn write_given(
     values: &[Option<Text>],
     out: &mut Text,
 ) -> Result<(), Memory>
-    ensures { OnOk result (out.new ≡ out.old ++ flat_map (λ pair. given_predicate schema.now number pair.0 pair.1) (zip keys.now values.now)) }
+    ensures { OnOk result (out.new ≡ out.old
+        ++ flat_map (λ pair. given_predicate schema.now number pair.0 pair.1) (zip keys.now values.now)) }
 {
     for (place, value) in values.iter().enumerate() {
         let Some(key) = keys.get(place) else {

@@ -5,7 +5,9 @@ use nc_names::{Copies, Many, Memory, Text};
 /// value of a leaf-list entry, its text, or `None` where the pattern leaves it out.
 #[derive(PartialEq, Eq, Hash, Debug, Drop)]
 pub struct PatternStep {
+    /// The number of the data node.
     pub node: u32,
+    /// The keys in their order, `None` where the pattern leaves one out.
     pub keys: Many<Option<Text>>,
 }
 
@@ -22,6 +24,7 @@ impl Copies for PatternStep {
 /// Without steps it is the root.
 #[derive(PartialEq, Eq, Hash, Debug, Drop)]
 pub struct Pattern {
+    /// One step for each data node from the top, containers included.
     pub steps: Many<PatternStep>,
 }
 
@@ -37,6 +40,8 @@ impl Copies for Pattern {
 /// `above` in which the leaf stands, or in the whole tree where `above` is `None`.
 #[derive(Clone, Copy, PartialEq, Eq, Debug)]
 pub struct LeafrefEnd {
+    /// The number of the leaf or leaf-list to which the path leads.
     pub target: u32,
+    /// The number of the node at which the path turns down, or `None` at the top.
     pub above: Option<u32>,
 }

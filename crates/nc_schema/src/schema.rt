@@ -24,7 +24,12 @@ impl Model for Schema {
 
     ghost Value = { Tables };
 
-    ghost view = { λ s. record { nodes = s.nodes; choices = s.choices; types = s.types; modules = s.modules } };
+    ghost view = { λ s. record {
+      nodes = s.nodes;
+      choices = s.choices;
+      types = s.types;
+      modules = s.modules;
+    } };
 }
 
 impl Schema {

@@ -1,11 +1,19 @@
 //! Types of values (RFC 7950 9).
-use nc_names::{Many, QName, Text};
+use nc_names::{Copies, Many, Memory, QName, Text};
 
 /// The numbers from one to another, both included (RFC 7950 9.2.4, 9.4.4).
 #[derive(Clone, Copy, PartialEq, Eq, Debug)]
 pub struct Between {
+    /// The lowest of them.
     pub least: i128,
+    /// The highest of them.
     pub most: i128,
+}
+
+impl Copies for Between {
+    fn copy(&self) -> Result<Between, Memory> {
+        Ok(*self)
+    }
 }
 
 /// The type of a leaf's or leaf-list's values (RFC 7950 9.2 to 9.13). Types are named by their
@@ -67,4 +75,52 @@ pub enum ValueType {
     /// A path to a node of the data tree, in which keys may be left out (RFC 8341 3.5.2,
     /// `node-instance-identifier`).
     NodeInstance,
+}
+
+impl Copies for ValueType {
+    fn copy(&self) -> Result<ValueType, Memory> {
+        match self {
+            ValueType::Whole { among } => Ok(ValueType::Whole {
+                among: among.copy()?,
+            }),
+            ValueType::Decimal { digits, among } => Ok(ValueType::Decimal {
+                digits: *digits,
+                among: among.copy()?,
+            }),
+            ValueType::Chars { lengths, starless } => Ok(ValueType::Chars {
+                lengths: lengths.copy()?,
+                starless: *starless,
+            }),
+            ValueType::Boolean => Ok(ValueType::Boolean),
+            ValueType::Enumeration { names } => Ok(ValueType::Enumeration {
+                names: names.copy()?,
+            }),
+            ValueType::Bits { names } => Ok(ValueType::Bits {
+                names: names.copy()?,
+            }),
+            ValueType::Binary { lengths } => Ok(ValueType::Binary {
+                lengths: lengths.copy()?,
+            }),
+            ValueType::Empty => Ok(ValueType::Empty),
+            ValueType::Union { members } => Ok(ValueType::Union {
+                members: members.copy()?,
+            }),
+            ValueType::Identity { among } => Ok(ValueType::Identity {
+                among: among.copy()?,
+            }),
+            ValueType::Leafref {
+                target,
+                above,
+                required,
+            } => Ok(ValueType::Leafref {
+                target: *target,
+                above: *above,
+                required: *required,
+            }),
+            ValueType::Instance { required } => Ok(ValueType::Instance {
+                required: *required,
+            }),
+            ValueType::NodeInstance => Ok(ValueType::NodeInstance),
+        }
+    }
 }

@@ -6,7 +6,7 @@ use Rattle.nc_frames.specs.Replies.{IsFaultOf}
 use Rattle.nc_frames.specs.declared.fault.FrameFault.{FrameFault}
 use Rattle.nc_frames.specs.declared.fault.FrameFault.TheVariants.{BadFrame as FrameBad, TooBig as FrameTooBig, Memory as FrameMemory}
 use Rattle.nc_frames.proofs.AnswerLemmas.{one_answer}
-use Rattle.nc_model.specs.declared.request.Request.{Request}
+use Rattle.nc_protocol.specs.declared.request.Request.{Request}
 use Rattle.nc_session.specs.declared.base.Base.{Base}
 use Rattle.nc_session.specs.declared.end.BadMessage.{BadMessage}
 use Rattle.nc_session.specs.declared.end.HelloFault.{HelloFault}

@@ -8,9 +8,9 @@ use Rattle.nc_model.specs.declared.entry.Entry.{Entry}
 use Rattle.nc_model.specs.declared.event.Event.{Event}
 use Rattle.nc_model.specs.declared.event.Event.TheVariants.{Request as Requested, Reading}
 use Rattle.nc_model.specs.declared.event.Outcome.{Outcome}
-use Rattle.nc_model.specs.declared.peer.Peer.{Peer}
-use Rattle.nc_model.specs.declared.request.Request.{Request}
-use Rattle.nc_model.proofs.ListLemmas.{heads_same, tails_same}
+use Rattle.nc_protocol.specs.declared.peer.Peer.{Peer}
+use Rattle.nc_protocol.specs.declared.request.Request.{Request}
+use Rattle.nc_protocol.proofs.ListLemmas.{heads_same, tails_same}
 use Rattle.nc_schema.specs.Tables.{Tables}
 use Rattle.nc_session.specs.declared.base.Base.{Base}
 use Rattle.nc_session.specs.declared.end.SessionEnd.{SessionEnd}

@@ -9,7 +9,7 @@ use Rattle.nc_frames.specs.Framing.{Mode, Marks, Chunks, IsUnfinished}
 use Rattle.nc_frames.specs.Laws.{unfinished_limit, session_limit}
 use Rattle.nc_frames.proofs.AnswerLemmas.{one_answer}
 use Rattle.nc_frames.proofs.BoundLemmas.{bounded}
-use Rattle.nc_model.specs.declared.request.Request.{Request}
+use Rattle.nc_protocol.specs.declared.request.Request.{Request}
 use Rattle.nc_session.specs.declared.base.Base.{Base}
 use Rattle.nc_session.specs.declared.end.SessionEnd.{SessionEnd}
 use Rattle.nc_session.specs.declared.end.SessionEnd.TheVariants.{Closed, InputEnded, BadHello, BadFrame, TooBig, Malformed, Killed, ReadFault, WriteFault, Full, Spent, Memory}

@@ -8,16 +8,16 @@ use Rattle.nc_model.specs.declared.event.Event.{Event}
 use Rattle.nc_model.specs.declared.event.Event.TheVariants.{Start, Request as Requested, End, Reading}
 use Rattle.nc_model.specs.declared.event.Outcome.{Outcome}
 use Rattle.nc_model.specs.declared.event.Outcome.TheVariants.{Started, Full, Answered, NotLive, Ended, Noted}
-use Rattle.nc_model.specs.declared.peer.Peer.{Peer}
-use Rattle.nc_model.specs.declared.request.Request.{Request}
+use Rattle.nc_protocol.specs.declared.peer.Peer.{Peer}
+use Rattle.nc_protocol.specs.declared.request.Request.{Request}
 use Rattle.nc_model.specs.Desks.{Home, IsView, is_own, own_of}
 use Rattle.nc_model.specs.History.{IsLegal}
 use Rattle.nc_model.specs.Laws.{IsOf, EndsSession, asks_close}
 use Rattle.nc_model.specs.Step.{is_done}
 use Rattle.nc_model.proofs.EndLemmas.{is_ended_between}
 use Rattle.nc_model.proofs.HistoryLemmas.{legal_histories_join}
-use Rattle.nc_model.proofs.ListLemmas.{heads_same, tails_same, all_one, contains_behind, contains_split}
-use Rattle.nc_model.proofs.Parts.{IsPartOf, all_from, pair_at, part_second, contains_kept, part_rest, part_of_part}
+use Rattle.nc_protocol.proofs.ListLemmas.{heads_same, tails_same, all_one, contains_behind, contains_split}
+use Rattle.nc_protocol.proofs.Parts.{IsPartOf, all_from, pair_at, part_second, contains_kept, part_rest, part_of_part}
 use Rattle.nc_session.specs.declared.standing.Standing.TheVariants.{Live, Closed}
 use Rattle.nc_session.specs.Sessions.{is_close, standing_by, standing_after, StayLive}
 use Rattle.nc_session.specs.Serves.{WasKilled}

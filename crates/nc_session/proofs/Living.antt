@@ -6,13 +6,13 @@ use Rattle.nc_model.specs.declared.entry.Entry.{Entry}
 use Rattle.nc_model.specs.declared.event.Event.{Event}
 use Rattle.nc_model.specs.declared.event.Event.TheVariants.{Start, End, Request as Requested, Reading}
 use Rattle.nc_model.specs.declared.event.Outcome.TheVariants.{Started, Full, Answered, NotLive, Ended}
-use Rattle.nc_model.specs.declared.peer.Peer.{Peer}
-use Rattle.nc_model.specs.declared.request.Request.{Request}
-use Rattle.nc_model.specs.declared.verdict.Verdict.{Verdict}
+use Rattle.nc_protocol.specs.declared.peer.Peer.{Peer}
+use Rattle.nc_protocol.specs.declared.request.Request.{Request}
+use Rattle.nc_protocol.specs.declared.verdict.Verdict.{Verdict}
 use Rattle.nc_model.specs.Access.{sees_of}
 use Rattle.nc_model.specs.Desks.{Home, IsView, Entered, is_own, own_of}
 use Rattle.nc_model.specs.History.{after}
-use Rattle.nc_model.specs.Reply.{reply_of}
+use Rattle.nc_protocol.specs.Reply.{reply_of}
 use Rattle.nc_model.specs.State.{expired, is_live}
 use Rattle.nc_model.specs.Step.{outcome_of, is_full, has_failed, is_done}
 use Rattle.nc_model.specs.Verdict.{verdict}

@@ -16,10 +16,10 @@ use Rattle.nc_model.specs.declared.event.Event.{Event}
 use Rattle.nc_model.specs.declared.event.Event.TheVariants.{Start, End, Request as Requested, Reading}
 use Rattle.nc_model.specs.declared.event.Outcome.{Outcome}
 use Rattle.nc_model.specs.declared.event.Outcome.TheVariants.{Started, Full as IsFull, NotLive, Ended}
-use Rattle.nc_model.specs.declared.request.Request.{Request}
+use Rattle.nc_protocol.specs.declared.request.Request.{Request}
 use Rattle.nc_model.specs.Desks.{IsView, IsLastNumber, is_own, own_of}
 use Rattle.nc_model.specs.Laws.{IsOf}
-use Rattle.nc_model.proofs.ListLemmas.{contains_last}
+use Rattle.nc_protocol.proofs.ListLemmas.{contains_last}
 use Rattle.nc_session.specs.declared.base.Base.TheVariants.{Base10}
 use Rattle.nc_session.specs.declared.end.SessionEnd.{SessionEnd}
 use Rattle.nc_session.specs.declared.end.SessionEnd.TheVariants.{Closed, InputEnded, BadHello, BadFrame, TooBig, Malformed, Killed, ReadFault, WriteFault, Full, Spent, Memory}

@@ -14,7 +14,7 @@ use Rattle.nc_model.specs.declared.event.Event.{Event}
 use Rattle.nc_model.specs.declared.event.Event.TheVariants.{Request as Requested, Reading}
 use Rattle.nc_model.specs.declared.event.Outcome.{Outcome}
 use Rattle.nc_model.specs.declared.event.Outcome.TheVariants.{NotLive}
-use Rattle.nc_model.specs.declared.request.Request.{Request}
+use Rattle.nc_protocol.specs.declared.request.Request.{Request}
 use Rattle.nc_model.specs.Desks.{IsLastNumber, own_of}
 use Rattle.nc_session.specs.declared.base.Base.{Base}
 use Rattle.nc_session.specs.declared.end.SessionEnd.{SessionEnd}

@@ -4,7 +4,7 @@ use Rattle.std.specs.List.{AllByRecursion, flat_map}
 use Rattle.nc_frames.specs.Framing.{Mode, Marks, Chunks, IsMessage, IsUnfinished}
 use Rattle.nc_frames.specs.Replies.{IsFaultOf}
 use Rattle.nc_frames.specs.declared.fault.FrameFault.TheVariants.{BadFrame as FrameBad, TooBig as FrameTooBig}
-use Rattle.nc_model.specs.declared.request.Request.{Request}
+use Rattle.nc_protocol.specs.declared.request.Request.{Request}
 use Rattle.nc_session.specs.declared.base.Base.{Base}
 use Rattle.nc_session.specs.declared.base.Base.TheVariants.{Base10, Base11}
 use Rattle.nc_session.specs.declared.end.SessionEnd.{SessionEnd}

@@ -1,12 +1,13 @@
 -- The client's hello (RFC 6241 8.1).
 use Rattle.std.specs.Prelude.{ℕ, List, Option, Some, None, Bool, true, false, ◌&&◌, if◌then◌else◌, Result, Ok, Err}
 use Rattle.std.specs.List.{list_all, list_any}
-use Rattle.std.specs.Str.{bytes_eq, trim}
+use Rattle.std.specs.Str.{bytes_eq}
+use Rattle.nc_names.specs.Ends.{trimmed}
 use Rattle.nc_message.specs.declared.tree.Elem.{Elem}
 use Rattle.nc_message.specs.declared.tree.Part.{Part, out-Part}
 use Rattle.nc_message.specs.declared.tree.Part.TheOpen.{Part-F, Child, Chars}
 use Rattle.nc_message.specs.declared.tree.Tree.{Tree}
-use Rattle.nc_model.specs.Words.{session_id_word}
+use Rattle.nc_protocol.specs.Words.{session_id_word}
 use Rattle.nc_session.specs.declared.base.Base.{Base}
 use Rattle.nc_session.specs.declared.base.Base.TheVariants.{Base10, Base11}
 use Rattle.nc_session.specs.declared.end.BadMessage.{BadMessage}
@@ -27,10 +28,10 @@ may_stand_in (Chars text) = true
 abbrev pub may_stand : Part → Bool
 may_stand p = may_stand_in (out-Part p)
 
--- white space round a capability does not count
+-- white space round a capability (`S` of XML 1.0, 2.3) does not count
 abbrev pub is_word : List ℕ → Option (List ℕ) → Bool
 is_word word None = false
-is_word word (Some text) = bytes_eq (trim text) word
+is_word word (Some text) = bytes_eq (trimmed text) word
 
 -- the capability of that word
 abbrev pub offers_in : List ℕ → Part-F Part Elem → Bool

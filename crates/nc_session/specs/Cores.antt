@@ -2,8 +2,8 @@
 use Rattle.std.specs.Prelude.{◌≡◌, ℕ, List, [], ◌∷◌, ◌++◌, length, Some, None, Result, Ok, Err}
 use Rattle.nc_frames.specs.Framing.{Mode, Marks}
 use Rattle.nc_names.specs.declared.memory.Memory.{Memory}
-use Rattle.nc_model.specs.declared.request.Request.{Request}
-use Rattle.nc_model.specs.Proper.{IsProper}
+use Rattle.nc_protocol.specs.declared.request.Request.{Request}
+use Rattle.nc_protocol.specs.Proper.{IsProper}
 use Rattle.nc_session.specs.declared.base.Base.{Base}
 use Rattle.nc_session.specs.declared.session_core.Phase.{Phase}
 use Rattle.nc_session.specs.declared.session_core.Phase.TheVariants.{Greeting, Serving, Over}

@@ -4,10 +4,10 @@ use Rattle.nc_names.specs.Same.{is_same_name}
 use Rattle.nc_message.specs.declared.tree.Tree.{Tree}
 use Rattle.nc_message.specs.declared.tree.Why.TheVariants.{NotWellFormed}
 use Rattle.nc_message.specs.Faults.{SpellsTree, IsFault}
-use Rattle.nc_model.specs.declared.request.Request.{Request}
-use Rattle.nc_model.specs.Content.{base_name}
-use Rattle.nc_model.specs.Decoded.{decoded}
-use Rattle.nc_model.specs.Words.{rpc_word}
+use Rattle.nc_protocol.specs.declared.request.Request.{Request}
+use Rattle.nc_protocol.specs.Content.{base_name}
+use Rattle.nc_protocol.specs.Decoded.{decoded}
+use Rattle.nc_protocol.specs.Words.{rpc_word}
 use Rattle.nc_session.specs.declared.base.Base.{Base}
 use Rattle.nc_session.specs.declared.base.Base.TheVariants.{Base10, Base11}
 use Rattle.nc_session.specs.declared.end.BadMessage.{BadMessage}

@@ -9,8 +9,8 @@ use Rattle.nc_message.specs.declared.tree.Part.{Part}
 use Rattle.nc_message.specs.declared.tree.Part.TheVariants.{Child, Chars}
 use Rattle.nc_message.specs.declared.tree.Tree.{Tree}
 use Rattle.nc_message.specs.Written.{written}
-use Rattle.nc_model.specs.Content.{base_name, made_element}
-use Rattle.nc_model.specs.Words.{session_id_word}
+use Rattle.nc_protocol.specs.Content.{base_name, made_element}
+use Rattle.nc_protocol.specs.Words.{session_id_word}
 use Rattle.nc_session.specs.Words.{hello_word, capabilities_word, capability_word, base_10, base_11, candidate_capability, rollback_capability, validate_capability, module_query, revision_query, features_query}
 
 -- an element of the base namespace, without attributes; one round a text, as a part

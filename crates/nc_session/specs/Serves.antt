@@ -10,8 +10,8 @@ use Rattle.nc_model.specs.declared.entry.Entry.{Entry}
 use Rattle.nc_model.specs.declared.event.Event.TheVariants.{Start, End}
 use Rattle.nc_model.specs.declared.event.Outcome.{Outcome}
 use Rattle.nc_model.specs.declared.event.Outcome.TheVariants.{Full as IsFull, Ended, NotLive}
-use Rattle.nc_model.specs.declared.peer.Peer.{Peer}
-use Rattle.nc_model.specs.declared.request.Request.{Request}
+use Rattle.nc_protocol.specs.declared.peer.Peer.{Peer}
+use Rattle.nc_protocol.specs.declared.request.Request.{Request}
 use Rattle.nc_model.specs.Desks.{Home, IsLastNumber, own_of}
 use Rattle.nc_model.specs.Laws.{EndsSession}
 use Rattle.nc_session.specs.declared.base.Base.{Base}

@@ -7,8 +7,8 @@ use Rattle.nc_model.specs.declared.event.Event.{Event}
 use Rattle.nc_model.specs.declared.event.Event.TheVariants.{Start, Request as Requested}
 use Rattle.nc_model.specs.declared.event.Outcome.{Outcome}
 use Rattle.nc_model.specs.declared.event.Outcome.TheVariants.{Started, Answered, NotLive}
-use Rattle.nc_model.specs.declared.peer.Peer.{Peer}
-use Rattle.nc_model.specs.declared.request.Request.{Request}
+use Rattle.nc_protocol.specs.declared.peer.Peer.{Peer}
+use Rattle.nc_protocol.specs.declared.request.Request.{Request}
 use Rattle.nc_model.specs.Laws.{asks_close}
 use Rattle.nc_model.specs.Step.{is_done}
 use Rattle.nc_session.specs.declared.base.Base.{Base}

@@ -4,7 +4,7 @@ use Rattle.std.specs.Str.{bytes_eq}
 use Rattle.nc_message.specs.declared.tree.Elem.{Elem}
 use Rattle.nc_message.specs.declared.tree.Part.{Part, out-Part}
 use Rattle.nc_message.specs.declared.tree.Part.TheOpen.{Part-F, Child, Chars}
-use Rattle.nc_model.specs.Words.{base_namespace}
+use Rattle.nc_protocol.specs.Words.{base_namespace}
 
 -- an element of that name in the base namespace
 abbrev pub is_base : List ℕ → Elem → Bool

@@ -1,7 +1,7 @@
 //! What the client's hello chooses (RFC 6241 8.1).
 ghost use Rattle.std.specs.Prelude.{◌≡◌};
 ghost use Rattle.std.specs.List.{list_any, list_all};
-ghost use Rattle.nc_model.specs.Words.{session_id_word};
+ghost use Rattle.nc_protocol.specs.Words.{session_id_word};
 ghost use Rattle.nc_session.specs.ClientHello as hello;
 ghost use Rattle.nc_session.specs.Shape as shape;
 ghost use Rattle.nc_session.specs.Words.{capabilities_word};
@@ -9,7 +9,8 @@ ghost use Rattle.nc_session.specs.Words.{capabilities_word};
 use crate::shape::{is_base, is_named, only_named, text_of};
 use crate::{BadMessage, Base, HelloFault, words};
 use nc_message::{Elem, Part, Tree};
-use nc_model::request_words;
+use nc_names::trimmed;
+use nc_protocol::request_words;
 
 // Whether a part may stand in `capabilities`.
 fn may_stand(part: &Part) -> bool
@@ -35,7 +36,7 @@ fn is_word(parts: &[Part], word: &str) -> bool
     ensures { result ≡ hello.is_word word.now (shape.text_of parts.now) }
 {
     match text_of(parts) {
-        Some(text) => text.trim() == word,
+        Some(text) => trimmed(text) == word,
         None => false,
     }
 }

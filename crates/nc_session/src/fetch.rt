@@ -1,14 +1,14 @@
 //! The next request of a session, out of the pieces that its source gives.
 ghost use Rattle.std.specs.Prelude.{◌≡◌, ◌<◌, ◌≤◌, ℕ, List, length, take};
-ghost use Rattle.nc_model.specs.declared.request.Request.{Request as SpecRequest};
-ghost use Rattle.nc_model.specs.Proper.{IsProper};
+ghost use Rattle.nc_protocol.specs.declared.request.Request.{Request as SpecRequest};
+ghost use Rattle.nc_protocol.specs.Proper.{IsProper};
 ghost use Rattle.nc_session.specs.declared.base.Base.{Base};
 ghost use Rattle.nc_session.specs.Cores.{IsAt};
 ghost use Rattle.nc_session.specs.inner.Turns.{ReadsOn, StepsOn, Fetches, intake, IsProperStep, IsProperAsk};
 
 use crate::{SessionCore, SessionEnd, Todo};
-use nc_model::Request;
 use nc_outside::Source;
+use nc_protocol::Request;
 
 // More pieces than stand before one request: 25,165,843 bytes give a request or an end.
 const PIECES: u32 = 25_165_844;

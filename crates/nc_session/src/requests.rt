@@ -1,17 +1,17 @@
 //! The request of a message.
 ghost use Rattle.std.specs.Prelude.{◌≡◌, IfOk, Ok, Err};
-ghost use Rattle.nc_model.specs.Content as content;
-ghost use Rattle.nc_model.specs.Decoded as decodes;
-ghost use Rattle.nc_model.specs.Proper.{IsProper};
-ghost use Rattle.nc_model.specs.Words as w;
+ghost use Rattle.nc_protocol.specs.Content as content;
+ghost use Rattle.nc_protocol.specs.Decoded as decodes;
+ghost use Rattle.nc_protocol.specs.Proper.{IsProper};
+ghost use Rattle.nc_protocol.specs.Words as w;
 ghost use Rattle.nc_names.specs.Same.{is_same_name};
 ghost use Rattle.nc_session.specs.Requests as requests;
 
 use crate::{BadMessage, Base};
 use nc_message::{Tree, Why};
 use nc_message_read::{MessageFault, read_message};
-use nc_model::{Request, decoded_is_proper, request_words};
 use nc_names::Memory;
+use nc_protocol::{Request, decoded_is_proper, request_words};
 use nc_requests::decode;
 use std::alloc::Global;
 

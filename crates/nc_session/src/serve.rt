@@ -13,9 +13,10 @@ use crate::server_hello::hello;
 use crate::standing::Standing;
 use crate::turn::{Met, exchange};
 use crate::{SessionCore, SessionEnd};
-use nc_model::{Desk, DeskFault, Entry, Event, Outcome, Peer};
+use nc_model::{Desk, DeskFault, Entry, Event, Outcome};
 use nc_names::{Bytes, MOST_REQUESTS, Memory, PIECE_LIMIT};
 use nc_outside::{Sink, Source};
+use nc_protocol::Peer;
 use nc_schema::Schema;
 use std::alloc::Global;
 

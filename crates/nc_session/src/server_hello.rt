@@ -1,7 +1,7 @@
 //! The server's hello (RFC 6241 8.1).
 ghost use Rattle.std.specs.Prelude.{◌≡◌, ◌++◌, ◌∷◌, [], map, IfOk, OnOk, OnErr};
 ghost use Rattle.std.specs.Fmt.{decimal};
-ghost use Rattle.nc_model.specs.Words.{session_id_word};
+ghost use Rattle.nc_protocol.specs.Words.{session_id_word};
 ghost use Rattle.nc_names.specs.Appending.{Appends};
 ghost use Rattle.nc_session.specs.ServerHello as hellos;
 ghost use Rattle.nc_session.specs.Words.{capabilities_word};
@@ -11,8 +11,8 @@ use crate::words;
 use itoa::Buffer;
 use nc_frames::write_eom;
 use nc_message::{Bounds, Elem, Part, Tree, write};
-use nc_model::request_words;
 use nc_names::{Boxed, Bytes, Many, Memory, Module, QName, Text};
+use nc_protocol::request_words;
 use nc_schema::Schema;
 use std::alloc::Global;
 

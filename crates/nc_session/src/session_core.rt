@@ -1,6 +1,6 @@
 //! The requests of a session's bytes.
 ghost use Rattle.std.specs.Prelude.{◌≡◌, ◌++◌, ℕ, List, [], None, OnOk, OnErr};
-ghost use Rattle.nc_model.specs.declared.request.Request.{Request};
+ghost use Rattle.nc_protocol.specs.declared.request.Request.{Request};
 ghost use Rattle.nc_session.specs.declared.base.Base.{Base};
 ghost use Rattle.nc_session.specs.declared.session_core.Phase.TheVariants.{Greeting, Serving, Over as PhaseOver};
 ghost use Rattle.nc_session.specs.declared.session_core.Todo.TheVariants.{Over as TodoOver};
@@ -19,9 +19,10 @@ use crate::reply::{push_reply, send_reply};
 use crate::requests::{read, read_request};
 use crate::{Base, SessionEnd};
 use nc_frames::FrameFault;
-use nc_model::{Entry, Outcome, Request};
+use nc_model::{Entry, Outcome};
 use nc_names::{Bytes, Memory};
 use nc_outside::Sink;
+use nc_protocol::Request;
 use std::alloc::Global;
 use std::marker::Model;
 

@@ -5,7 +5,7 @@ ghost use Rattle.nc_message.specs.declared.tree.Part.{Part};
 ghost use Rattle.nc_session.specs.Shape as shape;
 
 use nc_message::{Elem, Part};
-use nc_model::request_words;
+use nc_protocol::request_words;
 
 /// Whether an element is one of this name in the base namespace.
 pub(crate) fn is_base(elem: &Elem, name: &str) -> bool

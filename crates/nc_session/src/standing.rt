@@ -3,7 +3,8 @@ ghost use Rattle.std.specs.Prelude.{◌≡◌};
 ghost use Rattle.nc_model.specs.Step.{is_done};
 ghost use Rattle.nc_session.specs.Sessions.{is_close, standing_after};
 
-use nc_model::{Asked, Entry, Event, Outcome, Verdict};
+use nc_model::{Entry, Event, Outcome};
+use nc_protocol::{Asked, Verdict};
 
 /// How the last request of a session left it.
 #[derive(Clone, Copy, PartialEq, Eq, Debug)]

@@ -1,6 +1,6 @@
 //! One request of a session.
 ghost use Rattle.std.specs.Prelude.{◌≡◌, ◌<◌, ℕ, List, Option, length};
-ghost use Rattle.nc_model.specs.Proper.{IsProper};
+ghost use Rattle.nc_protocol.specs.Proper.{IsProper};
 ghost use Rattle.nc_outside.specs.Streams.{streams};
 ghost use Rattle.nc_schema.specs.Tables.{Tables};
 ghost use Rattle.nc_session.specs.declared.base.Base.{Base};
@@ -11,9 +11,10 @@ ghost use Rattle.nc_session.specs.inner.Turns.{Underway, Turns, Settles, entered
 use crate::fetch::fetch;
 use crate::standing::{Standing, left_by};
 use crate::{SessionCore, SessionEnd};
-use nc_model::{Desk, DeskFault, Entry, Event, Request};
+use nc_model::{Desk, DeskFault, Entry, Event};
 use nc_names::Bytes;
 use nc_outside::{Sink, Source};
+use nc_protocol::Request;
 
 /// The end that a session met, and how its last request left it.
 #[derive(Clone, Copy, PartialEq, Eq, Debug)]

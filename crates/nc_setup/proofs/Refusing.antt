@@ -1,6 +1,6 @@
 -- What is found refuses what the folder holds.
 use Rattle.std.proofs.Common.{◌≡◌, ◌+◌, ℕ, List, Some, subst}
-use Rattle.nc_model.specs.declared.request.Cause.{Cause}
+use Rattle.nc_protocol.specs.declared.request.Cause.{Cause}
 use Rattle.nc_schema.specs.Tables.{Tables}
 use Rattle.nc_yang.specs.Features.{IsFirstUnknown}
 use Rattle.nc_yang.specs.Schemas.{Breaks, Defines}

@@ -7,9 +7,9 @@ use Rattle.nc_message.specs.declared.tree.Tree.{Tree}
 use Rattle.nc_message_read.specs.Reading.{IsReadFault}
 use Rattle.nc_message_read.specs.declared.stop.MessageFault.{MessageFault}
 use Rattle.nc_message_read.specs.declared.stop.MessageFault.TheVariants.{Malformed, Memory as NotRead}
-use Rattle.nc_model.specs.declared.request.Cause.{Cause}
-use Rattle.nc_model.specs.Verdict.{violation_cause, violation_in}
-use Rattle.nc_model.proofs.PayloadLaws.{inline_is_configuration}
+use Rattle.nc_protocol.specs.declared.request.Cause.{Cause}
+use Rattle.nc_protocol.specs.Refusals.{violation_cause, violation_in}
+use Rattle.nc_protocol.proofs.PayloadLaws.{inline_is_configuration}
 use Rattle.nc_schema.proofs.TreeLemmas.{empty_is_data_tree}
 use Rattle.nc_schema.specs.Configuration.{IsConfiguration}
 use Rattle.nc_schema.specs.Proper.{IsProperSchema}

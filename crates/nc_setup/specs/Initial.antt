@@ -6,10 +6,10 @@ use Rattle.nc_names.specs.declared.path.Row.{Row}
 use Rattle.nc_message.specs.Faults.{IsFault, SpellsTree}
 use Rattle.nc_message.specs.declared.tree.Tree.{Tree}
 use Rattle.nc_message.specs.declared.tree.Why.{Why}
-use Rattle.nc_model.specs.Payload.{rows_of}
-use Rattle.nc_model.specs.Verdict.{violation_in}
-use Rattle.nc_model.specs.Words.{base_namespace, config_word, data_word}
-use Rattle.nc_model.specs.declared.request.Cause.{Cause}
+use Rattle.nc_protocol.specs.Payload.{rows_of}
+use Rattle.nc_protocol.specs.Refusals.{violation_in}
+use Rattle.nc_protocol.specs.Words.{base_namespace, config_word, data_word}
+use Rattle.nc_protocol.specs.declared.request.Cause.{Cause}
 use Rattle.nc_schema.specs.Tables.{Tables}
 
 -- the name of its root element: `config` or `data` of the base namespace (RFC 6241 3.1, 7.1, 7.2)

@@ -1,6 +1,6 @@
 //! The initial configuration.
 ghost use Rattle.std.specs.Prelude.{◌≡◌, IfOk, MatchResult, Ok, Some};
-ghost use Rattle.nc_model.specs.Payload as payload;
+ghost use Rattle.nc_protocol.specs.Payload as payload;
 ghost use Rattle.nc_schema.specs.Configuration.{IsConfiguration};
 ghost use Rattle.nc_schema.specs.Proper.{IsProperSchema};
 ghost use Rattle.nc_schema.specs.Violations.{IsValid};
@@ -8,14 +8,14 @@ ghost use Rattle.nc_setup.specs.Initial.{IsInitial, IsRead, is_root};
 ghost use Rattle.nc_setup.specs.inner.Stops.{OnBad, OnInvalid, OnStop, OnUnread, Unreads};
 
 use crate::stop::Stop;
-use nc_machine::violation_in;
 use nc_message::{Elem, Tree};
 use nc_message_read::{MessageFault, read_message};
-use nc_model::{reply_words, request_words};
 use nc_names::{Bytes, QName};
 use nc_payload::{PayloadFault, rows};
+use nc_protocol::{reply_words, request_words};
 use nc_schema::Schema;
 use nc_tree::Config;
+use nc_validate::violation_in;
 use std::alloc::Global;
 
 // Whether an initial configuration may have a root of this name.

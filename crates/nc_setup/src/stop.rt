@@ -2,8 +2,8 @@
 ghost use Rattle.std.specs.Prelude.{◌≡◌};
 ghost use Rattle.nc_setup.specs.declared.stop.Stop.TheVariants.{Memory as StopMemory};
 
-use nc_model::Cause;
 use nc_names::Memory;
+use nc_protocol::Cause;
 
 /// Why a text is no initial configuration.
 #[derive(Debug, Drop)]

@@ -164,16 +164,10 @@ pub(crate) fn entries(
     Ok(order)
 }
 
-fn is_same_keys(keys: &Many<Text>, others: &Many<Text>) -> bool
-    ensures { result ≡ same.is_same_keys keys.now others.now }
-{
-    same_keys(keys.as_slice(), others.as_slice())
-}
-
 fn has_entry(keys: &Many<Text>, order: &[Many<Text>]) -> bool
     ensures { result ≡ meant.has_entry keys.now order.now }
 {
-    order.iter().any(|entry| is_same_keys(entry, keys))
+    order.iter().any(|entry| same_keys(entry, keys))
 }
 
 /// Whether one entry stands before another in that order.
@@ -181,10 +175,10 @@ fn stands_before(order: &[Many<Text>], keys: &Many<Text>, others: &Many<Text>) -
     ensures { result ≡ meant.stands_before order.now keys.now others.now }
 {
     for entry in order {
-        if is_same_keys(entry, others) {
+        if same_keys(entry, others) {
             return false;
         }
-        if is_same_keys(entry, keys) {
+        if same_keys(entry, keys) {
             return true;
         }
     }
@@ -201,7 +195,7 @@ fn without_entry(
 {
     let mut others = Many::new(alloc);
     for entry in order {
-        if !is_same_keys(entry, keys) {
+        if !same_keys(entry, keys) {
             others.push(entry.copy()?)?;
         }
     }
@@ -219,7 +213,7 @@ fn put_before(
     let mut out = Many::new(alloc);
     let mut rest = order;
     for entry in order {
-        if is_same_keys(entry, anchor) {
+        if same_keys(entry, anchor) {
             out.push(keys.copy()?)?;
             push_all(&mut out, rest)?;
             return Ok(out);
@@ -243,7 +237,7 @@ fn put_after(
     for entry in order {
         out.push(entry.copy()?)?;
         rest = tail(rest, 1);
-        if is_same_keys(entry, anchor) {
+        if same_keys(entry, anchor) {
             out.push(keys.copy()?)?;
             push_all(&mut out, rest)?;
             return Ok(out);
@@ -307,14 +301,14 @@ fn placed(
         Place::First => first_of(alloc, keys, without_entry(alloc, keys, order.as_slice())?),
         Place::Last => last_of(keys, without_entry(alloc, keys, order.as_slice())?),
         Place::Before(anchor) => {
-            if is_same_keys(anchor, keys) {
+            if same_keys(anchor, keys) {
                 return kept_or_last(keys, order);
             }
             let others = without_entry(alloc, keys, order.as_slice())?;
             put_before(alloc, anchor, keys, others.as_slice())
         }
         Place::After(anchor) => {
-            if is_same_keys(anchor, keys) {
+            if same_keys(anchor, keys) {
                 return kept_or_last(keys, order);
             }
             let others = without_entry(alloc, keys, order.as_slice())?;

@@ -2,5 +2,4 @@ pub mod BitLemmas
 pub mod DecimalLemmas
 pub mod IdentityLemmas
 pub mod KeyLemmas
-pub mod TrimLemmas
 pub mod UnionLemmas

@@ -1,5 +1,4 @@
 pub mod Asked
 pub mod Cuts
-pub mod Ends
 pub mod Faults
 pub mod Scopes

@@ -9,7 +9,7 @@ ghost use Rattle.nc_types.specs.inner.Faults.{OnNotInType};
 
 use crate::fault::TypeFault;
 use crate::number::{is_among, print_size};
-use crate::trim::without_zeros;
+use crate::zeros::without_zeros;
 use nc_names::{Memory, Text};
 use nc_schema::{Between, read_number};
 use std::alloc::Global;

@@ -8,7 +8,7 @@ ghost use Rattle.nc_schema.specs.NumberTexts as numbers;
 ghost use Rattle.nc_types.specs.inner.Faults.{OnNotInType};
 
 use crate::fault::TypeFault;
-use crate::trim::without_zeros;
+use crate::zeros::without_zeros;
 use itoa::Buffer;
 use nc_names::{Memory, Text};
 use nc_schema::{Between, read_number};

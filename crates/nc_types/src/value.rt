@@ -16,8 +16,7 @@ use crate::number::whole_text;
 use crate::paths::{instance_text, node_instance_text};
 use crate::scope::scope_of;
 use crate::simple::{binary_text, boolean_text, empty_text, one_of, string_text};
-use crate::trim::trimmed;
-use nc_names::{Binds, Many, Memory, Text};
+use nc_names::{Binds, Many, Memory, Text, trimmed};
 use nc_schema::{Kind, Schema, ValueType};
 use std::alloc::Global;
 

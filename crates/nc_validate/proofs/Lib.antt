@@ -4,3 +4,4 @@ pub mod ChoiceLemmas
 pub mod TuplesLemmas
 pub mod UniqueLemmas
 pub mod CountLemmas
+pub mod Firsts

@@ -5,7 +5,7 @@ use Rattle.std.specs.List.{All}
 use Rattle.nc_names.specs.declared.name.Module.{Module}
 use Rattle.nc_names.specs.declared.name.QName.{QName}
 use Rattle.nc_schema.specs.Kinds.{has_entries, has_value, holds_nodes, is_list}
-use Rattle.nc_schema.specs.Proper.{AreNested, EachNode, HasItsKeys, HasItsUniques, IsChain, IsContainer, IsIdentityOf, IsKeyIn, IsNamed, IsProperType, IsUniqueIn, StandsIn, TurnsAbove}
+use Rattle.nc_schema.specs.Proper.{AreInPlace, AreNested, EachNode, HasItsKeys, HasItsUniques, IsChain, IsContainer, IsIdentityOf, IsKeyIn, IsNamed, IsProperType, IsUniqueIn, StandsIn, TurnsAbove}
 use Rattle.nc_schema.specs.Tables.{Tables}
 use Rattle.nc_schema.specs.declared.node.Case.{Case}
 use Rattle.nc_schema.specs.declared.node.Choice.{Choice}
@@ -13,7 +13,6 @@ use Rattle.nc_schema.specs.declared.node.Kind.TheVariants.{Leaf}
 use Rattle.nc_schema.specs.declared.node.Node.{Node}
 use Rattle.nc_schema.specs.declared.value_type.ValueType.{ValueType}
 use Rattle.nc_schema.specs.declared.value_type.ValueType.TheVariants.{Decimal, Bits, Union, Identity, Leafref}
-use Rattle.nc_yang_data.specs.Laws.{AreInPlace}
 use Rattle.nc_yang_nodes.proofs.ListLemmas.{got}
 use Rattle.nc_yang_scopes.proofs.Lists.{get_within}
 

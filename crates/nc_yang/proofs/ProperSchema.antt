@@ -3,7 +3,7 @@ use Rattle.std.proofs.Common.{◌≡◌, ◌≢◌, ◌<◌, ℕ, List, length, 
 use Rattle.std.specs.Prelude.{Option, Some, None, IsSome, IsSomeAnd, Result, Ok, Err, IfOk, MatchResult, slice_get}
 use Rattle.std.specs.List.{All, AllPairs}
 use Rattle.nc_names.specs.declared.name.Module.{Module as SchemaModule}
-use Rattle.nc_schema.specs.Proper.{EachNode, HasItsDefaults, IsProperModule, IsProperSchema}
+use Rattle.nc_schema.specs.Proper.{AreInPlace, AreModules, AreTypesProper, EachNode, HasItsDefaults, IsProperModule, IsProperSchema}
 use Rattle.nc_schema.specs.Tables.{Tables}
 use Rattle.nc_schema.specs.declared.node.Node.{Node}
 use Rattle.nc_yang_scopes.specs.Scopes.{Located, Scoping}
@@ -16,19 +16,17 @@ use Rattle.nc_yang_texts.specs.Texts.{OnModule}
 use Rattle.nc_yang_texts.specs.declared.fault.CompileFault.{CompileFault}
 use Rattle.nc_yang_texts.specs.declared.text.ModuleText.{ModuleText}
 use Rattle.nc_yang_data.specs.Data.{data_tables}
-use Rattle.nc_yang_data.specs.Laws.{AreInPlace}
 use Rattle.nc_yang_data.proofs.Lawful.{in_place}
 use Rattle.nc_yang_meanings.specs.Faults.{KeepsTypes}
 use Rattle.nc_yang_leafs.specs.Bases.{AllMeanWhole}
 use Rattle.nc_yang_leafs.specs.Conditions.{holds}
-use Rattle.nc_yang_leafs.specs.Laws.{AreTypesProper}
 use Rattle.nc_yang_leafs.specs.Typings.{HasItsType, IsSameNode, IsTyped}
 use Rattle.nc_yang_leafs.proofs.ProperLemmas.{types_are_proper}
 use Rattle.nc_yang_defaults.specs.Defaults.{HasDefaults, HasItsDefault}
 use Rattle.nc_yang_defaults.specs.Typed.{IsTyped as IsReady}
 use Rattle.nc_yang_defaults.proofs.LawLemmas.{has_one}
 use Rattle.nc_yang_defaults.proofs.OutcomeLemmas.{outcome_canonical}
-use Rattle.nc_yang.specs.Laws.{AreModules, DefaultsAreCanonical, HasCanonicalDefaults, SchemasAreProper}
+use Rattle.nc_yang.specs.Laws.{DefaultsAreCanonical, HasCanonicalDefaults, SchemasAreProper}
 use Rattle.nc_yang.specs.Schemas.{AreNames, Breaks, Defines, IsSchemaOf, basis}
 use Rattle.nc_yang.proofs.Carried.{AreAlike, IsAlike, back, some_and, still_in_place, still_proper_types, still_turn, still_typed}
 use Rattle.nc_yang.proofs.DataTypes.{data_types_mean}
@@ -114,20 +112,17 @@ module _ (scoping : Scoping) (on : FeatureTest) (plan : Plan) (tables : Tables) 
       let kept = values_kept scoping plan is.typed tables ready is.defaults in
       let same : tables.modules ≡ given.modules = second.modules ∙ first.modules in
       record {
-        modules = subst (All IsProperModule) (sym same) m.modules;
-        modules_apart = subst (AllPairs (λ (one later : SchemaModule). (one.name ≢ later.name) × (one.space ≢ later.space))) (sym same) m.modules_apart;
-        parents = p.parents;
-        names = p.names;
-        siblings_apart = p.siblings_apart;
-        keys = p.keys;
-        by_user = p.by_user;
-        cases = p.cases;
-        outer_cases = p.outer_cases;
-        typed = still_typed is.typed tables second is.defaults.types kept t.typed;
-        types = still_proper_types is.typed tables second is.defaults.types kept t.types;
-        uniques = p.uniques;
+        modules = record {
+          modules = subst (All IsProperModule) (sym same) m.modules;
+          modules_apart = subst (AllPairs (λ (one later : SchemaModule). (one.name ≢ later.name) × (one.space ≢ later.space))) (sym same) m.modules_apart;
+        };
+        places = p;
+        types = record {
+          typed = still_typed is.typed tables second is.defaults.types kept t.typed;
+          types = still_proper_types is.typed tables second is.defaults.types kept t.types;
+          leafrefs = still_turn is.typed tables second is.defaults.types kept t.leafrefs;
+        };
         defaults = its_defaults scoping plan is.typed tables ready is.defaults;
-        leafrefs = still_turn is.typed tables second is.defaults.types kept t.leafrefs;
       }
 
   pub schema_is_proper : IsProperSchema tables

@@ -1,9 +1,9 @@
 -- What the laws say.
-use Rattle.std.specs.Prelude.{◌≡◌, ◌≢◌, ℕ, Bool, true, false, List, map, Some, IsTrue, option_and_then}
-use Rattle.std.specs.List.{All, AllPairs}
+use Rattle.std.specs.Prelude.{◌≡◌, ℕ, Bool, true, false, List, map, Some, IsTrue, option_and_then}
+use Rattle.std.specs.List.{All}
 use Rattle.nc_names.specs.declared.name.Bound.{Bound}
 use Rattle.nc_schema.specs.Kinds.{has_value}
-use Rattle.nc_schema.specs.Proper.{EachNode, IsProperModule, IsProperSchema}
+use Rattle.nc_schema.specs.Proper.{AreModules, EachNode, IsProperSchema}
 use Rattle.nc_schema.specs.Tables.{Tables}
 use Rattle.nc_schema.specs.Values.{IsCanonical, canonical}
 use Rattle.nc_schema.specs.declared.node.Node.{Node}
@@ -57,14 +57,7 @@ DataTypesMean =
     (t : Located) × (option_and_then (part_of TypeName) (statement_of scoping plan number) ≡ Some t)
     × MeansWhole on scoping.texts t)
 
--- what is to be true of the modules of a schema
-pub record AreModules (tables : Tables) : Type 0 where
-  -- their names are identifiers, and they have namespaces (RFC 7950 7.1)
-  pub modules : All IsProperModule tables.modules
-  -- two have two names and two namespaces (RFC 7950 5.1, 5.3)
-  pub modules_apart : AllPairs (λ one later. (one.name ≢ later.name) × (one.space ≢ later.space)) tables.modules
-
--- so it is with modules that keep all rules
+-- the modules of a schema are what they have to be where they keep all rules
 abbrev pub ModulesAreProper : Type 0
 ModulesAreProper =
     (scoping : Scoping) (features : FeatureTest) (plan : Plan) → KeepsTexts scoping.texts

@@ -6,7 +6,7 @@
 //!
 //! `first_circle` promises a fault exactly where a leaf or leaf-list refers to one that leads back to it, and then
 //! it is one of those, at the `path` statement. Types without a leafref in them are passed over, and no call recurses
-//! along leafrefs or the members of unions. The crate `trials_modules` tests it.
+//! along leafrefs or the members of unions. The folders of cases/ test it.
 #![tactic(auto)]
 
 mod circle;

@@ -1,6 +1,5 @@
 //! The `path` statements of the type of a data node.
 ghost use Rattle.std.specs.Prelude.{◌≡◌, Some, slice_get, IfOk};
-ghost use Rattle.nc_schema.specs.Kinds as kinds;
 ghost use Rattle.nc_yang_scopes.specs.Numbers.{IsNumber};
 ghost use Rattle.nc_yang_leafs.specs.Bases.{type_of};
 ghost use Rattle.nc_yang_leafs.specs.Marks.{AreMarks};
@@ -10,7 +9,6 @@ ghost use Rattle.nc_yang_circles.specs.inner.Plans as words;
 use crate::site::Site;
 use crate::walk::plan_paths;
 use nc_names::{Many, Memory};
-use nc_schema::Kind;
 use nc_yang_leafs::plan_at;
 use nc_yang_meanings::Meanings;
 use nc_yang_nodes::Plan;
@@ -18,22 +16,12 @@ use nc_yang_scopes::{Scopes, part_of};
 use nc_yang_statements::Keyword;
 use std::alloc::Global;
 
-// Whether data nodes of a kind have values.
-fn has_value(kind: Kind) -> bool
-    ensures { result ≡ kinds.has_value kind }
-{
-    match kind {
-        Kind::Leaf | Kind::LeafList => true,
-        Kind::Container { .. } | Kind::List => false,
-    }
-}
-
 // Whether the data node of a number has a value.
 fn is_valued(site: &Site, leaf: u32) -> bool
     ensures { result ≡ words.is_valued site.now.schema.now leaf }
 {
     match site.schema.node(leaf) {
-        Some(node) => has_value(node.kind),
+        Some(node) => node.kind.has_value(),
         None => false,
     }
 }

@@ -1,5 +1,6 @@
 -- Where no rule is broken, data nodes and choices are in place.
 use Rattle.std.proofs.Common.{◌≡◌, ◌++◌, []}
+use Rattle.nc_schema.specs.Proper.{AreInPlace}
 use Rattle.nc_yang_scopes.specs.Scopes.{Scoping}
 use Rattle.nc_yang_nodes.proofs.Sound.{plan_is_sound}
 use Rattle.nc_yang_nodes.specs.Plans.{IsPlan}
@@ -8,7 +9,6 @@ use Rattle.nc_yang_nodes.specs.declared.planned.Plan.{Plan}
 use Rattle.nc_yang_data.specs.Conditions.{all_conditions}
 use Rattle.nc_yang_data.specs.Data.{data_faults, data_tables, drafts}
 use Rattle.nc_yang_data.specs.Defaults.{default_faults}
-use Rattle.nc_yang_data.specs.Laws.{AreInPlace}
 use Rattle.nc_yang_data.specs.Places.{faults_from}
 use Rattle.nc_yang_data.proofs.Kept.{append_nothing, apart, known, stands}
 use Rattle.nc_yang_data.proofs.KeptCases.{choice_cases, node_cases}

@@ -6,14 +6,13 @@ ghost use Rattle.nc_yang_statements.specs.Statements.{below};
 ghost use Rattle.nc_yang_nodes.specs.FeaturesOn.{is_on};
 ghost use Rattle.nc_yang_data.specs.Drafts as drafts;
 
-use crate::draft::{copied, is_mandatory};
-use nc_names::Memory;
+use crate::draft::is_mandatory;
+use nc_names::{Copies, Memory};
 use nc_schema::{Choice, Schema};
 use nc_yang_nodes::{Features, PlannedChoice, case_of};
 use nc_yang_scopes::Scopes;
 use nc_yang_statements::{Keyword, name, part};
 use nc_yang_words::Statement;
-use std::alloc::Global;
 
 // The number of a case in 32 bits.
 fn as_case(case: Option<usize>) -> Result<Option<u32>, Memory>
@@ -45,7 +44,6 @@ fn default_case<'a>(
 
 // A planned choice by the statement that defines it.
 fn choice_in<'a>(
-    alloc: Global,
     scopes: &Scopes<'a>,
     features: &Features<'a>,
     planned: &PlannedChoice,
@@ -56,7 +54,7 @@ fn choice_in<'a>(
         parent: planned.parent,
         mandatory: false,
         default_case: None,
-        within: copied(alloc, planned.within.as_slice())?,
+        within: planned.within.copy()?,
     };
     if let Some(statement) = scopes.statement(planned.statement) {
         let among = statement.below.as_slice();
@@ -68,7 +66,6 @@ fn choice_in<'a>(
 
 /// Adds planned choices.
 pub(crate) fn add_choices<'a>(
-    alloc: Global,
     scopes: &Scopes<'a>,
     features: &Features<'a>,
     planned: &[PlannedChoice],
@@ -81,7 +78,7 @@ pub(crate) fn add_choices<'a>(
     }) }
 {
     for choice in planned {
-        schema.add_choice(choice_in(alloc, scopes, features, choice)?)?;
+        schema.add_choice(choice_in(scopes, features, choice)?)?;
     }
     Ok(())
 }

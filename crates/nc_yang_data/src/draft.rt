@@ -9,8 +9,8 @@ ghost use Rattle.nc_yang_data.specs.Drafts as drafts;
 ghost use Rattle.nc_yang_scopes.specs.Prefixes.{namespace_in};
 
 use crate::texts::space_at;
-use nc_names::{Many, Memory, QName, Text};
-use nc_schema::{Case, Deny, Kind, Node, read_number};
+use nc_names::{Copies, Many, Memory, QName, Text};
+use nc_schema::{Deny, Kind, Node, read_number};
 use nc_yang_nodes::Planned;
 use nc_yang_scopes::Scopes;
 use nc_yang_statements::{Keyword, has, is_same_keyword, kind, name, part};
@@ -120,17 +120,6 @@ pub(crate) fn is_mandatory(among: &[Statement]) -> bool
     }
 }
 
-/// The same cases.
-pub(crate) fn copied(alloc: Global, cases: &[Case]) -> Result<Many<Case>, Memory>
-    ensures { IfOk result (λ it. it ≡ cases.now) }
-{
-    let mut copied = Many::new(alloc);
-    for case in cases {
-        copied.push(*case)?;
-    }
-    Ok(copied)
-}
-
 // A node in that namespace of which nothing is known but its place.
 fn unknown(alloc: Global, space: Text, planned: &Planned) -> Result<Node, Memory>
     requires { planned.now.module < 2 ^ 32 }
@@ -152,7 +141,7 @@ fn unknown(alloc: Global, space: Text, planned: &Planned) -> Result<Node, Memory
         least: 0,
         most: None,
         by_user: false,
-        cases: copied(alloc, planned.cases.as_slice())?,
+        cases: planned.cases.copy()?,
         deny: Deny::Nothing,
     })
 }

@@ -10,7 +10,7 @@
 //! `prefixes` promises the prefixes of a text with their namespaces, `all_prefixes` those of each text, and `namespaces`
 //! the namespaces of all texts.
 //! First each node is made by its statement alone; then each again, with the leafs that it names among those.
-//! The crate `trials_modules` tests it.
+//! The folders of cases/ test it.
 #![tactic(auto)]
 
 mod again;

@@ -121,7 +121,7 @@ fn add_rest<'a>(
       modules = modules_from (is_on features.now) 0 scopes.now.texts;
     }) }
 {
-    add_choices(alloc, scopes, features, plan.choices.as_slice(), schema)?;
+    add_choices(scopes, features, plan.choices.as_slice(), schema)?;
     add_modules(alloc, scopes, features, schema)
 }
 

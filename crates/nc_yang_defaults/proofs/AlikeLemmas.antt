@@ -5,9 +5,10 @@ use Rattle.std.specs.List.{list_any}
 use Rattle.std.proofs.lemmas.Option.{slice_get_within}
 use Rattle.nc_names.specs.declared.name.Bound.{Bound}
 use Rattle.nc_names.specs.declared.name.QName.{QName}
+use Rattle.nc_names.specs.Ends.{trimmed}
 use Rattle.nc_schema.specs.InstancePaths.{key_nodes}
 use Rattle.nc_schema.specs.Tables.{Tables}
-use Rattle.nc_schema.specs.Values.{Givers, Gives, canonical, fits_paths, identity_text, instance_text, is_key_above, is_quotable, node_instance_text, node_text, text_in_type, text_within, trimmed, type_of, type_text, value_depth}
+use Rattle.nc_schema.specs.Values.{Givers, Gives, canonical, fits_paths, identity_text, instance_text, is_key_above, is_quotable, node_instance_text, node_text, text_in_type, text_within, type_of, type_text, value_depth}
 use Rattle.nc_schema.specs.declared.node.Node.{Node}
 use Rattle.nc_schema.specs.declared.value_type.ValueType.{ValueType}
 use Rattle.nc_schema.specs.declared.value_type.ValueType.TheVariants.{Whole, Decimal, Chars, Boolean, Enumeration, Bits, Binary, Empty, Union, Identity, Leafref, Instance, NodeInstance}

@@ -8,6 +8,7 @@ use Rattle.nc_names.specs.declared.name.Bound.{Bound}
 use Rattle.nc_names.specs.declared.name.QName.{QName}
 use Rattle.nc_names.specs.declared.path.Path.{Path}
 use Rattle.nc_names.specs.declared.path.Step.{Step}
+use Rattle.nc_names.specs.Ends.{trimmed}
 use Rattle.nc_names.specs.Same.{is_same_name, is_same_text}
 use Rattle.nc_names.specs.Signs.{closing_bracket, colon, equals, opening_bracket, slash}
 use Rattle.nc_schema.specs.Bindings.{module_bounds}
@@ -18,7 +19,7 @@ use Rattle.nc_schema.specs.Order.{keys_above}
 use Rattle.nc_schema.specs.PathTexts.{key_predicate, module_name, predicates, prefixed_name, quoted, step_predicates, step_text, value_predicate}
 use Rattle.nc_schema.specs.PathWords.{written_steps}
 use Rattle.nc_schema.specs.Tables.{Tables}
-use Rattle.nc_schema.specs.Values.{Givers, Gives, canonical, canonical_given, canonical_keys, canonical_part, canonical_pattern, canonical_step, canonical_steps, given_predicate, identity_text, instance_text, is_key_above, is_quotable, node_instance_text, node_text, pattern_step_text, pattern_text, text_in_type, text_within, trimmed, type_of, type_text, union_text, value_depth}
+use Rattle.nc_schema.specs.Values.{Givers, Gives, canonical, canonical_given, canonical_keys, canonical_part, canonical_pattern, canonical_step, canonical_steps, given_predicate, identity_text, instance_text, is_key_above, is_quotable, node_instance_text, node_text, pattern_step_text, pattern_text, text_in_type, text_within, type_of, type_text, union_text, value_depth}
 use Rattle.nc_schema.specs.declared.node.Kind.{Kind}
 use Rattle.nc_schema.specs.declared.node.Kind.TheVariants.{Container, Leaf, LeafList, List as ListKind}
 use Rattle.nc_schema.specs.declared.node.Node.{Node}

@@ -2,10 +2,11 @@
 use Rattle.std.specs.Prelude.{ℕ, ◌&&◌, Bool, true, false, if◌then◌else◌, length, nat_lt, List, Option, None, slice_get, option_and_then}
 use Rattle.std.specs.Option.{option_map_or}
 use Rattle.std.specs.Str.Parse.{without_leading_sign}
+use Rattle.nc_names.specs.Ends.{trimmed}
 use Rattle.nc_schema.specs.NumberTexts.{zero_digit}
 use Rattle.nc_schema.specs.PathWords.{begins_with}
 use Rattle.nc_schema.specs.Tables.{Tables}
-use Rattle.nc_schema.specs.Values.{canonical, trimmed, type_of}
+use Rattle.nc_schema.specs.Values.{canonical, type_of}
 use Rattle.nc_schema.specs.declared.value_type.ValueType.{ValueType}
 use Rattle.nc_schema.specs.declared.value_type.ValueType.TheVariants.{Whole}
 use Rattle.nc_yang_words.specs.declared.statement.Statement.{Statement}

@@ -37,6 +37,6 @@ pub fn with_defaults(
 {
     let found = all_defaults(alloc, scopes, plan, defaults, prefixes, &typed)?;
     let mut schema = typed;
-    put_all(alloc, &mut schema, found)?;
+    put_all(&mut schema, found)?;
     Ok(schema)
 }

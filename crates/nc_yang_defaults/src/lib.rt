@@ -5,7 +5,7 @@
 //! nc_yang_nodes, on the defaults that types bring of nc_yang_meanings, and on nc_types for canonical texts.
 //!
 //! `with_defaults` promises exactly the defaults that the statements say, or a bad argument at the first data
-//! node with a default that breaks a rule. The crate `trials_modules` tests it.
+//! node with a default that breaks a rule. The folders of cases/ test it.
 #![tactic(auto)]
 
 mod all;

@@ -7,9 +7,9 @@ ghost use Rattle.nc_yang_scopes.specs.Prefixes.{ArePrefixes, prefixes_in};
 ghost use Rattle.nc_yang_defaults.specs.Readings as readings;
 ghost use Rattle.nc_yang_defaults.specs.inner.Reading.{IsReading};
 
-use nc_names::{Bound, Many, Memory, Text};
+use nc_names::{Bound, Many, Memory, Text, trimmed};
 use nc_schema::{Kind, Schema, ValueType};
-use nc_types::{TypeFault, canonical, trimmed};
+use nc_types::{TypeFault, canonical};
 use nc_yang_scopes::Scopes;
 use nc_yang_statements::name;
 use std::alloc::Global;

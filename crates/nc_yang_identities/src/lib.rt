@@ -8,7 +8,7 @@
 //! exactly the identities that are its values: those that no `if-feature` takes away, and that are derived from each
 //! identity which the statements name, in the order of the texts and of the statements in them. A call takes time in
 //! proportion to the identities and their bases, for each `base` statement, and does not recurse along a chain. The
-//! crate `trials_modules` tests it.
+//! folders of cases/ test it.
 #![tactic(auto)]
 
 mod edges;

@@ -11,7 +11,10 @@ use Rattle.nc_schema.specs.InstancePaths.{leads_down, leafref_below, leafref_end
 use Rattle.nc_schema.specs.Kinds.{has_value}
 use Rattle.nc_schema.specs.Proper.{IsChain}
 use Rattle.nc_schema.specs.Tables.{Tables}
-use Rattle.nc_paths.proofs.Names.{bind_some}
+
+bind_some : {A B : Type 0} (o : Option A) (f : A → Option B) (v : B) → option_and_then f o ≡ Some v → (x : A) × (o ≡ Some x) × (f x ≡ Some v)
+bind_some None f v e = absurd (cc)
+bind_some (Some x) f v e = (x, refl, e)
 
 pub some_and : {A : Type 0} (P : A → Type 0) (o : Option A) (x : A) → o ≡ Some x → P x → IsSomeAnd o P
 some_and P o x e h = subst (λ z. IsSomeAnd z P) (sym e) h

@@ -9,7 +9,7 @@ use Rattle.nc_schema.specs.declared.node.Node.{Node}
 use Rattle.nc_schema.specs.declared.value_type.ValueType.{ValueType}
 use Rattle.nc_schema.specs.declared.value_type.ValueType.TheVariants.{Whole, Decimal, Chars as String, Boolean as Truth, Enumeration as Names, Bits as Set, Binary as Octets, Empty as Nothing, Union as Members, Identity, Leafref, Instance, NodeInstance}
 use Rattle.nc_schema.specs.Kinds.{has_value}
-use Rattle.nc_schema.specs.Proper.{EachNode, IsChain, IsIdentityOf, IsProperType, TurnsAbove}
+use Rattle.nc_schema.specs.Proper.{AreTypesProper, EachNode, IsChain, IsIdentityOf, IsProperType, TurnsAbove}
 use Rattle.nc_schema.specs.Tables.{Tables}
 use Rattle.nc_yang_order.proofs.Lists.{get_none}
 use Rattle.nc_yang_statements.specs.Statements.{name}
@@ -18,7 +18,6 @@ use Rattle.nc_yang_scopes.specs.Scopes.{Located}
 use Rattle.nc_yang_meanings.specs.Meanings.{DerivedFrom, Entry, Meaning, Means, OneOf, Refers}
 use Rattle.nc_yang_meanings.specs.Wholes.{members_of}
 use Rattle.nc_yang_leafs.specs.Bases.{AllMeanWhole, Basis, leads}
-use Rattle.nc_yang_leafs.specs.Laws.{AreTypesProper}
 use Rattle.nc_yang_leafs.specs.Typings.{HasItsType, HasTypes, IsEntry, IsSameNode, IsTyped, none, numbers_of, one_more}
 use Rattle.nc_yang_leafs.proofs.ClosingLemmas.{IsOne}
 use Rattle.nc_yang_leafs.proofs.LeafrefLemmas.{IsEnd, path_end}

@@ -4,11 +4,10 @@ ghost use Rattle.nc_yang_statements.specs.Stops.{OnBroken};
 ghost use Rattle.nc_yang_leafs.specs.inner.Sites.{HasPrefixes, work};
 ghost use Rattle.nc_yang_leafs.specs.inner.Tables as words;
 
-use crate::copies::copied;
 use crate::derives::Derives;
 use crate::site::Site;
 use crate::table::Table;
-use nc_names::Memory;
+use nc_names::{Copies, Memory};
 use nc_paths::leafref_end;
 use nc_schema::{LeafrefEnd, ValueType};
 use nc_yang_meanings::Planned;
@@ -87,7 +86,7 @@ pub(crate) fn entry<D: Derives>(
     ensures fault { IfErr result (OnBroken (words.IsLost (work site.now node) planned.now)) }
 {
     match planned {
-        Planned::Finished(one) => Ok(copied(alloc, one)?),
+        Planned::Finished(one) => Ok(one.copy()?),
         Planned::Members(members) => Ok(ValueType::Union {
             members: table.ask_all(alloc, site, node, members.as_slice())?,
         }),

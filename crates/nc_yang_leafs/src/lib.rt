@@ -11,7 +11,6 @@
 //! of a proper schema. `marks_of` tells types with a leafref in them from those without one.
 #![tactic(auto)]
 
-mod copies;
 mod derives;
 mod entry;
 mod fill;

@@ -1,6 +1,5 @@
 //! The type of a data node.
 ghost use Rattle.std.specs.Prelude.{◌≡◌, ℕ, Bool, List, Some, slice_get, IfOk, IfErr, IfSome};
-ghost use Rattle.nc_schema.specs.Kinds as kinds;
 ghost use Rattle.nc_yang_scopes.specs.Scopes.{Located};
 ghost use Rattle.nc_yang_leafs.specs.Bases.{type_of};
 ghost use Rattle.nc_yang_statements.specs.Stops.{OnBroken};
@@ -19,16 +18,6 @@ use nc_yang_nodes::Plan;
 use nc_yang_scopes::{Scopes, TextFault, part_of};
 use nc_yang_statements::{Keyword, Stop};
 use std::alloc::Global;
-
-// Whether data nodes of a kind have values.
-fn has_value(kind: Kind) -> bool
-    ensures { result ≡ kinds.has_value kind }
-{
-    match kind {
-        Kind::Leaf | Kind::LeafList => true,
-        Kind::Container { .. } | Kind::List => false,
-    }
-}
 
 // The number of the `type` statement of a data node.
 fn type_statement(scopes: &Scopes, plan: &Plan, node: u32) -> Option<usize>
@@ -86,7 +75,7 @@ impl Table {
             → nodes.MayGive (D.derived identities.now) (nodes.basis_of on site.now plan.now) (work site.now node) kind self.old
             → nodes.BreaksAt (nodes.basis_of on site.now plan.now) (work site.now node) kind fault)) }
     {
-        if !has_value(kind) {
+        if !kind.has_value() {
             return Ok(0);
         }
         let Some(statement) = type_statement(site.scopes, plan, node) else {

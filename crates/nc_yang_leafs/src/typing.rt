@@ -11,13 +11,12 @@ ghost use Rattle.nc_yang_leafs.specs.Typings.{IsTyped};
 ghost use Rattle.nc_yang_leafs.specs.inner.Assembly as assembly;
 ghost use Rattle.nc_yang_leafs.specs.inner.Nodes.{HaveKinds};
 
-use crate::copies::with_kind;
 use crate::derives::Derives;
 use crate::firsts::firsts_of;
 use crate::kinds::{Found, all_types};
 use crate::marks::marks_of;
 use crate::site::Site;
-use nc_names::{Bound, Many, Memory};
+use nc_names::{Bound, Copies, Many, Memory};
 use nc_schema::{Schema, ValueType};
 use nc_yang_meanings::Meanings;
 use nc_yang_nodes::{Features, Plan};
@@ -40,7 +39,7 @@ fn with_types(schema: Schema, types: Many<ValueType>) -> Result<Schema, Memory>
 }
 
 // With the number of a type for a data node.
-fn set_kind(alloc: Global, schema: &mut Schema, number: u32, kind: u32) -> Result<(), Memory>
+fn set_kind(schema: &mut Schema, number: u32, kind: u32) -> Result<(), Memory>
     ensures { OnOk result (schema.new ≡ assembly.with_kind schema.old number kind) }
 {
     if number >= schema.nodes() {
@@ -49,13 +48,14 @@ fn set_kind(alloc: Global, schema: &mut Schema, number: u32, kind: u32) -> Resul
     let Some(node) = schema.node(number) else {
         return Err(Memory);
     };
-    let node = with_kind(alloc, node, kind)?;
+    let mut node = node.copy()?;
+    node.kind_of_value = kind;
     schema.set_node(number, node);
     Ok(())
 }
 
 // With the numbers of the types of the data nodes.
-fn with_kinds(alloc: Global, schema: Schema, kinds: &[u32]) -> Result<Schema, Memory>
+fn with_kinds(schema: Schema, kinds: &[u32]) -> Result<Schema, Memory>
     ensures { IfOk result (assembly.HasKinds schema kinds.now) }
 {
     let mut schema = schema;
@@ -63,7 +63,7 @@ fn with_kinds(alloc: Global, schema: Schema, kinds: &[u32]) -> Result<Schema, Me
         let Ok(place) = u32::try_from(number) else {
             return Err(Memory);
         };
-        set_kind(alloc, &mut schema, place, *kind)?;
+        set_kind(&mut schema, place, *kind)?;
     }
     Ok(schema)
 }
@@ -134,5 +134,5 @@ pub fn typed<'a, D: Derives>(
         alloc, scopes, plan, meanings, prefixes, identities, &schema,
     )?;
     let schema = with_types(schema, types)?;
-    Ok(with_kinds(alloc, schema, kinds.as_slice())?)
+    Ok(with_kinds(schema, kinds.as_slice())?)
 }

@@ -9,7 +9,7 @@
 //! it stands, and then it is one of those. `in_order` gives such a fault among definitions of one sort, or the
 //! numbers of all of them, each once and after those that it names; by the law `order_has_no_circle` there are
 //! never both. `first_unrevised` promises the first import of a revision that a module does not have. No call
-//! recurses along a chain of definitions. The crate `trials_modules` tests it.
+//! recurses along a chain of definitions. The folders of cases/ test it.
 #![tactic(auto)]
 
 mod arrange;

@@ -10,7 +10,7 @@
 //!
 //! `meanings_of` promises what every type means where none breaks a rule, and else a rule that is broken.
 //! `defaults_of` and `leaf_default` promise the nearest default along the typedefs. No call recurses
-//! along a chain of typedefs, and each type is looked at once. The crate `trials_modules` tests it.
+//! along a chain of typedefs, and each type is looked at once. The folders of cases/ test it.
 #![tactic(auto)]
 
 mod all;

@@ -6,7 +6,7 @@ ghost use Rattle.nc_yang_nodes.specs.inner.Rooms.{fits};
 
 use crate::planned::Plan;
 use crate::role::Role;
-use nc_names::{Many, Memory};
+use nc_names::{Copies, Many, Memory};
 use nc_schema::Case;
 use std::alloc::Global;
 
@@ -23,17 +23,6 @@ pub(crate) struct Context {
     pub cases: Many<Case>,
     /// Directly in a choice, the case that the next statement is.
     pub next: Option<Case>,
-}
-
-// The same cases.
-fn copied(alloc: Global, cases: &[Case]) -> Result<Many<Case>, Memory>
-    ensures { IfOk result (λ it. it ≡ cases.now) }
-{
-    let mut copied = Many::new(alloc);
-    for case in cases {
-        copied.push(*case)?;
-    }
-    Ok(copied)
 }
 
 // The case after a case.
@@ -68,7 +57,7 @@ impl Context {
     pub(crate) fn within(&self) -> Result<Many<Case>, Memory>
         ensures { IfOk result (λ it. it ≡ expansion.within self.now) }
     {
-        let mut cases = copied(self.cases.alloc(), self.cases.as_slice())?;
+        let mut cases = self.cases.copy()?;
         if let Some(case) = self.next {
             cases.push(case)?;
         }

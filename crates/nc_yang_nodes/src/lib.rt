@@ -9,8 +9,8 @@
 //! both, by `plan_is_sound` each data node comes after the one in which it stands, and by `plans_are_alike` two
 //! plans differ only in the numbers of statements that are written alike in one place. `features_on` promises
 //! which of the given features are on, `is_supported_at` whether a statement is there under them, and `case_of` the
-//! number of a choice's case. A walk has a stack of its own, and passes over what plans nothing. The crate
-//! `trials_modules` tests it.
+//! number of a choice's case. A walk has a stack of its own, and passes over what plans nothing. The folders of
+//! cases/ test it.
 #![tactic(auto)]
 
 mod barren;

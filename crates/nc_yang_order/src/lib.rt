@@ -6,7 +6,7 @@
 //! no graph has both. `Reach::of` promises the numbers to which edges lead from some numbers.
 //!
 //! It stands on the plain types of nc_names. A call takes steps in proportion to the numbers and edges, and does not
-//! recurse. The crate `trials_modules` tests it.
+//! recurse. The folders of cases/ test it.
 #![tactic(auto)]
 
 mod graph;

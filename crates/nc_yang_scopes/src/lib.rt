@@ -9,7 +9,7 @@
 //! is broken, and then one of those; so does `first_configured` of `config true` in state. `first_twin` promises the
 //! first of two modules that share a name or a namespace.
 //! `part_of` and `parts_of` promise the statements of one keyword in another, and a `Table` has numbers by a block and a
-//! word. The crate `trials_modules` tests it.
+//! word. The folders of cases/ test it.
 #![tactic(auto)]
 
 mod book;

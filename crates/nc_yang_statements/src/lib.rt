@@ -6,7 +6,7 @@
 //! another statement defines.
 //!
 //! `first_fault` promises a fault exactly where one of the statements of a module text breaks such a rule,
-//! and then it is one of those. The crate `trials_modules` tests it.
+//! and then it is one of those. The folders of cases/ test it.
 #![tactic(auto)]
 
 mod argument;

@@ -5,8 +5,8 @@
 //! nc_yang_scopes, and those on circles in nc_yang_loops.
 //!
 //! `read_texts` promises the statements that the texts spell, or a fault of one that spells none or is past a limit.
-//! `first_break` promises a fault exactly where a rule is broken, and then it is one of those. The crate `trials_modules`
-//! tests them.
+//! `first_break` promises a fault exactly where a rule is broken, and then it is one of those. The folders of cases/
+//! test them.
 #![tactic(auto)]
 
 mod fault;

@@ -8,8 +8,8 @@ use Rattle.std.proofs.lemmas.Bool.Decides.{nat_tests}
 use Rattle.std.proofs.lemmas.List.Sums.{prefix_len-le-length, prefix_len_passes}
 use Rattle.std.proofs.lemmas.List.Splits.{slice_split_first}
 use Rattle.std.proofs.lemmas.Str.{IsCharBoundary-after_ascii, IsCharBoundary-start}
+use Rattle.nc_names.specs.Ends.{past}
 use Rattle.nc_names.specs.Signs.{is_white, bar, dot}
-use Rattle.nc_schema.specs.PathWords.{past}
 use Rattle.nc_yang_types.specs.Ranges.{around_dots}
 use Rattle.nc_yang_types.specs.inner.Cuts.{SplitsAtDots}
 

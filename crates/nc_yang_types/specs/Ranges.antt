@@ -1,11 +1,11 @@
 -- The arguments of `range` and `length` (RFC 7950 9.2.4, 9.4.4; 14, `range-arg` and `length-arg`).
 use Rattle.std.specs.Prelude.{ℕ, ◌-◌, ◌==◌, ◌&&◌, not, Bool, true, if◌then◌else◌, List, [], ◌∷◌, length, ℤ, int_le, int_lt, Option, Some, None, option_map, codes}
 use Rattle.std.specs.List.{list_all, list_any, slice_split, before_first}
+use Rattle.nc_names.specs.Ends.{trimmed}
 use Rattle.nc_names.specs.Same.{is_same_text}
 use Rattle.nc_names.specs.Signs.{bar, dot}
 use Rattle.nc_schema.specs.NumberTexts.{fraction_of, number_of, units_of}
 use Rattle.nc_schema.specs.PathWords.{◌>>=◌}
-use Rattle.nc_schema.specs.Values.{trimmed}
 use Rattle.nc_schema.specs.declared.value_type.Between.{Between}
 use Rattle.nc_yang_statements.specs.Arguments.{is_nothing, is_plain, is_visible_at, without_minus}
 use Rattle.nc_yang_types.specs.declared.bound.Counted.{Counted}

@@ -7,7 +7,7 @@
 //! kept, on the types of nc_schema, and on nc_types for the numbers in a range. Nothing here looks a name up.
 //!
 //! `own` and `narrowed` promise the entry exactly where the definitions list no fault, and else the first
-//! fault of their list. The crate `trials_modules` tests them.
+//! fault of their list. The folders of cases/ test them.
 #![tactic(auto)]
 
 mod bound;

@@ -8,9 +8,8 @@ ghost use Rattle.nc_yang_types.specs.inner.Cuts.{SplitsAt, SplitsAtDots, parts_l
 
 use crate::bound::{Counted, bound};
 use crate::inside::{all_lie_in, are_ascending};
-use nc_names::{Many, Memory, is_white};
+use nc_names::{Many, Memory, is_white, trimmed};
 use nc_schema::Between;
-use nc_types::trimmed;
 use std::alloc::Global;
 
 // What stands before the first bar, and after it.

@@ -2,7 +2,7 @@
 use Rattle.std.proofs.Common.{◌≡◌, ◌≢◌, ◌<◌, ◌≤◌, ℕ, Bool, true, false, List, [], ◌∷◌, refl, subst, arith}
 use Rattle.std.specs.Prelude.{codes}
 use Rattle.std.specs.List.{list_any}
-use Rattle.nc_model.specs.declared.peer.Peer.{Peer}
+use Rattle.nc_protocol.specs.declared.peer.Peer.{Peer}
 use Rattle.netconfd.specs.Words.{AreArguments, HasNoReading, arguments, count_recovery, is_unknown_flag, zero_or_one}
 
 at_most_one : (b : Bool) → zero_or_one b ≤ 1

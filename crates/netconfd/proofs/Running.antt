@@ -1,7 +1,7 @@
 -- What a run comes to, and its status.
 use Rattle.std.proofs.Common.{◌≡◌, ◌≢◌, ◌↔◌, ℕ, List, [], Option, Err, refl, sym, subst, arith}
 use Rattle.nc_names.specs.Counts.{Rose}
-use Rattle.nc_model.specs.declared.peer.Peer.{Peer}
+use Rattle.nc_protocol.specs.declared.peer.Peer.{Peer}
 use Rattle.nc_outside.specs.declared.files.NamedFile.{NamedFile}
 use Rattle.nc_outside.specs.Streams.{Streams}
 use Rattle.nc_session.specs.declared.end.SessionEnd.{SessionEnd}

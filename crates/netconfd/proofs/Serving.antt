@@ -7,13 +7,15 @@ use Rattle.nc_names.specs.Counts.{Rose}
 use Rattle.nc_names.specs.declared.path.Row.{Row}
 use Rattle.nc_model.specs.declared.entry.Entry.{Entry}
 use Rattle.nc_model.specs.Desks.{Home}
-use Rattle.nc_model.specs.History.{IsLegal}
-use Rattle.nc_model.specs.State.{State, expired, opening}
+use Rattle.nc_model.specs.History.{IsLegal, after}
+use Rattle.nc_model.specs.State.{IsGood, State, expired, opening}
 use Rattle.nc_model.specs.Step.{has_failed, outcome_of}
 use Rattle.nc_model.specs.declared.event.Event.TheVariants.{Start}
 use Rattle.nc_model.specs.declared.event.Outcome.TheVariants.{Full as IsFull, Started}
-use Rattle.nc_model.specs.declared.peer.Peer.{Peer}
-use Rattle.nc_model.specs.declared.request.Request.{Request}
+use Rattle.nc_protocol.specs.declared.peer.Peer.{Peer}
+use Rattle.nc_protocol.specs.declared.request.Request.{Request}
+use Rattle.nc_model.proofs.GoodLemmas.{good_stays}
+use Rattle.nc_model.proofs.HistoryLemmas.{legal_histories_join}
 use Rattle.nc_outside.specs.Streams.{Streams}
 use Rattle.nc_schema.specs.Tables.{Tables}
 use Rattle.nc_session.specs.Asks.{AsksAll, Spurned, Stopped}
@@ -76,28 +78,37 @@ nothing_legal : (opening : State) → IsLegal 0 opening []
 nothing_legal opening [] behind e is = cc is
 nothing_legal opening (x ∷ before) behind e is = cc is
 
-nothing_read : (given : Option (List ℕ)) → IfSome given (TellsReadings [])
+nothing_read : (given : Option (List ℕ)) → IfSome given (TellsReadings given [])
 nothing_read None = tt
-nothing_read (Some all) = (all, sym (append-nil all))
+nothing_read (Some all) = ap Some (sym (append-nil all))
+
+-- a good opening state leads to good ones
+good_along : (opening : State) (seen : List Entry) → IsGood opening → IsLegal 0 opening seen → (front rest : List Entry)
+    → seen ≡ front ++ rest → IsGood (after opening front)
+good_along opening seen good legal front rest is =
+    good_stays 0 opening front good
+    ((legal_histories_join 0 opening front rest).0 (subst (λ h. IsLegal 0 opening h) is legal)).0
 
 -- a machine before its first event, and its clock
 stands_first : {K : Type 0} (seat : Seat K) (home : Home) → home.alone ≡ true → home.answers ≡ seat.from
-    → seat.answers ≡ home.answers → home.answers < 2 ^ 64 → seat.machine.state ≡ home.opening → seat.machine.count ≡ 0
-    → SoloStands seat home [] []
-stands_first seat home alone from answers few state count = record {
+    → seat.answers ≡ home.answers → seat.given ≡ home.heard → home.answers < 2 ^ 64 → seat.machine.state ≡ home.opening
+    → seat.machine.count ≡ 0 → SoloStands seat home [] []
+stands_first seat home alone from answers given few state count = record {
   alone = alone;
   from_is = from;
   machine_stands = record { legal = nothing_legal home.opening; state_is = state; count_is = count };
   mine_is = refl;
   few = omega arith;
   answers_is = omega (arith, few, from, answers);
-  readings = nothing_read seat.given;
+  readings = subst (λ heard. IfSome seat.given (TellsReadings heard [])) given (nothing_read seat.given);
 }
 
 -- no server was made
-made_nothing : (opening : State) (before : Times) → opening.faults ≡ 0 → before.answers < 2 ^ 64 → HasMade opening before before [] []
-made_nothing opening before sure few = record {
+made_nothing : (opening : State) (before : Times) → IsGood opening → opening.faults ≡ 0 → before.answers < 2 ^ 64
+    → HasMade opening before before [] []
+made_nothing opening before good sure few = record {
   legal = nothing_legal opening;
+  good = good_along opening [] good (nothing_legal opening);
   sure = sure;
   own = refl;
   few = omega arith;
@@ -106,16 +117,18 @@ made_nothing opening before sure few = record {
 }
 
 -- what a machine and its clock stand for is what the server has made
-has_made : {K : Type 0} (seat : Seat K) (home : Home) (before now : Times) → before.answers ≡ home.answers
-    → now.given ≡ seat.given → now.answers ≡ seat.answers → seat.machine.state.faults ≡ 0
+has_made : {K : Type 0} (seat : Seat K) (home : Home) (before now : Times) → IsGood home.opening
+    → before.answers ≡ home.answers → before.given ≡ home.heard → now.given ≡ seat.given → now.answers ≡ seat.answers → seat.machine.state.faults ≡ 0
     → (seen mine : List Entry) → SoloStands seat home seen mine → HasMade home.opening before now seen mine
-has_made seat home before now from given answers sure seen mine stood = record {
+has_made seat home before now good from heard given answers sure seen mine stood = record {
   legal = stood.machine_stands.legal;
+  good = good_along home.opening seen good stood.machine_stands.legal;
   sure = subst (λ s. s.faults ≡ 0) stood.machine_stands.state_is sure;
   own = stood.mine_is;
   few = stood.few;
   answers = answers ∙ stood.answers_is ∙ ap (λ n. min (n + length seen) (2 ^ 64 - 1)) (sym (from ∙ stood.from_is));
-  readings = subst (λ g. IfSome g (TellsReadings seen)) (sym given) stood.readings;
+  readings = subst (λ g. IfSome g (TellsReadings before.given seen)) (sym given)
+      (subst (λ h. IfSome seat.given (TellsReadings h seen)) (sym heard) stood.readings);
 }
 
 -- the end that a session met is its end, unless it was found dead
@@ -181,30 +194,31 @@ never_full schema call running S P now end alone none first legal (Served sessio
     (subst (λ x. Met schema call course (call.seen ++ more) now standing x) (same ∙ e) has.met).1
 
 -- no memory was found for a server
-pub unserved : (server : Server) (peer : Peer) (streams : Streams) (before : Times) → before.answers < 2 ^ 64
+pub unserved : (server : Server) (peer : Peer) (streams : Streams) (before : Times)
+    → IsGood (opening server.schema server.running 0) → before.answers < 2 ^ 64
     → IsServed server peer streams streams before before Memory
-unserved server peer streams before few = record {
-  serves = NoStart Memory [] (λ alone. refl) refl (made_nothing _ before refl few);
+unserved server peer streams before good few = record {
+  serves = NoStart Memory [] (λ alone. refl) refl (made_nothing _ before good refl few);
   lives = λ e. cc e;
   has_place = λ live last e. cc e;
 }
 
 -- A session was served at a machine before its first event.
 pub is_served : {K : Type 0} (server : Server) (peer : Peer) (schema : Tables) (first last : Seat K) (s0 s1 : Streams)
-    (t0 t1 : Times) (end : SessionEnd) → schema ≡ server.schema
+    (t0 t1 : Times) (end : SessionEnd) → IsGood (opening server.schema server.running 0) → schema ≡ server.schema
     → first.machine.state ≡ opening server.schema server.running 0 → first.machine.count ≡ 0
-    → first.answers ≡ t0.answers → first.from ≡ t0.answers → t0.answers < 2 ^ 64
+    → first.answers ≡ t0.answers → first.from ≡ t0.answers → first.given ≡ t0.given → t0.answers < 2 ^ 64
     → t1.given ≡ last.given → t1.answers ≡ last.answers → last.machine.state.faults ≡ 0
     → ((home : Home) (seen mine : List Entry) → SoloStands first home seen mine
     → Serves schema (called peer home seen mine s0) (SoloStands last home) (IsSpent last.machine) s1 end)
     → IsServed server peer s0 s1 t0 t1 end
-is_served server peer schema first last s0 s1 t0 t1 end same state count answers from few given_is answers_is sure serves =
+is_served server peer schema first last s0 s1 t0 t1 end good same state count answers from heard few given_is answers_is sure serves =
     let home = home_of server t0 in
     let call = called peer home [] [] s0 in
-    let begun = stands_first first home refl (sym from) answers few state count in
+    let begun = stands_first first home refl (sym from) answers heard few state count in
     let narrow = subst (λ s. Serves s call (SoloStands last home) (IsSpent last.machine) s1 end) same (serves home [] [] begun) in
     let wide = widened server.schema call (SoloStands last home) (HasMade home.opening t0 t1) (IsSpent last.machine)
-    (λ ticket. ticket ≡ most_requests) (has_made last home t0 t1 refl given_is answers_is sure) (λ ticket is. is.0) s1 end narrow in
+    (λ ticket. ticket ≡ most_requests) (has_made last home t0 t1 good refl refl given_is answers_is sure) (λ ticket is. is.0) s1 end narrow in
     record {
       serves = wide;
       lives = never_killed server.schema call (HasMade home.opening t0 t1) (λ ticket. ticket ≡ most_requests) s1 end refl wide;

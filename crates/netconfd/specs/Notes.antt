@@ -3,7 +3,7 @@ use Rattle.std.specs.Prelude.{◌≡◌, ℕ, List, [], ◌++◌, codes, Option,
 use Rattle.std.specs.Fmt.{decimal}
 use Rattle.std.specs.Io.KnownBytes.{append_known}
 use Rattle.nc_names.specs.declared.cause.CauseKind.{CauseKind}
-use Rattle.nc_model.specs.ErrorRows.{error_row}
+use Rattle.nc_protocol.specs.ErrorRows.{error_row}
 use Rattle.nc_names.specs.Counts.{Rose}
 use Rattle.nc_outside.specs.Causes.{TookPart}
 use Rattle.nc_session.specs.declared.end.SessionEnd.{SessionEnd}

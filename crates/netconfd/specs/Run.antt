@@ -1,13 +1,13 @@
 -- What the program does, from its words to its exit status.
-use Rattle.std.specs.Prelude.{◌≡◌, ◌≢◌, ◌≤◌, ◌+◌, ◌-◌, ◌^◌, ℕ, min, true, List, [], length, Option, IfSome}
+use Rattle.std.specs.Prelude.{◌≡◌, ◌≢◌, ◌≤◌, ◌+◌, ◌-◌, ◌^◌, ℕ, min, true, List, [], ◌++◌, length, Option, IfSome}
 use Rattle.nc_names.specs.Counts.{Rose}
 use Rattle.nc_names.specs.Limits.{most_requests}
 use Rattle.nc_machine.specs.Seats.{TellsReadings}
 use Rattle.nc_model.specs.Desks.{Home, own_of}
 use Rattle.nc_model.specs.History.{IsLegal, after}
-use Rattle.nc_model.specs.State.{State, opening}
+use Rattle.nc_model.specs.State.{IsGood, State, opening}
 use Rattle.nc_model.specs.declared.entry.Entry.{Entry}
-use Rattle.nc_model.specs.declared.peer.Peer.{Peer}
+use Rattle.nc_protocol.specs.declared.peer.Peer.{Peer}
 use Rattle.nc_outside.specs.Streams.{Streams}
 use Rattle.nc_outside.specs.declared.files.NamedFile.{NamedFile}
 use Rattle.nc_session.specs.Serves.{Serves, called}
@@ -44,20 +44,21 @@ outside files files_failed streams times =
     record { files = files; files_failed = files_failed; streams = streams; times = times }
 
 -- The server has made this history, and these of its entries are no readings of the clock: it is legal from the opening
--- state, no commit of it met a disk fault, and its readings are the answers of the clock since then, one for each entry
--- and in order.
+-- state, and at each moment of it the state is good, so that running is a valid configuration; no commit of it met a
+-- disk fault; and its readings are the answers of the clock since then, one for each entry and in order.
 pub record HasMade (opening : State) (before now : Times) (seen mine : List Entry) : Type 0 where
   pub legal : IsLegal 0 opening seen
+  pub good : (front rest : List Entry) → seen ≡ front ++ rest → IsGood (after opening front)
   pub sure : (after opening seen).faults ≡ 0
   pub own : mine ≡ own_of seen
   pub few : length seen ≤ most_requests
   pub answers : now.answers ≡ min (before.answers + length seen) (2 ^ 64 - 1)
-  pub readings : IfSome now.given (TellsReadings seen)
+  pub readings : IfSome now.given (TellsReadings before.given seen)
 
 -- a server without another desk, before its first event
 abbrev pub home_of : Server → Times → Home
 home_of server before =
-    record { opening = opening server.schema server.running 0; answers = before.answers; alone = true }
+    record { opening = opening server.schema server.running 0; answers = before.answers; heard = before.given; alone = true }
 
 -- The session of that peer was served whole, at a server of its own: no other session can end it, and there is a place
 -- for it.

@@ -2,7 +2,7 @@
 use Rattle.std.specs.Prelude.{◌≡◌, ◌==◌, ◌&&◌, ℕ, Bool, false, not, if◌then◌else◌, List, [], ◌∷◌, length, codes}
 use Rattle.std.specs.List.{filter, list_any}
 use Rattle.std.specs.Str.{bytes_eq}
-use Rattle.nc_model.specs.declared.peer.Peer.{Peer}
+use Rattle.nc_protocol.specs.declared.peer.Peer.{Peer}
 
 -- the flag that asks for a recovery session
 abbrev pub is_recovery : List ℕ → Bool

@@ -12,8 +12,6 @@ mod note;
 mod run;
 mod server;
 mod session;
-#[cfg(test)]
-mod session_tests;
 mod words;
 
 use adapters::SetupFiles;

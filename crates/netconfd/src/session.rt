@@ -10,9 +10,9 @@ ghost use Rattle.netconfd.specs.Run.{IsServed, times};
 
 use crate::keeper::SureKeeper;
 use nc_machine::{Machine, Solo};
-use nc_model::Peer;
 use nc_names::{Copies, Memory};
 use nc_outside::{Clock, Sink, Source};
+use nc_protocol::Peer;
 use nc_schema::Schema;
 use nc_session::{SessionEnd, serve_session};
 use nc_setup::Setup;

@@ -1,11 +1,11 @@
 //! The words of the command line.
 ghost use Rattle.std.specs.Prelude.{◌≡◌, ◌≤◌, ◌∷◌, [], ℕ, List, length, map, string_bytes, IfOk, MatchOption};
 ghost use Rattle.std.specs.List.{list_any};
-ghost use Rattle.nc_model.specs.declared.peer.Peer.{Peer as PeerMeant};
+ghost use Rattle.nc_protocol.specs.declared.peer.Peer.{Peer as PeerMeant};
 ghost use Rattle.netconfd.specs.Words as meant;
 
-use nc_model::Peer;
 use nc_names::{Many, Memory, Text};
+use nc_protocol::Peer;
 use std::alloc::Global;
 
 /// One session on standard input and output, which the words `stdio [--recovery] DIR USER [GROUP]...` ask

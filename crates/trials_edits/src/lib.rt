@@ -1,5 +1,5 @@
-//! Tests of the crates for configurations, their edits and their values in use, each crate in a module of
-//! its own. Nothing stands on this crate.
+//! Tests of the crates for configurations, their differences and their values in use, where the program shows
+//! nothing of a call (what it shows is in cases/). Nothing stands on this crate.
 #![tactic(auto)]
 
 #[cfg(test)]

@@ -179,20 +179,22 @@ leafrefs =
 pub sample_is_proper : IsProperSchema sample
 unfolding sample host tag port name speed
 sample_is_proper = record {
-  modules = all_one IsProperModule _ (record { name = refl; space = λ is. cc });
-  modules_apart = one_pair (λ (one later : Module). (one.name ≢ later.name) × (one.space ≢ later.space)) _;
-  parents = parents;
-  names = names;
-  siblings_apart = apart;
-  keys = keys;
-  by_user = by_user;
-  cases = cases;
-  outer_cases = none_all _;
-  typed = typed;
-  types = all_one (IsProperType sample) _ tt;
-  uniques = uniques;
+  modules = record {
+    modules = all_one IsProperModule _ (record { name = refl; space = λ is. cc });
+    modules_apart = one_pair (λ (one later : Module). (one.name ≢ later.name) × (one.space ≢ later.space)) _;
+  };
+  places = record {
+    parents = parents;
+    names = names;
+    siblings_apart = apart;
+    keys = keys;
+    uniques = uniques;
+    by_user = by_user;
+    cases = cases;
+    outer_cases = none_all _;
+  };
+  types = record { typed = typed; types = all_one (IsProperType sample) _ tt; leafrefs = leafrefs };
   defaults = defaults;
-  leafrefs = leafrefs;
 }
 
 -- ---- the configuration without rows

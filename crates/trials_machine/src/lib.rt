@@ -1,4 +1,4 @@
-//! Tests of the machine, and the schema that they are made with. A benchmark alone stands on this crate.
+//! Tests of the machine, and the schema that they are made with. Nothing stands on this crate.
 #![tactic(auto)]
 
 pub mod laws;

@@ -1,16 +1,20 @@
-//! A machine of the sample schema over a keeper in memory, what is asked of it, and what it answers, as texts.
-//! The tests stand below this module and see what is private in it.
+//! A machine of the sample schema over a keeper in memory, what is asked of it, and what it answers, as
+//! texts. The tests show of the server what its program does not; they stand below this module and see what
+//! is private in it.
 //!
 //! Values that are large to let go are on the heap, helpers only borrow the machine that they drive, and what
 //! branches owns nothing: so each helper is proved in seconds.
-mod history_tests;
-mod refusals_tests;
+mod asked_tests;
+mod keeper_tests;
+mod named_tests;
+mod replies_tests;
 mod seats_tests;
 mod solo_tests;
 
 ghost use Rattle.std.specs.Prelude.{◌≡◌, ◌<◌};
 ghost use Rattle.nc_names.specs.Limits.{most_requests};
-ghost use Rattle.nc_model.specs.Proper.{IsProper, IsProperEvent};
+ghost use Rattle.nc_protocol.specs.Proper.{IsProper};
+ghost use Rattle.nc_model.specs.ProperEvents.{IsProperEvent};
 ghost use Rattle.trials_machine.specs.Sample.{sample};
 
 use crate::laws::sample_is_proper;
@@ -18,8 +22,9 @@ use crate::sample::schema;
 use nc_machine::Machine;
 use nc_message::{Tree, Why, write};
 use nc_message_read::{MessageFault, read_message};
-use nc_model::{Entry, Event, Outcome, Peer, Request, decoded_is_proper};
-use nc_names::{Boxed, Bytes, MOST_REQUESTS, Many, Memory, Text};
+use nc_model::{Entry, Event, Outcome};
+use nc_names::{Boxed, Bytes, MOST_REQUESTS, Many, Text};
+use nc_protocol::{Peer, Request, decoded_is_proper};
 use nc_requests::decode;
 use nc_schema::Schema;
 use nc_tree::{Config, MemKeeper};
@@ -31,12 +36,6 @@ use std::sync::Arc;
 
 fn put(rt: &impl Abort, shown: &mut String, text: &str) {
     shown.push_str(text).expect(rt, "memory");
-}
-
-fn put_all(rt: &impl Abort, shown: &mut String, texts: &[&str]) {
-    for text in texts {
-        put(rt, shown, text);
-    }
 }
 
 // Looks whether what is found for a case is what is wanted.
@@ -90,70 +89,13 @@ fn handled(
 // ---- what is asked
 
 const HEAD: &str = "<rpc message-id=\"1\" xmlns=\"urn:ietf:params:xml:ns:netconf:base:1.0\" \
-    xmlns:nc=\"urn:ietf:params:xml:ns:netconf:base:1.0\" xmlns:e=\"urn:ex\">";
+    xmlns:p=\"urn:ietf:params:xml:ns:netconf:partial-lock:1.0\">";
 
-// An operation, with its XML. `e` is the prefix of the data nodes, `nc` that of attributes.
-#[derive(Clone, Copy)]
-enum Asks<'a> {
-    // An edit-config of the candidate, with these options and this content of its `config`.
-    Edit(&'a str, &'a str),
-    // A copy-config into the candidate, with this content of its `source`.
-    Copy(&'a str),
-    // A get-config of that datastore's element, with this after its `source`.
-    Config(&'a str, &'a str),
-    // A validate with this content of its `source`.
-    Check(&'a str),
-    // Another operation, whole.
-    Other(&'a str),
-}
-
-fn put_asks(rt: &impl Abort, shown: &mut String, asks: Asks<'_>) {
-    match asks {
-        Asks::Edit(options, config) => put_all(
-            rt,
-            shown,
-            &[
-                "<edit-config><target><candidate/></target>",
-                options,
-                "<config>",
-                config,
-                "</config></edit-config>",
-            ],
-        ),
-        Asks::Copy(source) => put_all(
-            rt,
-            shown,
-            &[
-                "<copy-config><target><candidate/></target><source>",
-                source,
-                "</source></copy-config>",
-            ],
-        ),
-        Asks::Config(store, filter) => put_all(
-            rt,
-            shown,
-            &[
-                "<get-config><source>",
-                store,
-                "</source>",
-                filter,
-                "</get-config>",
-            ],
-        ),
-        Asks::Check(source) => put_all(
-            rt,
-            shown,
-            &["<validate><source>", source, "</source></validate>"],
-        ),
-        Asks::Other(whole) => put(rt, shown, whole),
-    }
-}
-
-// The `rpc` of an operation.
-fn message(rt: &impl Abort, alloc: Global, asks: Asks<'_>) -> String {
+// The `rpc` of an operation. `p` is the prefix of those of partial locks.
+fn message(rt: &impl Abort, alloc: Global, operation: &str) -> String {
     let mut message = String::new(alloc);
     put(rt, &mut message, HEAD);
-    put_asks(rt, &mut message, asks);
+    put(rt, &mut message, operation);
     put(rt, &mut message, "</rpc>");
     message
 }
@@ -173,11 +115,18 @@ fn decoded(rt: &impl Abort, alloc: Global, message: &[u8]) -> Request
     decode(alloc, read(rt, alloc, message)).expect(rt, "memory")
 }
 
+// The request of an operation, on the heap: what lets it go there is proved once.
+fn asked(rt: &impl Abort, alloc: Global, operation: &str) -> Boxed<Request> {
+    let message = message(rt, alloc, operation);
+    let request = decoded(rt, alloc, message.as_bytes());
+    Boxed::new(alloc, request).expect(rt, "memory")
+}
+
 // A session's request of that operation, as an event.
-fn request(rt: &impl Abort, alloc: Global, session: u32, asks: Asks<'_>) -> Event
+fn request(rt: &impl Abort, alloc: Global, session: u32, operation: &str) -> Event
     ensures { IsProperEvent result }
 {
-    let message = message(rt, alloc, asks);
+    let message = message(rt, alloc, operation);
     let request = decoded(rt, alloc, message.as_bytes());
     Event::Request { session, request }
 }
@@ -230,106 +179,85 @@ fn entry_text(rt: &impl Abort, alloc: Global, entry: &Entry) -> String {
     shown
 }
 
-fn outcome_text(rt: &impl Abort, alloc: Global, outcome: &Outcome) -> String {
-    let mut shown = String::new(alloc);
-    put_outcome(rt, alloc, &mut shown, outcome);
-    shown
+// ---- histories
+
+// What happens to a machine: an event that is handed in, or one of its own calls.
+#[derive(Clone, Copy)]
+enum Happens {
+    Starts,
+    // That session asks for that, whole.
+    Asks(u32, &'static str),
+    IsGone(u32),
+    IsRead,
+    // The call that ends that session.
+    Ends(u32),
+    // The call that reads the clock.
+    Ticks,
 }
 
-// What a session is told to that operation.
-fn answer(
+fn ended(
     rt: &impl Abort,
     alloc: Global,
     machine: &mut Machine<MemKeeper>,
     session: u32,
-    asks: Asks<'_>,
-) -> String {
-    let event = request(rt, alloc, session, asks);
-    let entry = handled(rt, alloc, machine, event, 0);
-    outcome_text(rt, alloc, &entry.get().outcome)
+    at: u64,
+) -> Boxed<Entry> {
+    has_room(rt, machine);
+    boxed(rt, alloc, machine.end(session, at))
 }
 
-// A reply, by its content.
-#[derive(Clone, Copy)]
-enum Told<'a> {
-    Done,
-    // The content of `data`.
-    Data(&'a str),
-    // An error of that type and tag, and what stands after its severity.
-    Error(&'a str, &'a str, &'a str),
-}
-
-fn put_told(rt: &impl Abort, shown: &mut String, told: Told<'_>) {
-    match told {
-        Told::Done => put(rt, shown, "<ok/>"),
-        Told::Data("") => put(rt, shown, "<data/>"),
-        Told::Data(content) => put_all(rt, shown, &["<data>", content, "</data>"]),
-        Told::Error(layer, tag, more) => put_all(
-            rt,
-            shown,
-            &[
-                "<rpc-error><error-type>",
-                layer,
-                "</error-type><error-tag>",
-                tag,
-                "</error-tag><error-severity>error</error-severity>",
-                more,
-                "</rpc-error>",
-            ],
-        ),
-    }
-}
-
-fn told_text(rt: &impl Abort, alloc: Global, told: Told<'_>) -> String {
-    let mut shown = String::new(alloc);
-    put(
-        rt,
-        &mut shown,
-        "<rpc-reply xmlns=\"urn:ietf:params:xml:ns:netconf:base:1.0\" message-id=\"1\">",
-    );
-    put_told(rt, &mut shown, told);
-    put(rt, &mut shown, "</rpc-reply>");
-    shown
-}
-
-// ---- histories
-
-// Looks whether session 1 is told this.
-fn is_told(
+fn ticked(
     rt: &impl Abort,
     alloc: Global,
     machine: &mut Machine<MemKeeper>,
-    asks: Asks<'_>,
-    told: Told<'_>,
-) {
-    let case = message(rt, alloc, asks);
-    let found = answer(rt, alloc, machine, 1, asks);
-    let wanted = told_text(rt, alloc, told);
-    is_same(rt, case.as_str(), found.as_str(), wanted.as_str());
+    at: u64,
+) -> Boxed<Entry> {
+    has_room(rt, machine);
+    boxed(rt, alloc, machine.tick(at))
 }
 
-// Looks whether session 1 is told this, one request after another.
-fn each_is_told(
+// The entry that comes of it, with that reading of the clock.
+fn entry(
     rt: &impl Abort,
     alloc: Global,
     machine: &mut Machine<MemKeeper>,
-    cases: &[(Asks<'static>, Told<'static>)],
-) {
-    for (asks, told) in cases {
-        is_told(rt, alloc, machine, *asks, *told);
+    happens: Happens,
+    at: u64,
+) -> Boxed<Entry> {
+    match happens {
+        Happens::Starts => handled(rt, alloc, machine, start(rt, alloc), at),
+        Happens::Asks(session, whole) => {
+            let event = request(rt, alloc, session, whole);
+            handled(rt, alloc, machine, event, at)
+        }
+        Happens::IsGone(session) => handled(rt, alloc, machine, Event::End { session }, at),
+        Happens::IsRead => handled(rt, alloc, machine, Event::Reading, at),
+        Happens::Ends(session) => ended(rt, alloc, machine, session, at),
+        Happens::Ticks => ticked(rt, alloc, machine, at),
     }
 }
 
-// A machine with one session.
-fn with_session(rt: &impl Abort, alloc: Global, failing: Many<u64>) -> Machine<MemKeeper> {
-    let mut machine = begin(rt, alloc, failing);
-    let event = start(rt, alloc);
-    handled(rt, alloc, &mut machine, event, 0);
-    machine
+// Looks whether the entry of it is shown so.
+fn is_entered(
+    rt: &impl Abort,
+    alloc: Global,
+    machine: &mut Machine<MemKeeper>,
+    happens: Happens,
+    at: u64,
+    wanted: &str,
+) {
+    let entry = entry(rt, alloc, machine, happens, at);
+    let found = entry_text(rt, alloc, entry.get());
+    is_same(rt, "entry", found.as_str(), wanted);
 }
 
-// Looks whether it is so with a machine of its own.
-fn is_history(rt: &impl Abort, alloc: Global, cases: &[(Asks<'static>, Told<'static>)]) {
-    let mut machine = with_session(rt, alloc, Many::new(alloc));
-    each_is_told(rt, alloc, &mut machine, cases);
+fn each_is_entered(
+    rt: &impl Abort,
+    alloc: Global,
+    machine: &mut Machine<MemKeeper>,
+    cases: &[(Happens, u64, &str)],
+) {
+    for (happens, at, wanted) in cases {
+        is_entered(rt, alloc, machine, *happens, *at, wanted);
+    }
 }

@@ -1,5 +1,5 @@
-//! Tests of sessions: whole sessions at a small desk, each with its input cut into pieces of several
-//! sizes, and the reader of a session by itself. Nothing stands on this crate.
+//! Tests of sessions at a small desk, of what the program does not show: a desk that fails, reads and writes
+//! that fail, the reasons of ends, and how many Ends are entered. Nothing stands on this crate.
 #![tactic(auto)]
 
 #[cfg(test)]

@@ -9,9 +9,9 @@ use Rattle.nc_names.specs.declared.path.Row.{Row}
 use Rattle.nc_names.specs.declared.path.Step.{Step}
 use Rattle.nc_schema.specs.Standing.{block_at, has_row, node_of}
 use Rattle.nc_schema.specs.Tables.{Tables}
-use Rattle.nc_model.specs.Changes.{is_missing}
-use Rattle.nc_model.specs.Edited.{Change, change_at, earlier, gives_way}
-use Rattle.nc_model.specs.declared.access.Decision.{Decision}
+use Rattle.nc_protocol.specs.Changes.{is_missing}
+use Rattle.nc_protocol.specs.Edited.{Change, change_at, earlier, gives_way}
+use Rattle.nc_protocol.specs.declared.access.Decision.{Decision}
 use Rattle.nc_edit.specs.declared.asked.Asking.{Asking}
 
 abbrev pub meaning : Asking → Change

@@ -3,15 +3,15 @@ use Rattle.std.specs.Prelude.{ℕ, Bool, not, if◌then◌else◌, List, Option,
 use Rattle.std.specs.Prelude.{option_and_then, slice_get}
 use Rattle.std.specs.List.{filter, flat_map, last_or, list_any}
 use Rattle.std.specs.Option.{option_map_or}
+use Rattle.nc_names.specs.Ends.{trimmed}
 use Rattle.nc_names.specs.Same.{is_same_text}
 use Rattle.nc_names.specs.declared.path.Row.{Row}
 use Rattle.nc_names.specs.declared.path.Step.{Step}
 use Rattle.nc_message.specs.declared.tree.Elem.{Elem}
 use Rattle.nc_schema.specs.Tables.{Tables}
-use Rattle.nc_schema.specs.Values.{trimmed}
 use Rattle.nc_schema.specs.declared.node.Node.{Node}
-use Rattle.nc_model.specs.Elements.{whole_text}
-use Rattle.nc_model.specs.Filter.{has_no_attribute, is_content_match, level_of}
+use Rattle.nc_protocol.specs.Elements.{whole_text}
+use Rattle.nc_protocol.specs.Filter.{has_no_attribute, is_content_match, level_of}
 use Rattle.nc_filter.specs.inner.Levels.{children}
 
 -- a name with its end: a 1 before each byte and a 0 after all, so that it is read in one way where more follows

@@ -6,7 +6,7 @@ use Rattle.std.specs.Option.{option_map_or}
 use Rattle.nc_names.specs.declared.path.Row.{Row}
 use Rattle.nc_message.specs.declared.tree.Elem.{Elem}
 use Rattle.nc_schema.specs.Tables.{Tables}
-use Rattle.nc_model.specs.Filter.{is_containment, is_content_match, is_of_matches, level_of}
+use Rattle.nc_protocol.specs.Filter.{is_containment, is_content_match, is_of_matches, level_of}
 use Rattle.nc_filter.specs.declared.groups.Group.{Group}
 use Rattle.nc_filter.specs.declared.runs.Run.{Run}
 use Rattle.nc_filter.specs.declared.rows.Spot.{Spot}

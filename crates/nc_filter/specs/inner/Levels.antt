@@ -10,8 +10,8 @@ use Rattle.nc_message.specs.declared.tree.Elem.{Elem}
 use Rattle.nc_message.specs.declared.tree.Part.{Part}
 use Rattle.nc_schema.specs.Blocks.{above_last}
 use Rattle.nc_schema.specs.Tables.{Tables}
-use Rattle.nc_model.specs.Elements.{elem_of}
-use Rattle.nc_model.specs.Filter.{is_content_match, is_of_node, is_of_text}
+use Rattle.nc_protocol.specs.Elements.{elem_of}
+use Rattle.nc_protocol.specs.Filter.{is_content_match, is_of_node, is_of_text}
 
 -- the rows directly in an instance
 abbrev pub children : List Row → List Step → List Row

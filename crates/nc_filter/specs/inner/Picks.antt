@@ -6,8 +6,8 @@ use Rattle.std.specs.Option.{option_map_or}
 use Rattle.nc_names.specs.declared.path.Row.{Row}
 use Rattle.nc_message.specs.declared.tree.Elem.{Elem}
 use Rattle.nc_schema.specs.Tables.{Tables}
-use Rattle.nc_model.specs.Filter.{is_containment, is_content_match, is_of_matches, is_of_name, is_of_text, level_of}
-use Rattle.nc_model.specs.Filter.{meets, selects}
+use Rattle.nc_protocol.specs.Filter.{is_containment, is_content_match, is_of_matches, is_of_name, is_of_text, level_of}
+use Rattle.nc_protocol.specs.Filter.{meets, selects}
 use Rattle.nc_filter.specs.inner.Levels.{is_free}
 
 -- the data node at a depth of the path to a row, the top being at depth 0

@@ -9,13 +9,13 @@ use Rattle.std.specs.declared.cmp.Ordering.{Ordering}
 use Rattle.std.specs.Ordering.{is_eq, nat_cmp}
 use Rattle.std.specs.Cmp.Lexicographic.{slice_cmp}
 use Rattle.nc_names.specs.contracts.path.StepOrd.TheImpl.{ghosts}
+use Rattle.nc_names.specs.Ends.{trimmed}
 use Rattle.nc_names.specs.Same.{is_at_or_below, is_same_path, is_same_text}
 use Rattle.nc_names.specs.declared.path.Row.{Row}
 use Rattle.nc_names.specs.declared.path.Step.{Step}
 use Rattle.nc_message.specs.declared.tree.Elem.{Elem}
-use Rattle.nc_schema.specs.Values.{trimmed}
-use Rattle.nc_model.specs.Elements.{whole_text}
-use Rattle.nc_model.specs.Filter.{is_content_match}
+use Rattle.nc_protocol.specs.Elements.{whole_text}
+use Rattle.nc_protocol.specs.Filter.{is_content_match}
 use Rattle.nc_filter.specs.inner.Levels.{children}
 
 -- steps are ordered by their nodes, then by their keys

@@ -5,25 +5,27 @@ use Rattle.nc_names.specs.declared.cause.CauseKind.TheVariants.{UnknownOperation
 use Rattle.nc_message.specs.declared.tree.Elem.{Elem}
 use Rattle.nc_names.specs.declared.path.Row.{Row}
 use Rattle.nc_schema.specs.Tables.{Tables}
-use Rattle.nc_model.specs.declared.asked.Asked.{Asked}
-use Rattle.nc_model.specs.declared.asked.Asked.TheVariants.{Get, GetConfig, EditConfig, CopyConfig, DeleteConfig, CloseSession, Commit as AsksCommit, DiscardChanges, Validate}
-use Rattle.nc_model.specs.declared.asked.Default3.{Default3}
-use Rattle.nc_model.specs.declared.asked.ErrorOption.{ErrorOption}
-use Rattle.nc_model.specs.declared.asked.Operation.{Operation}
-use Rattle.nc_model.specs.declared.asked.TestOption.{TestOption}
-use Rattle.nc_model.specs.declared.asked.TestOption.TheVariants.{TestThenSet, Set, TestOnly}
-use Rattle.nc_model.specs.declared.datastore.Datastore.{Datastore}
-use Rattle.nc_model.specs.declared.datastore.Datastore.TheVariants.{Running}
-use Rattle.nc_model.specs.declared.datastore.Origin.{Origin}
-use Rattle.nc_model.specs.declared.request.Cause.{Cause}
-use Rattle.nc_model.specs.declared.request.Request.{Request}
-use Rattle.nc_model.specs.declared.verdict.Verdict.TheVariants.{Done, Selected, Refused}
-use Rattle.nc_model.specs.Applied.{Applied}
-use Rattle.nc_model.specs.Edited.{cause_where}
+use Rattle.nc_protocol.specs.declared.asked.Asked.{Asked}
+use Rattle.nc_protocol.specs.declared.asked.Asked.TheVariants.{Get, GetConfig, EditConfig, CopyConfig, DeleteConfig, CloseSession, Commit as AsksCommit, DiscardChanges, Validate}
+use Rattle.nc_protocol.specs.declared.asked.Default3.{Default3}
+use Rattle.nc_protocol.specs.declared.asked.ErrorOption.{ErrorOption}
+use Rattle.nc_protocol.specs.declared.asked.Operation.{Operation}
+use Rattle.nc_protocol.specs.declared.asked.TestOption.{TestOption}
+use Rattle.nc_protocol.specs.declared.asked.TestOption.TheVariants.{TestThenSet, Set, TestOnly}
+use Rattle.nc_protocol.specs.declared.datastore.Datastore.{Datastore}
+use Rattle.nc_protocol.specs.declared.datastore.Datastore.TheVariants.{Running}
+use Rattle.nc_protocol.specs.declared.datastore.Origin.{Origin}
+use Rattle.nc_protocol.specs.declared.request.Cause.{Cause}
+use Rattle.nc_protocol.specs.declared.request.Request.{Request}
+use Rattle.nc_protocol.specs.declared.verdict.Verdict.TheVariants.{Done, Selected, Refused}
+use Rattle.nc_protocol.specs.Applied.{Applied}
+use Rattle.nc_protocol.specs.Asking.{plain_cause}
+use Rattle.nc_protocol.specs.Edited.{cause_where}
 use Rattle.nc_model.specs.State.{State, session_ended}
 use Rattle.nc_model.specs.Step.{rows_of_ok, with_candidate}
+use Rattle.nc_protocol.specs.Refusals as refusal
 use Rattle.nc_model.specs.Verdict as meant
-use Rattle.nc_model.specs.Words.{source_word}
+use Rattle.nc_protocol.specs.Words.{source_word}
 use Rattle.nc_machine.specs.declared.course.Change.{Change}
 use Rattle.nc_machine.specs.declared.course.Change.TheVariants.{Nothing, Candidate, Discard, Close}
 use Rattle.nc_machine.specs.declared.course.Course.{Course}
@@ -42,7 +44,7 @@ change_by TestOnly violated rows = Nothing
 -- the violation that is looked for in them
 abbrev pub violation_by : Tables → TestOption → List Row → Option Cause
 violation_by tables Set rows = None
-violation_by tables test rows = meant.violation_in tables rows
+violation_by tables test rows = refusal.violation_in tables rows
 
 abbrev pub refused_course : Cause → Course
 refused_course cause = Answer (Refused (cause ∷ [])) Nothing
@@ -55,7 +57,7 @@ edit_course tables test made =
 -- why source and target are no pair, if so
 abbrev pub same_store : Datastore → Origin → Option Cause
 same_store target source =
-    cause_where (meant.is_same_store target source) (meant.cause_of BadParameter (source_word ∷ []))
+    cause_where (meant.is_same_store target source) (plain_cause BadParameter (source_word ∷ []))
 
 -- why nothing is copied, before the source is read
 abbrev pub uncopied : Datastore → Origin → Option Cause
@@ -77,7 +79,7 @@ get_course s session filter = Answer (Selected (meant.shown s session Running fi
 
 unfoldable pub get_config_course : State → ℕ → Datastore → Option Elem → Course
 get_config_course s session source filter =
-    Answer (meant.checked (meant.unsupported meant.is_source source)
+    Answer (refusal.checked (meant.unsupported meant.is_source source)
     (Selected (meant.shown s session source filter))) Nothing
 
 unfoldable pub edit_config_course : State → ℕ → Datastore → Default3 → TestOption → ErrorOption → Elem → Course
@@ -95,10 +97,10 @@ unfoldable pub validate_course : State → Origin → Course
 validate_course s source = Answer (meant.validated s.schema (meant.rows_to_validate s source)) Nothing
 
 abbrev pub unoffered_cause : Datastore → Cause
-unoffered_cause store = meant.cause_of UnsupportedTarget (meant.datastore_name store ∷ [])
+unoffered_cause store = plain_cause UnsupportedTarget (refusal.datastore_name store ∷ [])
 
 abbrev pub unknown_course : Course
-unknown_course = refused_course (meant.cause_of UnknownOperation [])
+unknown_course = refused_course (plain_cause UnknownOperation [])
 
 -- what is asked for, of an operation that is offered
 unfoldable pub asked_course : State → ℕ → Asked → Course

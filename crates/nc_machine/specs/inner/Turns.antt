@@ -9,14 +9,14 @@ use Rattle.nc_model.specs.declared.event.Event.{Event}
 use Rattle.nc_model.specs.declared.event.Event.TheVariants.{Request as Requested}
 use Rattle.nc_model.specs.declared.event.Outcome.{Outcome}
 use Rattle.nc_model.specs.declared.event.Outcome.TheVariants.{Answered}
-use Rattle.nc_model.specs.declared.request.Request.{Request}
-use Rattle.nc_model.specs.declared.verdict.Verdict.{Verdict}
-use Rattle.nc_model.specs.declared.verdict.Verdict.TheVariants.{Done}
+use Rattle.nc_protocol.specs.declared.request.Request.{Request}
+use Rattle.nc_protocol.specs.declared.verdict.Verdict.{Verdict}
+use Rattle.nc_protocol.specs.declared.verdict.Verdict.TheVariants.{Done}
 use Rattle.nc_model.specs.Access.{sees_of}
-use Rattle.nc_model.specs.Reply.{reply_of}
+use Rattle.nc_protocol.specs.Reply.{reply_of}
 use Rattle.nc_model.specs.State.{State, candidate_in_force}
 use Rattle.nc_model.specs.Step.{CountsFaults, Fits, changed, has_failed, next, outcome_of, reaches_disk}
-use Rattle.nc_model.specs.Verdict.{refused_for}
+use Rattle.nc_protocol.specs.Refusals.{refused_for}
 
 -- an entry of that number, event and reading fits the old state and leaves the new one
 pub record Enters (old new : State) (number : ℕ) (event : Event) (at : ℕ) (e : Entry) : Type 0 where

@@ -7,7 +7,7 @@ use Rattle.nc_model.specs.declared.entry.Entry.{Entry}
 use Rattle.nc_model.specs.Desks.{Home, IsView, is_own, own_of}
 use Rattle.nc_model.specs.History.{IsLegal, IsMineIn}
 use Rattle.nc_model.specs.State.{State}
-use Rattle.nc_model.proofs.ListLemmas.{all_filter, pairs_filter}
+use Rattle.nc_protocol.proofs.ListLemmas.{all_filter, pairs_filter}
 use Rattle.nc_machine.specs.Seats.{Seat, SoloStands}
 
 cut : {X : Type 0} (xs : List X) (i : ℕ) (d : X) → i < length xs →

@@ -9,6 +9,7 @@ use Rattle.nc_names.specs.Appending.{Extends}
 use Rattle.nc_names.specs.declared.name.Bound.{Bound}
 use Rattle.nc_message.specs.Written.{is_declarable, declarations}
 
+-- the prefixes that are bound
 abbrev pub prefixes : List Bound → List (List ℕ)
 prefixes bounds = map (λ b. b.prefix) bounds
 
@@ -18,12 +19,14 @@ has set prefix = contains (slice_cmp nat_cmp) set prefix
 
 -- of the prefixes that have to be declared, the set has those that were seen
 abbrev pub AreSeen : BTreeSet (List ℕ) → List (List ℕ) → Type 0
-AreSeen set seen = (prefix : List ℕ) → is_declarable prefix ≡ true → has set prefix ≡ list_any (is_same_text prefix) seen
+AreSeen set seen =
+    (prefix : List ℕ) → is_declarable prefix ≡ true → has set prefix ≡ list_any (is_same_text prefix) seen
 
 -- the prefix was put into the set, where it was not yet
 abbrev pub IsAdded : BTreeSet (List ℕ) → BTreeSet (List ℕ) → List ℕ → Bool → Type 0
 IsAdded before after prefix added =
-    (added ≡ not (has before prefix)) × ((other : List ℕ) → has after other ≡ (if is_same_text prefix other then true else has before other))
+    (added ≡ not (has before prefix))
+    × ((other : List ℕ) → has after other ≡ (if is_same_text prefix other then true else has before other))
 
 -- these uses were declared where they had to be
 pub record Declares (before after : BTreeSet (List ℕ)) (old new : List ℕ) (bounds : List Bound) : Type 0 where

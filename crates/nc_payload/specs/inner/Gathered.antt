@@ -18,9 +18,9 @@ use Rattle.nc_schema.specs.Kinds.{has_value}
 use Rattle.nc_schema.specs.Standing.{cases_of, has_row, is_by_user}
 use Rattle.nc_schema.specs.Tables.{Tables}
 use Rattle.nc_schema.specs.declared.node.Case.{Case}
-use Rattle.nc_model.specs.Edited.{left_by}
-use Rattle.nc_model.specs.declared.edit.Action.TheVariants.{Merge}
-use Rattle.nc_model.specs.declared.edit.Edit.{Edit}
+use Rattle.nc_protocol.specs.Edited.{left_by}
+use Rattle.nc_protocol.specs.declared.edit.Action.TheVariants.{Merge}
+use Rattle.nc_protocol.specs.declared.edit.Edit.{Edit}
 use Rattle.nc_payload.specs.declared.gather.Gathered.{Gathered}
 use Rattle.nc_payload.specs.declared.marks.Mark.{Mark}
 use Rattle.nc_payload.specs.declared.marks.Turns.{Turns}

@@ -12,12 +12,12 @@ use Rattle.nc_names.specs.declared.path.Path.{Path}
 use Rattle.nc_names.specs.declared.path.Step.{Step}
 use Rattle.nc_message.specs.declared.tree.Elem.{Elem}
 use Rattle.nc_schema.specs.Tables.{Tables}
-use Rattle.nc_model.specs.declared.datastore.Origin.{Origin}
-use Rattle.nc_model.specs.declared.datastore.Origin.TheVariants.{Inline, Store}
-use Rattle.nc_model.specs.declared.edit.Edit.{Edit}
-use Rattle.nc_model.specs.declared.request.Cause.{Cause}
-use Rattle.nc_model.specs.Elements.{Reading, Named, keys_read, named}
-use Rattle.nc_model.specs.Payload.{element_places, is_at_fault, part_places, reading_of, rows_of, stands_in}
+use Rattle.nc_protocol.specs.declared.datastore.Origin.{Origin}
+use Rattle.nc_protocol.specs.declared.datastore.Origin.TheVariants.{Inline, Store}
+use Rattle.nc_protocol.specs.declared.edit.Edit.{Edit}
+use Rattle.nc_protocol.specs.declared.request.Cause.{Cause}
+use Rattle.nc_protocol.specs.Elements.{Reading, Named, keys_read, named}
+use Rattle.nc_protocol.specs.Payload.{element_places, is_at_fault, part_places, reading_of, rows_of, stands_in}
 use Rattle.nc_payload.specs.declared.payload_paths.Places.{Places}
 
 -- steps are ordered by their nodes, then by their keys

@@ -4,18 +4,18 @@ use Rattle.nc_names.specs.declared.path.Path.{Path}
 use Rattle.nc_names.specs.declared.path.Place.{Place}
 use Rattle.nc_names.specs.declared.path.Step.{Step}
 use Rattle.nc_message.specs.declared.tree.Elem.{Elem}
-use Rattle.nc_model.specs.declared.edit.Action.{Action}
-use Rattle.nc_model.specs.declared.edit.Edit.{Edit}
-use Rattle.nc_model.specs.declared.request.Cause.{Cause}
+use Rattle.nc_protocol.specs.declared.edit.Action.{Action}
+use Rattle.nc_protocol.specs.declared.edit.Edit.{Edit}
+use Rattle.nc_protocol.specs.declared.request.Cause.{Cause}
 use Rattle.nc_payload.specs.declared.payload.PayloadFault.{PayloadFault}
 use Rattle.nc_payload.specs.declared.payload.PayloadFault.TheVariants.{Bad, Memory}
 use Rattle.nc_payload.specs.declared.own.Found.{Found}
-use Rattle.nc_model.specs.declared.position.Position.{Position}
-use Rattle.nc_model.specs.Attributes.{operation_of, place_of}
-use Rattle.nc_model.specs.Payload.{merge_of}
+use Rattle.nc_protocol.specs.declared.position.Position.{Position}
+use Rattle.nc_protocol.specs.Attributes.{operation_of, place_of}
+use Rattle.nc_protocol.specs.Payload.{merge_of}
 use Rattle.nc_payload.specs.declared.elements.Named.{Named as Seen}
-use Rattle.nc_model.specs.Elements.{Reading, Named, named}
-use Rattle.nc_model.specs.Faults.{own_fault, inside, unknown_or}
+use Rattle.nc_protocol.specs.Elements.{Reading, Named, named}
+use Rattle.nc_protocol.specs.Faults.{own_fault, inside, unknown_or}
 
 -- what a definition gives is answered, edits or a fault; want of memory is free
 abbrev pub Answers : {A : Type 0} → Result A Cause → Result A PayloadFault → Type 0

@@ -1,7 +1,7 @@
 -- The first piece of a text.
 use Rattle.std.specs.Prelude.{◌≡◌, ◌<◌, ◌+◌, ℕ, List, [], ◌∷◌, length, take, drop}
 use Rattle.std.specs.List.{slice_split}
-use Rattle.nc_model.specs.ModuleNames.{is_apart}
+use Rattle.nc_protocol.specs.ModuleNames.{is_apart}
 
 -- the text is one piece
 abbrev pub IsOnePiece : List ℕ → Type 0

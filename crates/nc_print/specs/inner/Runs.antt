@@ -1,7 +1,7 @@
 -- How many rows stand first in one element.
 use Rattle.std.specs.Prelude.{◌≡◌, ◌≤◌, ℕ, suc, Bool, if◌then◌else◌, List, [], ◌∷◌, length, take, drop}
 use Rattle.nc_names.specs.declared.path.Row.{Row}
-use Rattle.nc_model.specs.Printed.{cut}
+use Rattle.nc_protocol.specs.Printed.{cut}
 
 -- how many rows go on, one from another, from this row on
 abbrev pub run_length : (Row → Row → Bool) → Row → List Row → ℕ

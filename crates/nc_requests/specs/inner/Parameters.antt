@@ -4,11 +4,11 @@ use Rattle.std.specs.List.{flat_map}
 use Rattle.nc_message.specs.declared.tree.Elem.{Elem}
 use Rattle.nc_names.specs.declared.cause.CauseKind.TheVariants.{BadFilterType}
 use Rattle.nc_names.specs.declared.name.QName.{QName}
-use Rattle.nc_model.specs.declared.asked.Select.{Select}
-use Rattle.nc_model.specs.declared.request.Cause.{Cause}
-use Rattle.nc_model.specs.Asking as asking
-use Rattle.nc_model.specs.Content.{base_name, partial_lock_name}
-use Rattle.nc_model.specs.Words as w
+use Rattle.nc_protocol.specs.declared.asked.Select.{Select}
+use Rattle.nc_protocol.specs.declared.request.Cause.{Cause}
+use Rattle.nc_protocol.specs.Asking as asking
+use Rattle.nc_protocol.specs.Content.{base_name, partial_lock_name}
+use Rattle.nc_protocol.specs.Words as w
 use Rattle.nc_requests.specs.declared.parameter.Parameter.{Parameter}
 use Rattle.nc_requests.specs.declared.parameter.Parameter.TheVariants.{Target, Source, Origin, Config, Filter, DefaultOperation, TestOption, ErrorOption, Confirmed, ConfirmTimeout, SessionId, LockId, Persist, PersistId, Select as SelectParameter}
 

@@ -1,6 +1,6 @@
 -- Readings that may also stop for want of memory.
 use Rattle.std.specs.Prelude.{◌≡◌, Result, Ok, Err}
-use Rattle.nc_model.specs.declared.request.Cause.{Cause}
+use Rattle.nc_protocol.specs.declared.request.Cause.{Cause}
 use Rattle.nc_requests.specs.declared.stop.Stop.{Stop}
 use Rattle.nc_requests.specs.declared.stop.Stop.TheVariants.{Refused, Memory}
 

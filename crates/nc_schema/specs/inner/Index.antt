@@ -13,6 +13,7 @@ use Rattle.nc_schema.specs.Children.{IsChild, IsFirstChild, IsListOfNodes}
 abbrev pub Names : Type 0
 Names = IndexMap QName ℕ (BuildHasherDefault FoldHasher)
 
+-- the number that a name has
 abbrev pub number_of : Names → QName → Option ℕ
 number_of names name = get is_same_name names name
 
@@ -23,12 +24,14 @@ with_entry None is_its_name added = cond is_its_name (Some added) None
 
 -- the name has got the number unless it had one
 abbrev pub HasEntry : Names → Names → QName → ℕ → Type 0
-HasEntry old new name added = (other : QName) → number_of new other ≡ with_entry (number_of old other) (is_same_name name other) added
+HasEntry old new name added =
+    (other : QName) → number_of new other ≡ with_entry (number_of old other) (is_same_name name other) added
 
 -- the number by which the index knows a child
 abbrev pub known_child : Index → Option ℕ → QName → Option ℕ
 known_child index None name = number_of index.top name
-known_child index (Some above) name = option_and_then (λ names. number_of names name) (slice_get index.below.items above)
+known_child index (Some above) name =
+    option_and_then (λ names. number_of names name) (slice_get index.below.items above)
 
 -- the index has the first child of each name in each parent, and no other
 pub record IsIndexOf (nodes : List Node) (index : Index) : Type 0 where

@@ -9,8 +9,8 @@ use Rattle.nc_schema.specs.Tables.{Tables}
 use Rattle.nc_model.specs.declared.entry.Entry.{Entry}
 use Rattle.nc_model.specs.declared.event.Outcome.{Outcome}
 use Rattle.nc_model.specs.declared.event.Outcome.TheVariants.{Started, Full as IsFull, NotLive}
-use Rattle.nc_model.specs.declared.request.Request.{Request}
-use Rattle.nc_model.specs.Proper.{IsProper}
+use Rattle.nc_protocol.specs.declared.request.Request.{Request}
+use Rattle.nc_protocol.specs.Proper.{IsProper}
 use Rattle.nc_session.specs.declared.base.Base.{Base}
 use Rattle.nc_session.specs.declared.end.SessionEnd.{SessionEnd}
 use Rattle.nc_session.specs.declared.end.SessionEnd.TheVariants.{InputEnded, ReadFault, WriteFault, Killed, Closed, Full, Spent, Memory}

@@ -1,7 +1,7 @@
 -- What the steps to a server find.
 use Rattle.std.specs.Prelude.{◌≡◌, ℕ, List}
 use Rattle.std.specs.Option.{option_map}
-use Rattle.nc_model.specs.declared.request.Cause.{Cause}
+use Rattle.nc_protocol.specs.declared.request.Cause.{Cause}
 use Rattle.nc_schema.specs.PathTexts.{path_text_of}
 use Rattle.nc_schema.specs.Tables.{Tables}
 use Rattle.nc_yang_statements.specs.declared.fault.ModuleWhy.{ModuleWhy}

@@ -4,8 +4,8 @@ use Rattle.nc_names.specs.declared.path.Row.{Row}
 use Rattle.nc_message.specs.declared.tree.Elem.{Elem}
 use Rattle.nc_message_read.specs.declared.stop.MessageFault.{MessageFault}
 use Rattle.nc_message_read.specs.declared.stop.MessageFault.TheVariants.{Malformed, Memory as NotRead}
-use Rattle.nc_model.specs.Payload.{rows_of}
-use Rattle.nc_model.specs.Verdict.{violation_in}
+use Rattle.nc_protocol.specs.Payload.{rows_of}
+use Rattle.nc_protocol.specs.Refusals.{violation_in}
 use Rattle.nc_schema.specs.Tables.{Tables}
 use Rattle.nc_setup.specs.Initial.{IsRefusedFor, IsUnread}
 use Rattle.nc_setup.specs.declared.stop.Stop.{Stop}

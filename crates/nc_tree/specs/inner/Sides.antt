@@ -21,4 +21,5 @@ is_front tables orders steps row = before_in tables orders None row.path.steps s
 abbrev pub among : Tables → List (List (List (List ℕ))) → List Step → List Row → List Row → List Row
 among tables orders steps block rows =
     let others = filter (stays tables steps block) rows in
-    filter (is_front tables orders steps) others ++ block ++ filter (λ row. not (is_front tables orders steps row)) others
+    filter (is_front tables orders steps) others ++ block
+    ++ filter (λ row. not (is_front tables orders steps row)) others

@@ -1,69 +1,12 @@
-//! Rows of a configuration as they are put, replaced and removed; a keeper that fails.
-use super::{config, has, path, place, row, schema};
-use nc_names::{Copies, Many, Place, Row};
+//! Rows of a configuration as they are replaced, removed, counted and compared; values at paths that have none; which
+//! data nodes stand in which; a keeper that fails.
+use super::{config, path, row, rows, schema};
+use nc_defaults::{Children, in_use};
+use nc_names::{Copies, Many, Place};
 use nc_schema::Schema;
 use nc_tree::{Config, Doubt, Keeper, Kept, MemKeeper, rows_of_node};
 use std::alloc::Global;
 use std::process::Abort;
-
-// Looks which rows there are after these are put.
-fn is_put(rt: &impl Abort, alloc: Global, schema: &Schema, lines: &str, wanted: &str) {
-    let config = config(rt, alloc, schema, lines);
-    has(rt, alloc, &config, lines, wanted);
-}
-
-const PUT: &[(&str, &str)] = &[
-    ("0/1=a", "0/1=a"),
-    ("0/1=a 0/1=b", "0/1=b"),
-    (
-        "3:b,tcp 3:a,udp 3:b,tcp/6=7",
-        "3:a,udp 3:a,udp/4=a 3:a,udp/5=udp 3:b,tcp 3:b,tcp/4=b 3:b,tcp/5=tcp 3:b,tcp/6=7",
-    ),
-    ("7:u2 7:u1", "7:u2 7:u2/8=u2 7:u1 7:u1/8=u1"),
-    (
-        "9:q=q 9:p=p 3:b,tcp",
-        "3:b,tcp 3:b,tcp/4=b 3:b,tcp/5=tcp 9:p=p 9:q=q",
-    ),
-    ("10 10/11=y 10", "10 10/11=y"),
-    ("12=l 0/2=d 13=r", "0/2=d 13=r"),
-];
-
-#[test]
-fn rows_go_to_their_places(rt: HostRuntime) {
-    let schema = schema(&rt, rt.alloc());
-    for (lines, wanted) in PUT {
-        is_put(&rt, rt.alloc(), schema.get(), lines, wanted);
-    }
-}
-
-// Looks which rows there are after an entry `7:c` is put at that place into `7:a 7:b`.
-fn goes_to(rt: &impl Abort, alloc: Global, schema: &Schema, word: &str, wanted: &str) {
-    let mut config = config(rt, alloc, schema, "7:a 7:b");
-    let place = place(rt, alloc, word);
-    config
-        .put(schema, row(rt, alloc, "7:c"), &place)
-        .expect(rt, "memory");
-    has(rt, alloc, &config, word, wanted);
-}
-
-// Where an entry `7:c` is put into `7:a 7:b`.
-const PLACES: &[(&str, &str)] = &[
-    ("", "7:a 7:a/8=a 7:b 7:b/8=b 7:c 7:c/8=c"),
-    ("last", "7:a 7:a/8=a 7:b 7:b/8=b 7:c 7:c/8=c"),
-    ("first", "7:c 7:c/8=c 7:a 7:a/8=a 7:b 7:b/8=b"),
-    ("before:a", "7:c 7:c/8=c 7:a 7:a/8=a 7:b 7:b/8=b"),
-    ("before:b", "7:a 7:a/8=a 7:c 7:c/8=c 7:b 7:b/8=b"),
-    ("after:a", "7:a 7:a/8=a 7:c 7:c/8=c 7:b 7:b/8=b"),
-    ("after:b", "7:a 7:a/8=a 7:b 7:b/8=b 7:c 7:c/8=c"),
-];
-
-#[test]
-fn the_user_orders_entries(rt: HostRuntime) {
-    let schema = schema(&rt, rt.alloc());
-    for (word, wanted) in PLACES {
-        goes_to(&rt, rt.alloc(), schema.get(), word, wanted);
-    }
-}
 
 // Looks whether so many rows are removed.
 fn removes(rt: &impl Abort, alloc: Global, config: &mut Config, at: &str, wanted: u64) {
@@ -71,18 +14,12 @@ fn removes(rt: &impl Abort, alloc: Global, config: &mut Config, at: &str, wanted
     assert!(rt; found == wanted, "{at}: {found}");
 }
 
-// Puts the entry `7:c` with its row first.
-fn put_first(rt: &impl Abort, alloc: Global, schema: &Schema, config: &mut Config) {
-    let mut block: Many<Row> = Many::new(alloc);
-    block.push(row(rt, alloc, "7:c")).expect(rt, "memory");
-    block.push(row(rt, alloc, "7:c/8=c")).expect(rt, "memory");
-    config
-        .set_block(schema, &path(rt, alloc, "7:c"), &Place::First, block)
-        .expect(rt, "memory");
-}
-
-fn is_there(rt: &impl Abort, alloc: Global, config: &Config, at: &str) -> bool {
-    config.get(&path(rt, alloc, at)).is_some()
+// Looks whether a configuration has these rows.
+fn has(rt: &impl Abort, alloc: Global, config: &Config, wanted: &str) {
+    assert!(rt;
+        config.as_slice() == rows(rt, alloc, wanted).as_slice(),
+        "{wanted}"
+    );
 }
 
 #[test]
@@ -90,22 +27,20 @@ fn a_block_takes_the_place_of_another(rt: HostRuntime) {
     let alloc = rt.alloc();
     let schema = schema(&rt, alloc);
     let mut config = config(&rt, alloc, schema.get(), "7:a 7:b 7:c");
-    put_first(&rt, alloc, schema.get(), &mut config);
-    has(
-        &rt,
-        alloc,
-        &config,
-        "first",
-        "7:c 7:c/8=c 7:a 7:a/8=a 7:b 7:b/8=b",
-    );
+    let entry = path(&rt, alloc, "7:c");
+    let block = rows(&rt, alloc, "7:c 7:c/8=c");
+    config
+        .set_block(schema.get(), &entry, &Place::First, block)
+        .expect(&rt, "memory");
+    has(&rt, alloc, &config, "7:c 7:c/8=c 7:a 7:a/8=a 7:b 7:b/8=b");
     removes(&rt, alloc, &mut config, "7:a", 2);
     removes(&rt, alloc, &mut config, "7:a", 0);
     let copy = config.copy().expect(&rt, "memory");
     removes(&rt, alloc, &mut config, "7:c", 2);
-    has(&rt, alloc, &config, "removed", "7:b 7:b/8=b");
-    assert!(rt; !is_there(&rt, alloc, &copy, "7:a/8"));
-    assert!(rt; is_there(&rt, alloc, &copy, "7:b/8"));
-    assert!(rt; copy.len() == 4);
+    has(&rt, alloc, &config, "7:b 7:b/8=b");
+    has(&rt, alloc, &copy, "7:c 7:c/8=c 7:b 7:b/8=b");
+    assert!(rt; copy.get(&path(&rt, alloc, "7:a/8")).is_none());
+    assert!(rt; copy.get(&path(&rt, alloc, "7:b/8")).is_some());
 }
 
 // How many rows there are in all, at and below a path, and of the entry that it leads to by itself; and how
@@ -126,8 +61,8 @@ fn counts(
 }
 
 const COUNTS: &[(&str, [usize; 4])] = &[
-    ("3:b,tcp", [8, 4, 3, 2]),
-    ("3:c,tcp", [8, 0, 3, 2]),
+    ("3:ntp,tcp", [8, 4, 3, 2]),
+    ("3:web,tcp", [8, 0, 3, 2]),
     ("9:p", [8, 1, 1, 1]),
 ];
 
@@ -135,39 +70,21 @@ const COUNTS: &[(&str, [usize; 4])] = &[
 fn rows_are_counted(rt: HostRuntime) {
     let alloc = rt.alloc();
     let schema = schema(&rt, alloc);
-    let config = config(
-        &rt,
-        alloc,
-        schema.get(),
-        "3:b,tcp 3:b,tcp/6=7 3:a,udp 9:p=p",
-    );
+    let lines = "3:ntp,tcp 3:ntp,tcp/6=53 3:dns,udp 9:p=p";
+    let config = config(&rt, alloc, schema.get(), lines);
     for (at, wanted) in COUNTS {
-        assert!(rt;
-            counts(&rt, alloc, schema.get(), &config, at) == *wanted,
-            "{at}"
-        );
+        let found = counts(&rt, alloc, schema.get(), &config, at);
+        assert!(rt; found == *wanted, "{at}");
     }
+    assert!(rt; config.len() == 8);
     assert!(rt; config.into_rows().len() == 8);
-}
-
-fn is_before(
-    rt: &impl Abort,
-    alloc: Global,
-    schema: &Schema,
-    config: &Config,
-    one: &str,
-    other: &str,
-) -> bool {
-    let one = path(rt, alloc, one);
-    let other = path(rt, alloc, other);
-    config.is_before(schema, &one, &other).expect(rt, "memory")
 }
 
 const ORDERS: &[(&str, &str, bool)] = &[
     ("0/1", "0/2", true),
     ("0/2", "0/1", false),
-    ("3:b,tcp", "3:a,tcp", false),
-    ("3:a,tcp/5", "3:a,tcp/6", true),
+    ("3:ntp,tcp", "3:dns,tcp", false),
+    ("3:dns,tcp/5", "3:dns,tcp/6", true),
     ("7:b", "7:a", true),
     ("7:b/8", "7:a", true),
     ("7:a", "7:b/8", false),
@@ -181,10 +98,56 @@ fn paths_stand_in_document_order(rt: HostRuntime) {
     let schema = schema(&rt, alloc);
     let config = config(&rt, alloc, schema.get(), "7:b 7:a");
     for (one, other, wanted) in ORDERS {
-        assert!(rt;
-            is_before(&rt, alloc, schema.get(), &config, one, other) == *wanted,
-            "{one} {other}"
-        );
+        let first = path(&rt, alloc, one);
+        let second = path(&rt, alloc, other);
+        let found = config
+            .is_before(schema.get(), &first, &second)
+            .expect(&rt, "memory");
+        assert!(rt; found == *wanted, "{one} {other}");
+    }
+}
+
+// Paths and the values in use there, with an empty text for none: a key has one in an entry alone, and a list none.
+const VALUES: &[(&str, &str)] = &[
+    ("3:ntp,tcp/5", "tcp"),
+    ("3:dns,tcp/5", ""),
+    ("3:ntp,tcp", ""),
+];
+
+#[test]
+fn values_are_those_of_their_paths(rt: HostRuntime) {
+    let alloc = rt.alloc();
+    let schema = schema(&rt, alloc);
+    let config = config(&rt, alloc, schema.get(), "3:ntp,tcp");
+    for (asked, wanted) in VALUES {
+        let at = path(&rt, alloc, asked);
+        let found = match in_use(schema.get(), &config, &at) {
+            Some(value) => value.as_str(),
+            None => "",
+        };
+        assert!(rt; found == *wanted, "{asked}");
+    }
+}
+
+// The number of a data node, or 99 for the top, and the numbers of those that stand in it.
+const CHILDREN: &[(u32, &[u32])] = &[
+    (99, &[0, 3, 7, 9, 10, 11]),
+    (0, &[1, 2]),
+    (1, &[]),
+    (3, &[4, 5, 6]),
+    (7, &[8]),
+    (9, &[]),
+    (12, &[]),
+];
+
+#[test]
+fn data_nodes_that_stand_in_one(rt: HostRuntime) {
+    let alloc = rt.alloc();
+    let schema = schema(&rt, alloc);
+    let children = Children::of(alloc, schema.get()).expect(&rt, "memory");
+    for (number, wanted) in CHILDREN {
+        let parent = if *number == 99 { None } else { Some(*number) };
+        assert!(rt; children.in_parent(parent) == *wanted, "{number}");
     }
 }
 
@@ -192,8 +155,8 @@ fn paths_stand_in_document_order(rt: HostRuntime) {
 fn a_keeper_fails_at_the_listed_calls(rt: HostRuntime) {
     let alloc = rt.alloc();
     let schema = schema(&rt, alloc);
-    let old = config(&rt, alloc, schema.get(), "0/1=a");
-    let new = config(&rt, alloc, schema.get(), "0/1=b");
+    let old = config(&rt, alloc, schema.get(), "0/1=gate");
+    let new = config(&rt, alloc, schema.get(), "0/1=hall");
     let mut failing = Many::new(alloc);
     failing.push(1).expect(&rt, "memory");
     let mut keeper = MemKeeper::new(old.copy().expect(&rt, "memory"), failing);

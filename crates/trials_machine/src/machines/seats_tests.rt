@@ -1,111 +1,15 @@
 //! Which sessions are live (RFC 6241 8.1), and the numbers and readings of entries.
-ghost use Rattle.std.specs.Prelude.{◌<◌};
-
-use super::{
-    Asks, begin, boxed, entry_text, handled, has_room, is_same, outcome_text, request, start,
-};
+use super::{Happens, begin, each_is_entered, handled, start};
 use nc_machine::Machine;
-use nc_model::{Entry, Event};
-use nc_names::{Boxed, Many};
+use nc_names::Many;
 use nc_tree::MemKeeper;
 use std::alloc::Global;
-use std::fmt::Write;
 use std::process::Abort;
 
-// What happens to a machine: an event that is handed in, or one of its own calls.
-#[derive(Clone, Copy)]
-enum Happens {
-    Starts,
-    // That session asks for that, whole.
-    Asks(u32, &'static str),
-    IsGone(u32),
-    IsRead,
-    // The call that ends that session.
-    Ends(u32),
-    // The call that reads the clock.
-    Ticks,
-}
-
-fn ended(
-    rt: &impl Abort,
-    alloc: Global,
-    machine: &mut Machine<MemKeeper>,
-    session: u32,
-    at: u64,
-) -> Boxed<Entry> {
-    has_room(rt, machine);
-    boxed(rt, alloc, machine.end(session, at))
-}
-
-fn ticked(
-    rt: &impl Abort,
-    alloc: Global,
-    machine: &mut Machine<MemKeeper>,
-    at: u64,
-) -> Boxed<Entry> {
-    has_room(rt, machine);
-    boxed(rt, alloc, machine.tick(at))
-}
-
-// The entry that comes of it, with that reading of the clock.
-fn entry(
-    rt: &impl Abort,
-    alloc: Global,
-    machine: &mut Machine<MemKeeper>,
-    happens: Happens,
-    at: u64,
-) -> Boxed<Entry> {
-    match happens {
-        Happens::Starts => handled(rt, alloc, machine, start(rt, alloc), at),
-        Happens::Asks(session, whole) => {
-            let event = request(rt, alloc, session, Asks::Other(whole));
-            handled(rt, alloc, machine, event, at)
-        }
-        Happens::IsGone(session) => handled(rt, alloc, machine, Event::End { session }, at),
-        Happens::IsRead => handled(rt, alloc, machine, Event::Reading, at),
-        Happens::Ends(session) => ended(rt, alloc, machine, session, at),
-        Happens::Ticks => ticked(rt, alloc, machine, at),
-    }
-}
-
-// Looks whether the entry of it is shown so.
-fn is_entered(
-    rt: &impl Abort,
-    alloc: Global,
-    machine: &mut Machine<MemKeeper>,
-    happens: Happens,
-    at: u64,
-    wanted: &str,
-) {
-    let entry = entry(rt, alloc, machine, happens, at);
-    let found = entry_text(rt, alloc, entry.get());
-    is_same(rt, "entry", found.as_str(), wanted);
-}
-
-fn each_is_entered(
-    rt: &impl Abort,
-    alloc: Global,
-    machine: &mut Machine<MemKeeper>,
-    cases: &[(Happens, u64, &str)],
-) {
-    for (happens, at, wanted) in cases {
-        is_entered(rt, alloc, machine, *happens, *at, wanted);
-    }
-}
-
-// Looks whether a start has that session-id.
-fn is_started(rt: &impl Abort, alloc: Global, machine: &mut Machine<MemKeeper>, session: u64) {
-    let entry = handled(rt, alloc, machine, start(rt, alloc), 0);
-    let found = outcome_text(rt, alloc, &entry.get().outcome);
-    let mut wanted = String::new(alloc);
-    write!(wanted, "started {session}").expect(rt, "memory");
-    is_same(rt, "start", found.as_str(), wanted.as_str());
-}
-
-// Looks whether so many starts have the session-ids from 1 on.
-fn are_started(rt: &impl Abort, alloc: Global, machine: &mut Machine<MemKeeper>, count: u32) {
-    for before in 0..count {
-        is_started(rt, alloc, machine, before as u64 + 1);
+// Starts so many sessions.
+fn starts(rt: &impl Abort, alloc: Global, machine: &mut Machine<MemKeeper>, count: u32) {
+    for _ in 0..count {
+        handled(rt, alloc, machine, start(rt, alloc), 0);
     }
 }
 
@@ -121,7 +25,7 @@ const FULL: &[(Happens, u64, &str)] = &[
 fn sixty_four_sessions_are_live_at_once(rt: HostRuntime) {
     let alloc = rt.alloc();
     let mut machine = begin(&rt, alloc, Many::new(alloc));
-    are_started(&rt, alloc, &mut machine, 64);
+    starts(&rt, alloc, &mut machine, 64);
     each_is_entered(&rt, alloc, &mut machine, FULL);
 }
 

@@ -1,10 +1,12 @@
-//! A desk of tests, which stands for no history: its answers are fixed texts.
+//! A desk of tests, which stands for no history: its answers are one fixed text.
 mod sessions;
 
-use nc_message::{Attr, Tree};
+use super::REPLY;
+use nc_message::Tree;
 use nc_message_read::read_message;
-use nc_model::{Asked, Cause, Desk, DeskFault, Entry, Event, Outcome, Request, Spent, Verdict};
-use nc_names::{Bytes, CauseKind, Copies, Many, Memory};
+use nc_model::{Desk, DeskFault, Entry, Event, Outcome, Spent};
+use nc_names::Memory;
+use nc_protocol::Verdict;
 use std::alloc::Global;
 
 // What goes wrong at the desk. Its calls are counted from 1.
@@ -26,50 +28,7 @@ struct SmallDesk {
     alloc: Global,
     trouble: Trouble,
     calls: u32,
-    committed: bool,
     ends: u32,
-}
-
-// The cause of a request that asks for nothing known, as an rpc-error (RFC 6241 4.3 and appendix A).
-fn refusal(kind: CauseKind) -> &'static str {
-    match kind {
-        CauseKind::NoMessageId => {
-            "<rpc-error><error-type>rpc</error-type><error-tag>missing-attribute</error-tag>\
-             <error-severity>error</error-severity><error-info><bad-attribute>message-id</bad-attribute>\
-             <bad-element>rpc</bad-element></error-info></rpc-error>"
-        }
-        CauseKind::Malformed => {
-            "<rpc-error><error-type>rpc</error-type><error-tag>malformed-message</error-tag>\
-             <error-severity>error</error-severity></rpc-error>"
-        }
-        _ => {
-            "<rpc-error><error-type>protocol</error-type><error-tag>operation-not-supported</error-tag>\
-             <error-severity>error</error-severity></rpc-error>"
-        }
-    }
-}
-
-// What the reply to a request holds.
-fn answer_to(asked: &Result<Asked, Cause>, committed: bool) -> &'static str {
-    match asked {
-        Ok(Asked::GetConfig { .. }) => {
-            if committed {
-                "<data><top xmlns=\"urn:ex\"><port><name>a</name></port></top></data>"
-            } else {
-                "<data/>"
-            }
-        }
-        Ok(_) => "<ok/>",
-        Err(cause) => refusal(cause.kind),
-    }
-}
-
-fn reply_text(alloc: Global, content: &str) -> Result<Bytes, Memory> {
-    let mut text = Bytes::new(alloc);
-    text.push_slice(b"<rpc-reply xmlns=\"urn:ietf:params:xml:ns:netconf:base:1.0\">")?;
-    text.push_slice(content.as_bytes())?;
-    text.push_slice(b"</rpc-reply>")?;
-    Ok(text)
 }
 
 fn read(alloc: Global, text: &[u8]) -> Result<Tree, Memory> {
@@ -79,22 +38,8 @@ fn read(alloc: Global, text: &[u8]) -> Result<Tree, Memory> {
     }
 }
 
-// A reply with this content and without attributes.
-fn plain_reply(alloc: Global, content: &str) -> Result<Tree, Memory> {
-    let text = reply_text(alloc, content)?;
-    read(alloc, text.as_slice())
-}
-
-// A reply with these attributes and this content.
-fn reply(alloc: Global, attributes: &Many<Attr>, content: &str) -> Result<Tree, Memory> {
-    let attrs = attributes.copy()?;
-    let mut reply = plain_reply(alloc, content)?;
-    reply.root.attrs = attrs;
-    Ok(reply)
-}
-
-fn answered(alloc: Global, attributes: &Many<Attr>, content: &str) -> Result<Outcome, Memory> {
-    let reply = reply(alloc, attributes, content)?;
+fn answered(alloc: Global) -> Result<Outcome, Memory> {
+    let reply = read(alloc, REPLY.as_bytes())?;
     Ok(Outcome::Answered {
         verdict: Verdict::Done,
         reply,
@@ -118,7 +63,6 @@ impl SmallDesk {
             alloc,
             trouble,
             calls: 0,
-            committed: false,
             ends: 0,
         }
     }
@@ -151,25 +95,17 @@ impl SmallDesk {
         }
     }
 
-    fn note(&mut self, asked: &Result<Asked, Cause>) {
-        if let Ok(Asked::Commit { .. }) = asked {
-            self.committed = true;
-        }
-    }
-
-    fn answer(&mut self, request: &Request) -> Result<Outcome, Memory> {
+    fn answer(&self) -> Result<Outcome, Memory> {
         if self.is_dead() {
             return Ok(Outcome::NotLive);
         }
-        let content = answer_to(&request.asked, self.committed);
-        self.note(&request.asked);
-        answered(self.alloc, &request.attributes, content)
+        answered(self.alloc)
     }
 
-    fn outcome(&mut self, event: &Event) -> Result<Outcome, Memory> {
+    fn outcome(&self, event: &Event) -> Result<Outcome, Memory> {
         match event {
             Event::Start { .. } => Ok(self.start()),
-            Event::Request { request, .. } => self.answer(request),
+            Event::Request { .. } => self.answer(),
             Event::End { .. } => Ok(Outcome::Ended),
             Event::Reading => Ok(Outcome::Noted),
         }

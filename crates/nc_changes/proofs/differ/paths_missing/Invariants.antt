@@ -1,7 +1,7 @@
 use Rattle.std.proofs.Common.{◌≡◌, ◌++◌, List, drop, map}
 use Rattle.std.specs.List.{filter}
 use Rattle.nc_names.specs.declared.path.Row.{Row}
-use Rattle.nc_model.specs.Changes.{is_missing, paths_of}
+use Rattle.nc_protocol.specs.Changes.{is_missing, paths_of}
 use Rattle.nc_tree.specs.Finding.{Finds}
 use Rattle.nc_changes.proofs.differ.paths_missing.Given as goal
 

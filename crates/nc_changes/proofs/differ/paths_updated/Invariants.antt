@@ -1,6 +1,6 @@
 use Rattle.std.proofs.Common.{◌≡◌, ◌++◌, drop, map}
 use Rattle.std.specs.List.{filter}
-use Rattle.nc_model.specs.Changes.{is_updated, paths_of}
+use Rattle.nc_protocol.specs.Changes.{is_updated, paths_of}
 use Rattle.nc_changes.proofs.differ.paths_updated.Given as goal
 
 abbrev pub invariant-loop-row : goal.invariant-loop-row

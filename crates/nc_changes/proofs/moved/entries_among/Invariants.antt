@@ -1,5 +1,5 @@
 use Rattle.std.proofs.Common.{◌≡◌, ◌++◌, drop}
-use Rattle.nc_model.specs.Changes.{entries_among}
+use Rattle.nc_protocol.specs.Changes.{entries_among}
 use Rattle.nc_changes.proofs.moved.entries_among.Given as goal
 
 abbrev pub invariant-loop-entry : goal.invariant-loop-entry

@@ -1,7 +1,7 @@
 use Rattle.std.proofs.Common.{◌≡◌, drop}
 use Rattle.std.specs.Prelude.{fold, option_map}
 use Rattle.std.specs.List.{filter_map}
-use Rattle.nc_model.specs.Edited.{change_at}
+use Rattle.nc_protocol.specs.Edited.{change_at}
 use Rattle.nc_edit.specs.inner.Denied.{meaning, next_denied}
 use Rattle.nc_edit.proofs.asked.ask_new.Given as goal
 

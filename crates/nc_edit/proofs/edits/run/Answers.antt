@@ -1,6 +1,6 @@
 use Rattle.std.proofs.Common.{◌≡◌, [], arith}
 use Rattle.std.specs.Prelude.{fold}
-use Rattle.nc_model.specs.Applied.{Applied}
+use Rattle.nc_protocol.specs.Applied.{Applied}
 use Rattle.nc_edit.specs.inner.Turns.{turn}
 use Rattle.nc_edit.proofs.FirstDenied.{fold_more}
 use Rattle.nc_edit.proofs.edits.run.Goals as goal

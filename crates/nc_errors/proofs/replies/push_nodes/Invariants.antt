@@ -1,7 +1,7 @@
 use Rattle.std.proofs.Common.{◌≡◌, ◌++◌, map, take}
-use Rattle.nc_model.specs.Content as content
-use Rattle.nc_model.specs.Reply as reply
-use Rattle.nc_model.specs.Words as w
+use Rattle.nc_protocol.specs.Content as content
+use Rattle.nc_protocol.specs.Reply as reply
+use Rattle.nc_protocol.specs.Words as w
 use Rattle.nc_errors.proofs.replies.push_nodes.Given as goal
 
 abbrev pub invariant-loop-node : goal.invariant-loop-node

@@ -1,5 +1,5 @@
 use Rattle.std.proofs.Common.{◌≡◌, map, take}
-use Rattle.nc_model.specs.Reply as reply
+use Rattle.nc_protocol.specs.Reply as reply
 use Rattle.nc_errors.proofs.replies.refused.Given as goal
 
 abbrev pub invariant-loop-cause : goal.invariant-loop-cause

@@ -1,6 +1,6 @@
 use Rattle.std.proofs.Common.{sym, ap}
 use Rattle.nc_filter.proofs.ElementLemmas.{no_text}
-use Rattle.nc_model.specs.Elements.{is_child}
+use Rattle.nc_protocol.specs.Elements.{is_child}
 use Rattle.nc_filter.proofs.element.is_child.Goals as goal
 
 pub returns-in-Some : goal.returns-in-Some

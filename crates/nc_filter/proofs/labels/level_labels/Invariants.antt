@@ -1,8 +1,8 @@
 use Rattle.std.proofs.Common.{◌≡◌, ◌++◌, drop, not}
 use Rattle.std.specs.Prelude.{map}
 use Rattle.std.specs.List.{filter, filter_map}
-use Rattle.nc_model.specs.Elements.{elem_of}
-use Rattle.nc_model.specs.Filter.{is_containment}
+use Rattle.nc_protocol.specs.Elements.{elem_of}
+use Rattle.nc_protocol.specs.Filter.{is_containment}
 use Rattle.nc_filter.specs.inner.Labels.{elem_label, level_labels}
 use Rattle.nc_filter.proofs.labels.level_labels.Given as goal
 

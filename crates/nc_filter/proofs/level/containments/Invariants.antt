@@ -1,7 +1,7 @@
 use Rattle.std.proofs.Common.{◌≡◌, ◌++◌, drop}
 use Rattle.std.specs.Prelude.{map}
 use Rattle.std.specs.List.{filter}
-use Rattle.nc_model.specs.Filter.{is_containment}
+use Rattle.nc_protocol.specs.Filter.{is_containment}
 use Rattle.nc_filter.proofs.level.containments.Given as goal
 
 abbrev pub invariant-loop-elem : goal.invariant-loop-elem

@@ -1,7 +1,7 @@
 use Rattle.std.proofs.Common.{◌≡◌, drop}
 use Rattle.std.specs.Prelude.{map}
 use Rattle.std.specs.List.{list_any}
-use Rattle.nc_model.specs.Filter.{is_of_matches, level_of}
+use Rattle.nc_protocol.specs.Filter.{is_of_matches, level_of}
 use Rattle.nc_filter.proofs.level.has_level_of_matches.Given as goal
 
 abbrev pub invariant-loop-elem : goal.invariant-loop-elem

@@ -1,7 +1,7 @@
 use Rattle.std.proofs.Common.{◌≡◌, ◌++◌, drop}
 use Rattle.std.specs.Prelude.{map}
 use Rattle.std.specs.List.{flat_map}
-use Rattle.nc_model.specs.Filter.{level_of}
+use Rattle.nc_protocol.specs.Filter.{level_of}
 use Rattle.nc_filter.proofs.level.levels_of.Given as goal
 
 abbrev pub invariant-loop-elem : goal.invariant-loop-elem

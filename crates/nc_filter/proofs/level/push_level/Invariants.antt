@@ -1,7 +1,7 @@
 use Rattle.std.proofs.Common.{◌≡◌, ◌++◌, drop}
 use Rattle.std.specs.Prelude.{map}
 use Rattle.std.specs.List.{filter_map}
-use Rattle.nc_model.specs.Elements.{elem_of}
+use Rattle.nc_protocol.specs.Elements.{elem_of}
 use Rattle.nc_filter.proofs.level.push_level.Given as goal
 
 abbrev pub invariant-loop-part : goal.invariant-loop-part

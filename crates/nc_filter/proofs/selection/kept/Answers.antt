@@ -1,5 +1,5 @@
 use Rattle.std.specs.List.{list_any}
-use Rattle.nc_model.specs.Filter.{comes_with}
+use Rattle.nc_protocol.specs.Filter.{comes_with}
 use Rattle.nc_filter.proofs.KeptLemmas.{filter_end, filter_next}
 use Rattle.nc_filter.proofs.selection.kept.Goals as goal
 

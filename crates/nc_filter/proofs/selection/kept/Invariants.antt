@@ -1,7 +1,7 @@
 use Rattle.std.proofs.Common.{◌≡◌, ◌++◌, List, drop}
 use Rattle.std.specs.List.{filter, list_any}
 use Rattle.nc_names.specs.declared.path.Row.{Row}
-use Rattle.nc_model.specs.Filter.{comes_with}
+use Rattle.nc_protocol.specs.Filter.{comes_with}
 use Rattle.nc_filter.specs.inner.Tables.{ArePlaces}
 use Rattle.nc_filter.proofs.selection.kept.Given as goal
 

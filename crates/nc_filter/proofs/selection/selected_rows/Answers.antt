@@ -2,7 +2,7 @@ use Rattle.std.proofs.Common.{◌∙◌, ap}
 use Rattle.std.specs.Prelude.{map}
 use Rattle.std.specs.List.{list_any}
 use Rattle.nc_names.specs.Same.{is_at_or_below}
-use Rattle.nc_model.specs.Filter.{chosen}
+use Rattle.nc_protocol.specs.Filter.{chosen}
 use Rattle.nc_filter.proofs.selection.selected_rows.Goals as goal
 
 pub returns : goal.returns

@@ -4,7 +4,7 @@ use Rattle.std.specs.List.{filter, list_any}
 use Rattle.std.proofs.lemmas.List.Sums.{prefix_len-le-length}
 use Rattle.nc_names.specs.declared.path.Row.{Row}
 use Rattle.nc_message.specs.declared.tree.Elem.{Elem}
-use Rattle.nc_model.specs.Filter.{is_containment}
+use Rattle.nc_protocol.specs.Filter.{is_containment}
 use Rattle.nc_filter.specs.inner.Picks.{Adds, has_node, is_matched, is_number, is_selection, node_at, opens, picked, picks_at, within}
 use Rattle.nc_filter.proofs.WalkLemmas.{level_done, level_next, no_node, node_parts, node_whole, none_there, open_done, open_level, open_whole, shorter_rest, some_node, some_there}
 use Rattle.nc_filter.proofs.walk.+pick.Goals as goal

@@ -1,7 +1,7 @@
 use Rattle.std.proofs.Common.{◌∙◌, ap}
 use Rattle.std.specs.Prelude.{map}
 use Rattle.std.specs.List.{filter}
-use Rattle.nc_model.specs.Filter.{is_containment}
+use Rattle.nc_protocol.specs.Filter.{is_containment}
 use Rattle.nc_filter.proofs.wants.elems_below.Goals as goal
 
 pub returns : goal.returns

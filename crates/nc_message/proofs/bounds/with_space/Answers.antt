@@ -16,8 +16,11 @@ returns-then-contains_key c = λ own table other.
 pub returns : goal.returns
 returns c = λ own table other.
     let none : space_of c.args.prefix own ≡ None =
-    sym (table c.args.prefix) ∙ none_of (get (slice_cmp nat_cmp) c.args.spaces c.args.prefix) (sym c.contains_key.ensures ∙ c.if-contains_key.false) in
+    sym (table c.args.prefix)
+    ∙ none_of (get (slice_cmp nat_cmp) c.args.spaces c.args.prefix)
+    (sym c.contains_key.ensures ∙ c.if-contains_key.false) in
     c.in_ok-insert.ensures.updates.0 other
-    ∙ ap (λ t. cond t (Some c.args.space) (get (slice_cmp nat_cmp) c.args.spaces other)) (is_eq-slice_cmp c.args.prefix other)
+    ∙ ap (λ t. cond t (Some c.args.space) (get (slice_cmp nat_cmp) c.args.spaces other))
+    (is_eq-slice_cmp c.args.prefix other)
     ∙ ap (λ o. cond (is_same_text c.args.prefix other) (Some c.args.space) o) (table other)
     ∙ sym (bound_now c.args.prefix c.args.space own none other)

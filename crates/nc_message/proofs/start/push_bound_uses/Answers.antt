@@ -6,6 +6,7 @@ pub loop-bound-preserved : goal.loop-bound-preserved
 loop-bound-preserved c =
     let front = c.loop-bound.invariant.0 in (
       front ++ c.in-Some.bound.now ∷ [],
-      c.loop-bound.invariant.1 ∙ ap (λ r. front ++ r) c.in-Some.ensures ∙ sym (append_assoc front (c.in-Some.bound.now ∷ []) c.next.new.self),
+      c.loop-bound.invariant.1 ∙ ap (λ r. front ++ r) c.in-Some.ensures
+          ∙ sym (append_assoc front (c.in-Some.bound.now ∷ []) c.next.new.self),
       declares_more front (c.in-Some.bound.now ∷ []) c.loop-bound.invariant.2 c.in_ok-push_use.ensures.ok,
     )

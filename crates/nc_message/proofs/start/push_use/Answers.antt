@@ -12,7 +12,8 @@ returns-then-not-has_to_be_declared-clause-ok c =
 pub returns-then-not-added-clause-ok : goal.returns-then-not-added-clause-ok
 returns-then-not-added-clause-ok c =
     let P : Bool → Type 0 = λ b. IsAdded c.args.seen.now.seen c.add.new.self.seen c.args.prefix.now b in
-    seen_before c.args.seen.now.seen c.add.new.self.seen c.args.out.now (record { prefix = c.args.prefix.now; space = c.args.space.now })
+    seen_before c.args.seen.now.seen c.add.new.self.seen c.args.out.now
+    (record { prefix = c.args.prefix.now; space = c.args.space.now })
     (ap is_declarable (sym c.as_str.ensures) ∙ sym c.has_to_be_declared.ensures ∙ c.if-not-has_to_be_declared.false)
     (subst P c.if-not-added.true c.in_ok-added.ensures)
 

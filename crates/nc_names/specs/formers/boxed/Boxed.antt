@@ -22,9 +22,11 @@ use Rattle.nc_names.specs.declared.boxed.Boxed.TheView.{view, invariant}
 use Rattle.nc_names.specs.contracts.boxed.Boxed as C
 use Rattle.nc_names.specs.contracts.boxed.Boxed.TheInside as I
 
+-- a box holds one value of its type
 abbrev pub the_former : Former {0} → Former {0}
 the_former g = g
 
+-- so it weighs what the value weighs
 abbrev pub the_weighed : {g : Former {0}} → Weighed g → Weighed (the_former g)
 the_weighed w = w
 
@@ -44,11 +46,14 @@ module _ (R S : RattleType) (h : R.Denot → S.Denot) where
   box_places a = record {
     mir_same = λ i. (box_of (one_value R (a.mir_same i) (λ _. ftrue) (λ _ _. nothing) gnil)).mir;
     own_same = λ b i.
-        (box_of (one_value R (a.mir_same i) (a.own_same b.value i) (a.shr_same b.value i) gnil)).own_val (with_value b tt);
+        (box_of (one_value R (a.mir_same i) (a.own_same b.value i) (a.shr_same b.value i) gnil)).own_val
+        (with_value b tt);
     shr_same = λ b i.
-        (box_of (one_value R (a.mir_same i) (a.own_same b.value i) (a.shr_same b.value i) gnil)).shr_at (with_value b tt);
+        (box_of (one_value R (a.mir_same i) (a.own_same b.value i) (a.shr_same b.value i) gnil)).shr_at
+        (with_value b tt);
   }
 
+  -- two boxes are kept alike where what they hold is
   pub the_places : Alike R S h → Alike (C.the_row R) (C.the_row S) ((the_former this).map R.Denot S.Denot h)
   the_places a = view_places fields this view (λ X Y k u. refl) (λ X u. refl)
       R.Denot S.Denot h (C.the_row R).coded (C.the_row S).coded
@@ -57,5 +62,6 @@ module _ (R S : RattleType) (h : R.Denot → S.Denot) where
       (struct_places (I.the_type R) (I.the_type S) ((λ b. with_value b (h b.value)), tt) _ (λ d. refl) refl
       (laid _ _ _ (box_places a), tt))
 
+  -- and coded alike
   pub the_codes_placed : Recodes R S h → Recodes (C.the_row R) (C.the_row S) ((the_former this).map R.Denot S.Denot h)
   the_codes_placed e d = e d

@@ -19,18 +19,23 @@ use Rattle.nc_names.specs.declared.many.Many.TheView.{view, invariant}
 use Rattle.nc_names.specs.contracts.many.Many as C
 use Rattle.nc_names.specs.contracts.many.Many.TheInside as I
 
+-- a list holds any number of values of its type
 abbrev pub the_former : Former {0} → Former {0}
 the_former g = list g
 
+-- so it weighs what the values weigh
 abbrev pub the_weighed : {g : Former {0}} → Weighed g → Weighed (the_former g)
 the_weighed w = w_list w
 
+-- the list that holds none
 pub the_empty : List ⊥
 the_empty = []
 
+-- the values in their order
 abbrev pub the_items : (X : Type 0) → List X → List X
 the_items X d = d
 
+-- they are what the former has as children
 pub the_items_listed : (X : Type 0) (d : List X) → listed _ (children (the_former this) X d) ≡ the_items X d
 the_items_listed X d = list-listed X d
 
@@ -39,6 +44,7 @@ fields = via (vec.the_former this Global) Inside
     (λ X a. a.items) (λ X v. record { items = v }) (λ X a. refl) (λ X v. refl)
 
 module _ (R S : RattleType) (h : R.Denot → S.Denot) where
+  -- two lists are kept alike where what they hold is
   pub the_places : Alike R S h → Alike (C.the_row R) (C.the_row S) ((the_former this).map R.Denot S.Denot h)
   the_places a = view_places fields (list this) view (λ X Y k u. refl) (λ X u. refl)
       R.Denot S.Denot h (C.the_row R).coded (C.the_row S).coded
@@ -47,5 +53,6 @@ module _ (R S : RattleType) (h : R.Denot → S.Denot) where
       (struct_places (I.the_type R) (I.the_type S) (vec.mapped h, tt) _ (λ d. refl) refl
       (laid _ _ _ (vec.the_places heap.the_row ghosts R S h a), tt))
 
+  -- and coded alike
   pub the_codes_placed : Recodes R S h → Recodes (C.the_row R) (C.the_row S) ((the_former this).map R.Denot S.Denot h)
   the_codes_placed e d = sym (code_map R.coded.code S.coded.code h (λ x. sym (e x)) d)

@@ -1,11 +1,14 @@
 -- An identifier.
 use Rattle.std.proofs.Common.{sym, ◌∙◌}
 use Rattle.nc_names.specs.Signs.{is_in_identifier}
-use Rattle.nc_paths.proofs.CutLemmas.{cut_after, identifier_is, leading_at, past_at, name_low}
+use Rattle.nc_names.proofs.EndLemmas.{cut_after, past_at}
+use Rattle.nc_paths.proofs.CutLemmas.{identifier_is, leading_at, name_low}
 use Rattle.nc_paths.proofs.cut.identifier.Goals as goal
 
 pub split_at-requires : goal.split_at-requires
-split_at-requires c = cut_after is_in_identifier c.args.text.now c.as_bytes.result.now c.count_identifier-count.result name_low c.count_identifier-count.ensures c.as_bytes.ensures.value c.as_bytes.ensures.utf8
+split_at-requires c =
+    cut_after is_in_identifier c.args.text.now c.as_bytes.result.now c.count_identifier-count.result name_low
+    c.count_identifier-count.ensures c.as_bytes.ensures.value c.as_bytes.ensures.utf8
 
 pub returns-then-begins_name : goal.returns-then-begins_name
 returns-then-begins_name c =

@@ -2,7 +2,7 @@
 use Rattle.std.proofs.Common.{◌≡◌, length}
 use Rattle.std.specs.Option.{option_copied}
 use Rattle.nc_schema.specs.InstancePaths.{leads_down}
-use Rattle.nc_paths.specs.inner.Parts.{parts_of}
+use Rattle.nc_paths.specs.Parts.{parts_of}
 use Rattle.nc_paths.proofs.leafref.leads_down.Given as goal
 
 abbrev pub invariant-loop-left : goal.invariant-loop-left

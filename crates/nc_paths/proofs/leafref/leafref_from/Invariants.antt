@@ -2,7 +2,7 @@
 use Rattle.std.proofs.Common.{◌≡◌, length}
 use Rattle.std.specs.Option.{option_copied}
 use Rattle.nc_schema.specs.InstancePaths.{leafref_from}
-use Rattle.nc_paths.specs.inner.Parts.{parts_of}
+use Rattle.nc_paths.specs.Parts.{parts_of}
 use Rattle.nc_paths.proofs.leafref.leafref_from.Given as goal
 
 abbrev pub invariant-loop-left : goal.invariant-loop-left

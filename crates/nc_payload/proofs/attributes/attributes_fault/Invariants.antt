@@ -1,8 +1,8 @@
 use Rattle.std.proofs.Common.{◌≡◌, drop}
 use Rattle.std.specs.Prelude.{false}
-use Rattle.nc_model.specs.Attributes.{attributes_fault}
+use Rattle.nc_protocol.specs.Attributes.{attributes_fault}
 use Rattle.nc_payload.specs.inner.Reads.{meaning}
-use Rattle.nc_model.specs.Payload.{reading_of}
+use Rattle.nc_protocol.specs.Payload.{reading_of}
 use Rattle.nc_payload.proofs.attributes.attributes_fault.Given as goal
 
 abbrev pub invariant-loop-attr : goal.invariant-loop-attr

@@ -1,7 +1,7 @@
 use Rattle.std.proofs.Common.{◌≡◌, Some, sym, subst}
 use Rattle.nc_message.specs.declared.tree.Elem.{Elem}
 use Rattle.nc_message.specs.declared.tree.Part.{Part}
-use Rattle.nc_model.specs.Elements.{elem_of}
+use Rattle.nc_protocol.specs.Elements.{elem_of}
 use Rattle.nc_payload.proofs.Naming.{elem_is}
 use Rattle.nc_payload.proofs.elements.elem_of.Goals as goal
 

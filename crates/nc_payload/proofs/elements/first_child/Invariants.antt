@@ -1,9 +1,9 @@
 use Rattle.std.proofs.Common.{◌≡◌, drop}
 use Rattle.std.specs.Prelude.{◌==◌, Some}
 use Rattle.std.specs.List.{find, filter_map}
-use Rattle.nc_model.specs.Elements.{named_part, first_child}
+use Rattle.nc_protocol.specs.Elements.{named_part, first_child}
 use Rattle.nc_payload.specs.inner.Reads.{meaning}
-use Rattle.nc_model.specs.Payload.{reading_of}
+use Rattle.nc_protocol.specs.Payload.{reading_of}
 use Rattle.nc_payload.proofs.elements.first_child.Given as goal
 
 abbrev pub invariant-loop-part : goal.invariant-loop-part

@@ -1,8 +1,8 @@
 use Rattle.std.proofs.Common.{◌≡◌, ◌++◌, drop}
 use Rattle.std.specs.Prelude.{option_map}
-use Rattle.nc_model.specs.Elements.{key_values}
+use Rattle.nc_protocol.specs.Elements.{key_values}
 use Rattle.nc_payload.specs.inner.Reads.{meaning}
-use Rattle.nc_model.specs.Payload.{reading_of}
+use Rattle.nc_protocol.specs.Payload.{reading_of}
 use Rattle.nc_payload.proofs.elements.key_values.Given as goal
 
 abbrev pub invariant-loop-key : goal.invariant-loop-key

@@ -1,6 +1,6 @@
 use Rattle.std.proofs.Common.{◌≡◌, take}
 use Rattle.std.specs.List.{flat_map}
-use Rattle.nc_model.specs.Elements.{text_of}
+use Rattle.nc_protocol.specs.Elements.{text_of}
 use Rattle.nc_payload.proofs.elements.text_in.Given as goal
 
 abbrev pub invariant-loop-part : goal.invariant-loop-part

@@ -1,6 +1,6 @@
 use Rattle.std.proofs.Common.{◌≡◌, drop, []}
-use Rattle.nc_model.specs.Faults.{keys_fault}
-use Rattle.nc_model.specs.Payload.{reading_of}
+use Rattle.nc_protocol.specs.Faults.{keys_fault}
+use Rattle.nc_protocol.specs.Payload.{reading_of}
 use Rattle.nc_payload.proofs.faults.keys_fault.Given as goal
 
 abbrev pub invariant-loop-part : goal.invariant-loop-part

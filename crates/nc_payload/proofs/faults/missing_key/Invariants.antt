@@ -1,9 +1,9 @@
 use Rattle.std.proofs.Common.{◌≡◌, drop, not}
 use Rattle.std.specs.Prelude.{is_some}
 use Rattle.std.specs.List.{find}
-use Rattle.nc_model.specs.Elements.{first_child}
+use Rattle.nc_protocol.specs.Elements.{first_child}
 use Rattle.nc_payload.specs.inner.Reads.{meaning}
-use Rattle.nc_model.specs.Payload.{reading_of}
+use Rattle.nc_protocol.specs.Payload.{reading_of}
 use Rattle.nc_payload.proofs.faults.missing_key.Given as goal
 
 abbrev pub invariant-loop-key : goal.invariant-loop-key

@@ -2,9 +2,9 @@ use Rattle.std.proofs.Common.{◌∙◌, List, [], ap, subst, sym, take}
 use Rattle.std.proofs.lemmas.List.{take_all}
 use Rattle.std.specs.Prelude.{fold}
 use Rattle.nc_names.specs.declared.path.Row.{Row}
-use Rattle.nc_model.proofs.ListLemmas.{some_same}
-use Rattle.nc_model.specs.Edited.{left_by}
-use Rattle.nc_model.specs.declared.edit.Edit.{Edit}
+use Rattle.nc_protocol.proofs.ListLemmas.{some_same}
+use Rattle.nc_protocol.specs.Edited.{left_by}
+use Rattle.nc_protocol.specs.declared.edit.Edit.{Edit}
 use Rattle.nc_payload.specs.inner.Gathered.{Gathers}
 use Rattle.nc_payload.proofs.GatherLemmas.{edit_more, nothing_held, rows_are}
 use Rattle.nc_payload.proofs.gather.in_order.Goals as goal

@@ -1,6 +1,6 @@
 use Rattle.std.proofs.Common.{take, []}
 use Rattle.std.specs.Prelude.{fold}
-use Rattle.nc_model.specs.Edited.{left_by}
+use Rattle.nc_protocol.specs.Edited.{left_by}
 use Rattle.nc_payload.specs.inner.Gathered.{Holds}
 use Rattle.nc_payload.proofs.gather.in_order.Given as goal
 

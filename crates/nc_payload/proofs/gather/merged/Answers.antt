@@ -1,6 +1,6 @@
 use Rattle.std.proofs.Common.{◌∙◌, sym, Option}
 use Rattle.nc_names.specs.declared.path.Place.TheVariants.{Kept}
-use Rattle.nc_model.specs.declared.edit.Action.TheVariants.{Merge}
+use Rattle.nc_protocol.specs.declared.edit.Action.TheVariants.{Merge}
 use Rattle.nc_payload.specs.declared.gather.Gathered.{Gathered}
 use Rattle.nc_payload.specs.inner.Gathered.{Gathers, TakesBlock}
 use Rattle.nc_payload.proofs.GatherLemmas.{block_merged, leaf_stands}

@@ -2,12 +2,12 @@ use Rattle.std.proofs.Common.{List, [], Result, sym, subst}
 use Rattle.std.proofs.lemmas.Result.{err_from_is_err_and}
 use Rattle.nc_message.specs.declared.tree.Elem.{Elem}
 use Rattle.nc_message.specs.declared.tree.Part.{Part}
-use Rattle.nc_model.specs.declared.edit.Edit.{Edit}
-use Rattle.nc_model.specs.declared.request.Cause.{Cause}
-use Rattle.nc_model.specs.Payload.{part_edits, elem_edits, list_edits}
+use Rattle.nc_protocol.specs.declared.edit.Edit.{Edit}
+use Rattle.nc_protocol.specs.declared.request.Cause.{Cause}
+use Rattle.nc_protocol.specs.Payload.{part_edits, elem_edits, list_edits}
 use Rattle.nc_payload.specs.inner.Reads.{Answers}
-use Rattle.nc_model.specs.Payload.{reading_of}
-use Rattle.nc_model.proofs.PayloadLemmas.{child_is_element}
+use Rattle.nc_protocol.specs.Payload.{reading_of}
+use Rattle.nc_protocol.proofs.PayloadLemmas.{child_is_element}
 use Rattle.nc_payload.proofs.Recursion.{elem_below, parts_more}
 use Rattle.nc_payload.proofs.payload.+read.Goals as goal
 

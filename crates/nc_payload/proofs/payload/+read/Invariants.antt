@@ -1,7 +1,7 @@
 use Rattle.std.proofs.Common.{◌≡◌, [], drop}
 use Rattle.std.specs.Prelude.{Ok}
-use Rattle.nc_model.specs.Payload.{list_edits, with_more}
-use Rattle.nc_model.specs.Payload.{reading_of}
+use Rattle.nc_protocol.specs.Payload.{list_edits, with_more}
+use Rattle.nc_protocol.specs.Payload.{reading_of}
 use Rattle.nc_payload.proofs.payload.+read.Given as goal
 
 -- the edits so far, and then those of the parts that are left, are the edits of all

@@ -4,7 +4,7 @@ use Rattle.std.specs.Prelude.{IfOk, option_map}
 use Rattle.nc_message.specs.declared.tree.Elem.{Elem}
 use Rattle.nc_message.specs.declared.tree.Part.{Part}
 use Rattle.nc_names.specs.declared.path.Step.{Step}
-use Rattle.nc_model.specs.Payload.{part_places, reading_of}
+use Rattle.nc_protocol.specs.Payload.{part_places, reading_of}
 use Rattle.nc_payload.specs.inner.Places.{AddsPlace, AddsPlaces, HasAbove, inside_places}
 use Rattle.nc_payload.specs.inner.Reads.{meaning}
 use Rattle.nc_payload.proofs.PlacesLemmas.{above_read, child_is_place, element_adds, ok_more, part_added}

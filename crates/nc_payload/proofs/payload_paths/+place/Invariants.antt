@@ -1,6 +1,6 @@
 use Rattle.std.proofs.Common.{take}
 use Rattle.std.specs.List.{flat_map}
-use Rattle.nc_model.specs.Payload.{part_places, reading_of}
+use Rattle.nc_protocol.specs.Payload.{part_places, reading_of}
 use Rattle.nc_payload.specs.inner.Places.{AddsPlaces, HasAbove}
 use Rattle.nc_payload.proofs.payload_paths.+place.Given as goal
 

@@ -1,6 +1,6 @@
 use Rattle.std.proofs.Common.{◌∙◌, ◌||◌, sym}
-use Rattle.nc_model.specs.Payload.{config_edits, reading_of, rows_merged}
-use Rattle.nc_model.specs.declared.position.Under.TheVariants.{Inline}
+use Rattle.nc_protocol.specs.Payload.{config_edits, reading_of, rows_merged}
+use Rattle.nc_protocol.specs.declared.position.Under.TheVariants.{Inline}
 use Rattle.nc_payload.specs.Names.{is_named}
 use Rattle.nc_payload.proofs.PlacesLemmas.{same_fault}
 use Rattle.nc_payload.proofs.payload_paths.of_rows.Goals as goal

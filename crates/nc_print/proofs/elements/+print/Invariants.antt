@@ -1,6 +1,6 @@
 use Rattle.std.proofs.Common.{◌≡◌, ◌*◌, ◌+◌, ◌-◌, ◌++◌, length}
 use Rattle.std.specs.List.{flat_map}
-use Rattle.nc_model.specs.Printed as printed
+use Rattle.nc_protocol.specs.Printed as printed
 use Rattle.nc_print.proofs.elements.+print.Given as goal
 
 abbrev pub decreases-parts_at : goal.decreases-parts_at

@@ -1,6 +1,6 @@
 use Rattle.std.proofs.Common.{arith, not}
 use Rattle.std.proofs.lemmas.List.Sums.{prefix_len-le-length}
-use Rattle.nc_model.specs.ModuleNames as names
+use Rattle.nc_protocol.specs.ModuleNames as names
 use Rattle.nc_print.proofs.module_names.before_colon.Goals as goal
 
 pub front-requires : goal.front-requires

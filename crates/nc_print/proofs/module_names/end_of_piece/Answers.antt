@@ -1,6 +1,6 @@
 use Rattle.nc_print.specs.inner.Pieces.{IsOnePiece, EndsAt}
 use Rattle.std.specs.Prelude.{MatchOption, Option, Some, None, position, ◌≡◌, List, ℕ}
-use Rattle.nc_model.specs.ModuleNames.{is_apart}
+use Rattle.nc_protocol.specs.ModuleNames.{is_apart}
 use Rattle.nc_print.proofs.PieceLemmas.{is_one, ends_at}
 use Rattle.nc_print.proofs.module_names.end_of_piece.Goals as goal
 

@@ -1,5 +1,5 @@
 use Rattle.std.proofs.Common.{◌≡◌, length}
-use Rattle.nc_model.specs.ModuleNames as names
+use Rattle.nc_protocol.specs.ModuleNames as names
 use Rattle.nc_print.proofs.module_names.push_names.Given as goal
 
 abbrev pub invariant-loop-end : goal.invariant-loop-end

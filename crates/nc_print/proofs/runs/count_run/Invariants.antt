@@ -1,5 +1,5 @@
 use Rattle.std.proofs.Common.{◌≡◌, ◌+◌, drop}
-use Rattle.nc_model.specs.Printed as printed
+use Rattle.nc_protocol.specs.Printed as printed
 use Rattle.nc_print.specs.inner.Runs.{run_length}
 use Rattle.nc_print.proofs.runs.count_run.Given as goal
 

@@ -1,6 +1,6 @@
 use Rattle.std.proofs.Common.{◌≡◌, drop, length, max}
 use Rattle.std.specs.Prelude.{fold}
-use Rattle.nc_model.specs.Printed as printed
+use Rattle.nc_protocol.specs.Printed as printed
 use Rattle.nc_print.proofs.runs.longest.Given as goal
 
 abbrev pub invariant-loop-row : goal.invariant-loop-row

@@ -1,4 +1,4 @@
-use Rattle.nc_model.specs.Printed as printed
+use Rattle.nc_protocol.specs.Printed as printed
 use Rattle.nc_print.proofs.RunLemmas.{is_run}
 use Rattle.nc_print.proofs.runs.run.Goals as goal
 

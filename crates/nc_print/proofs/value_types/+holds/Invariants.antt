@@ -1,6 +1,6 @@
 use Rattle.std.proofs.Common.{◌≡◌, ◌*◌, ◌+◌, drop}
 use Rattle.std.specs.List.{list_any}
-use Rattle.nc_model.specs.ModuleNames as names
+use Rattle.nc_protocol.specs.ModuleNames as names
 use Rattle.nc_print.proofs.value_types.+holds.Given as goal
 
 abbrev pub decreases-any_holds : goal.decreases-any_holds

@@ -1,5 +1,5 @@
 use Rattle.std.proofs.Common.{◌≡◌}
-use Rattle.nc_model.specs.Content as content
+use Rattle.nc_protocol.specs.Content as content
 use Rattle.nc_requests.proofs.content.children.Given as goal
 
 abbrev pub invariant-loop-part : goal.invariant-loop-part

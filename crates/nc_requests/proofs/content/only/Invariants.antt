@@ -1,7 +1,7 @@
 use Rattle.std.proofs.Common.{◌≡◌, ◌++◌, drop}
 use Rattle.std.specs.Option.{option_copied, option_to_list}
-use Rattle.nc_model.specs.Asking as asking
-use Rattle.nc_model.specs.Content as content
+use Rattle.nc_protocol.specs.Asking as asking
+use Rattle.nc_protocol.specs.Content as content
 use Rattle.nc_requests.proofs.content.only.Given as goal
 
 abbrev pub invariant-loop-part : goal.invariant-loop-part

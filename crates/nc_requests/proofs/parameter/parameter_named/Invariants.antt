@@ -1,5 +1,5 @@
 use Rattle.std.proofs.Common.{◌≡◌, map, drop}
-use Rattle.nc_model.specs.Decoded as decoded
+use Rattle.nc_protocol.specs.Decoded as decoded
 use Rattle.nc_requests.specs.inner.Parameters.{means}
 use Rattle.nc_requests.proofs.parameter.parameter_named.Given as goal
 

@@ -1,6 +1,6 @@
 use Rattle.std.proofs.Common.{◌≡◌, List, IfOk, subst, sym}
 use Rattle.nc_message.specs.declared.tree.Elem.{Elem}
-use Rattle.nc_model.specs.Decoded as decoded
+use Rattle.nc_protocol.specs.Decoded as decoded
 use Rattle.nc_requests.proofs.ContentLemmas.{one_alone}
 use Rattle.nc_requests.proofs.request.request_in_one.Goals as goal
 

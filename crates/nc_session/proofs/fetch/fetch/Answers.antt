@@ -1,5 +1,5 @@
 use Rattle.std.proofs.Common.{◌++◌, Option, Ok, subst, arith}
-use Rattle.nc_model.specs.declared.request.Request.{Request}
+use Rattle.nc_protocol.specs.declared.request.Request.{Request}
 use Rattle.nc_session.specs.inner.Turns.{intake, StepsOn}
 use Rattle.nc_session.proofs.Fetching.{waits_none, waits_more, fetches_ask, fetches_end, never_so_long}
 use Rattle.nc_session.proofs.fetch.fetch.Goals as goal

@@ -1,6 +1,6 @@
 use Rattle.std.proofs.Common.{◌++◌, ◌∷◌, [], Err, refl, ap, subst, sym}
 use Rattle.nc_model.specs.declared.desk.DeskFault.{DeskFault}
-use Rattle.nc_model.specs.declared.peer.Peer.{Peer}
+use Rattle.nc_protocol.specs.declared.peer.Peer.{Peer}
 use Rattle.nc_model.specs.declared.event.Event.TheVariants.{Start}
 use Rattle.nc_model.specs.declared.event.Outcome.{Outcome}
 use Rattle.nc_session.specs.inner.Turns.{ComesTo}

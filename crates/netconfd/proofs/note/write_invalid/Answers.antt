@@ -1,5 +1,5 @@
 use Rattle.std.proofs.Common.{◌++◌}
-use Rattle.nc_model.specs.ErrorRows.{error_row}
+use Rattle.nc_protocol.specs.ErrorRows.{error_row}
 use Rattle.netconfd.proofs.Noting.{wrote_front, wrote_more}
 use Rattle.netconfd.specs.Notes as meant
 use Rattle.netconfd.specs.Notes.{told}

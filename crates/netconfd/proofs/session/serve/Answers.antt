@@ -1,4 +1,5 @@
 use Rattle.std.proofs.Common.{arith, ap, refl, ◌∙◌}
+use Rattle.nc_model.proofs.GoodLemmas.{opening_is_good}
 use Rattle.nc_outside.specs.Streams.{streams}
 use Rattle.netconfd.specs.Run.{times}
 use Rattle.netconfd.proofs.Serving.{is_served, unserved}
@@ -7,7 +8,8 @@ use Rattle.netconfd.proofs.session.serve.Goals as goal
 pub returns-in_default : goal.returns-in_default
 returns-in_default g c =
     let now = streams (g.S.Source.left c.args.source.now) (g.S.Source.ends c.args.source.now) (g.S.Source.faults c.args.source.now) (g.K.Sink.taken c.args.sink.now) (g.K.Sink.faults c.args.sink.now) in
-    unserved c.args.setup c.args.peer now (times (g.C.Clock.given c.args.clock) (g.C.Clock.count c.args.clock)) (omega (arith, c.answers-from.ensures))
+    unserved c.args.setup c.args.peer now (times (g.C.Clock.given c.args.clock) (g.C.Clock.count c.args.clock))
+    (opening_is_good c.args.setup.schema c.args.setup.running 0 c.requires.proper c.requires.running c.requires.valid) (omega (arith, c.answers-from.ensures))
 
 pub returns : goal.returns
 returns g c =
@@ -19,7 +21,8 @@ returns g c =
     (times (g.C.Clock.given c.args.clock) (g.C.Clock.count c.args.clock))
     (times (g.C.Clock.given c.clock_of.result) (g.C.Clock.count c.clock_of.result))
     c.serve_session-end.result
+    (opening_is_good c.args.setup.schema c.args.setup.running 0 c.requires.proper c.requires.running c.requires.valid)
     (c.deref.ensures ∙ c.in-Ok.ensures.schema)
-    c.in-Ok.ensures.begun.0 c.in-Ok.ensures.begun.1 refl c.answers-from.ensures (omega (arith, c.answers-from.ensures))
+    c.in-Ok.ensures.begun.0 c.in-Ok.ensures.begun.1 refl c.answers-from.ensures refl (omega (arith, c.answers-from.ensures))
     (ap (λ k. g.C.Clock.given k) c.clock_of.ensures.clock) (ap (λ k. g.C.Clock.count k) c.clock_of.ensures.clock) c.clock_of.ensures.sure
     c.serve_session-end.ensures

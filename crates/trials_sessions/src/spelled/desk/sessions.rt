@@ -1,13 +1,12 @@
 //! Whole sessions at the small desk, with what they come to as text: how they end, how many Ends are entered,
 //! and what is written.
 mod ends_tests;
-mod long_tests;
 
 use super::{SmallDesk, Trouble};
-use crate::spelled::{bytes_of, put, spelled};
-use nc_model::Peer;
-use nc_names::{Boxed, Bytes, Many, Module, PIECE_LIMIT, Text};
+use crate::spelled::{put, spelled};
+use nc_names::{Boxed, Bytes, Many, PIECE_LIMIT, Text};
 use nc_outside::{MemSink, MemSource};
+use nc_protocol::Peer;
 use nc_schema::Schema;
 use nc_session::{SessionEnd, serve_session};
 use std::alloc::Global;
@@ -32,38 +31,14 @@ const NONE: Faults = Faults {
     bad_write: 0,
 };
 
-fn text(rt: &impl Abort, alloc: Global, text: &str) -> Text {
-    Text::from_text(alloc, text).expect(rt, "memory")
-}
-
-// The module `ex` with two features.
-fn served(rt: &impl Abort, alloc: Global) -> Module {
-    let mut features = Many::new(alloc);
-    features.push(text(rt, alloc, "a")).expect(rt, "memory");
-    features.push(text(rt, alloc, "b")).expect(rt, "memory");
-    Module {
-        name: text(rt, alloc, "ex"),
-        space: text(rt, alloc, "urn:ex"),
-        revision: text(rt, alloc, "2024-01-01"),
-        features,
-    }
-}
-
-fn put_module(rt: &impl Abort, alloc: Global, schema: &mut Schema) {
-    assert!(rt; schema.modules().len() < 1000);
-    schema.add_module(served(rt, alloc)).expect(rt, "memory");
-}
-
-// The schema, on the heap: what lets it go there is proved once.
+// A schema without modules, on the heap: what lets it go there is proved once.
 fn schema(rt: &impl Abort, alloc: Global) -> Boxed<Schema> {
-    let mut schema = Schema::new(alloc);
-    put_module(rt, alloc, &mut schema);
-    Boxed::new(alloc, schema).expect(rt, "memory")
+    Boxed::new(alloc, Schema::new(alloc)).expect(rt, "memory")
 }
 
 fn peer(rt: &impl Abort, alloc: Global) -> Peer {
     Peer {
-        user: text(rt, alloc, "admin"),
+        user: Text::from_text(alloc, "admin").expect(rt, "memory"),
         groups: Many::new(alloc),
         recovery: true,
     }
@@ -76,7 +51,7 @@ fn only(rt: &impl Abort, alloc: Global, number: u64) -> Many<u64> {
 }
 
 fn source(rt: &impl Abort, alloc: Global, input: &str, piece: usize, bad_read: u64) -> MemSource {
-    let bytes: Bytes = bytes_of(rt, alloc, input);
+    let bytes = Bytes::from_slice(alloc, input.as_bytes()).expect(rt, "memory");
     MemSource::new(bytes, piece.max(1), only(rt, alloc, bad_read))
 }
 
@@ -113,50 +88,36 @@ fn serve(
     came(rt, alloc, end, desk.ends, told(sink.taken()))
 }
 
-// What is wanted of a session: how it ends, how many Ends are entered, and what is written, spelled short.
-#[derive(Clone, Copy)]
-struct Wanted<'a> {
-    end: SessionEnd,
-    ends: u32,
-    written: &'a str,
-}
-
-fn wanted_text(rt: &impl Abort, alloc: Global, wanted: Wanted<'_>) -> String {
-    let written = spelled(rt, alloc, wanted.written);
-    came(rt, alloc, wanted.end, wanted.ends, written.as_str())
-}
-
 // Looks whether what a case comes to is what is wanted.
 fn is_same(rt: &impl Abort, case: &str, piece: usize, found: &str, wanted: &str) {
     assert!(rt; found == wanted, "{case} in pieces of {piece}: {found}");
 }
 
-// Looks whether a session over this input, spelled short, comes to what is wanted.
-fn comes_to(
-    rt: &impl Abort,
-    alloc: Global,
-    schema: &Schema,
-    short: &str,
-    piece: usize,
-    faults: Faults,
-    wanted: Wanted<'_>,
-) {
-    let input = spelled(rt, alloc, short);
-    let found = serve(rt, alloc, schema, input.as_str(), piece, faults);
-    let wanted = wanted_text(rt, alloc, wanted);
-    is_same(rt, short, piece, found.as_str(), wanted.as_str());
+// What goes wrong in a session, its input and what is written, spelled short, how it ends, and how many Ends
+// are entered.
+type Case = (Faults, &'static str, &'static str, SessionEnd, u32);
+
+// Looks whether a session comes to what is wanted.
+fn comes_to(rt: &impl Abort, alloc: Global, schema: &Schema, piece: usize, case: Case) {
+    let (faults, input, written, end, ends) = case;
+    let bytes = spelled(rt, alloc, input);
+    let found = serve(rt, alloc, schema, bytes.as_str(), piece, faults);
+    let written = spelled(rt, alloc, written);
+    let wanted = came(rt, alloc, end, ends, written.as_str());
+    is_same(rt, input, piece, found.as_str(), wanted.as_str());
 }
 
-// Looks whether it does with pieces of each size.
-fn comes_to_in_pieces(
-    rt: &impl Abort,
-    alloc: Global,
-    schema: &Schema,
-    short: &str,
-    faults: Faults,
-    wanted: Wanted<'_>,
-) {
+// Looks whether each session does, with pieces of this size.
+fn each_comes_to(rt: &impl Abort, alloc: Global, piece: usize, cases: &[Case]) {
+    let schema = schema(rt, alloc);
+    for case in cases {
+        comes_to(rt, alloc, schema.get(), piece, *case);
+    }
+}
+
+// Looks whether each session does, with pieces of each size.
+fn each_comes_to_in_pieces(rt: &impl Abort, alloc: Global, cases: &[Case]) {
     for piece in PIECES {
-        comes_to(rt, alloc, schema, short, *piece, faults, wanted);
+        each_comes_to(rt, alloc, *piece, cases);
     }
 }

@@ -11,10 +11,14 @@ returns-then-is_some c =
 
 pub returns-then-takes_away : goal.returns-then-takes_away
 returns-then-takes_away c =
-    let none : space_of c.args.prefix.now c.args.self.now.own ≡ None = sym c.own-own.ensures ∙ mapped_none (λ x. x.now) c.own-own.result (sym c.is_some.ensures ∙ c.if-is_some.false) in
+    let none : space_of c.args.prefix.now c.args.self.now.own ≡ None =
+    sym c.own-own.ensures
+    ∙ mapped_none (λ x. x.now) c.own-own.result (sym c.is_some.ensures ∙ c.if-is_some.false) in
     taken_away c.args.prefix.now c.args.self.now none (sym c.takes_away.ensures ∙ c.if-takes_away.true)
 
 pub returns : goal.returns
 returns c =
-    let none : space_of c.args.prefix.now c.args.self.now.own ≡ None = sym c.own-own.ensures ∙ mapped_none (λ x. x.now) c.own-own.result (sym c.is_some.ensures ∙ c.if-is_some.false) in
+    let none : space_of c.args.prefix.now c.args.self.now.own ≡ None =
+    sym c.own-own.ensures
+    ∙ mapped_none (λ x. x.now) c.own-own.result (sym c.is_some.ensures ∙ c.if-is_some.false) in
     left_alone c.args.prefix.now c.args.self.now none (sym c.takes_away.ensures ∙ c.if-takes_away.false)

@@ -9,5 +9,6 @@ returns c =
     subst P c.in_ok-copy.ensures (
       c.in_ok-added.ensures.added,
       λ other.
-          c.in_ok-added.ensures.updates.0 other ∙ ap (λ t. cond t true (has c.args.self.now.seen other)) (is_eq-slice_cmp c.in_ok-copy.field-0 other),
+          c.in_ok-added.ensures.updates.0 other
+          ∙ ap (λ t. cond t true (has c.args.self.now.seen other)) (is_eq-slice_cmp c.in_ok-copy.field-0 other),
     )

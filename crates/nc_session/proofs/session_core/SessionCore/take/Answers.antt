@@ -1,5 +1,5 @@
 use Rattle.std.proofs.Common.{List, ℕ, Ok, Err, subst, Result}
-use Rattle.nc_model.specs.declared.request.Request.{Request}
+use Rattle.nc_protocol.specs.declared.request.Request.{Request}
 use Rattle.nc_session.specs.declared.end.BadMessage.{BadMessage}
 use Rattle.nc_session.specs.declared.end.SessionEnd.TheVariants.{Malformed}
 use Rattle.nc_session.specs.Asks.{mode_of}

@@ -1,154 +1,209 @@
 //! How sessions end, whether their End is entered, and what they write.
-use super::{Faults, NONE, Trouble, Wanted, comes_to, comes_to_in_pieces, schema};
+use super::{Case, Faults, NONE, Trouble, each_comes_to, each_comes_to_in_pieces};
 use nc_message::Why;
 use nc_names::PIECE_LIMIT;
-use nc_schema::Schema;
 use nc_session::{HelloFault, SessionEnd};
-use std::alloc::Global;
-use std::process::Abort;
 
-// Looks whether sessions of which nothing fails come to what is wanted. A row is the input, what is written,
-// the end, and how many Ends are entered.
-fn each_ends_so(rt: &impl Abort, alloc: Global, cases: &[(&str, &str, SessionEnd, u32)]) {
-    let schema = schema(rt, alloc);
-    for (input, written, end, ends) in cases {
-        let wanted = Wanted {
-            end: *end,
-            ends: *ends,
-            written,
-        };
-        comes_to_in_pieces(rt, alloc, schema.get(), input, NONE, wanted);
-    }
-}
-
-// Sessions of both framings.
-const WHOLE: &[(&str, &str, SessionEnd, u32)] = &[
+// Sessions of both framings; input that ends, also within a message; hellos, each with what it lacks; faults
+// of the framing, where a client's hello of base:1.1 takes 155 bytes with its mark; and messages that are no
+// request, which end a session of base:1.0 and are answered in one of base:1.1.
+const SESSIONS: &[Case] = &[
     (
-        "^+$;(1}_);(2}<close-session/>);",
-        "%{1}<data/>[;{2}<ok/>[;",
+        NONE,
+        "^+$;(1}_);(2}<close-session/>);(3}_);",
+        "%[;[;",
         SessionEnd::Closed,
         0,
     ),
     (
-        "^*$;~90|(1}<close-session/>)!",
-        "%~91|{1}<ok/>[!",
+        NONE,
+        "^*$;~126|(1}_)!~90|(2}<close-session/>)!",
+        "%~76|[!~76|[!",
         SessionEnd::Closed,
         0,
     ),
     (
+        NONE,
         "^+*$;~4|<rpc~88| @ message-id=\"1\"><discard-changes/>)!~90|(2}<close-session/>)!",
-        "%~91|{1}<ok/>[!~91|{2}<ok/>[!",
+        "%~76|[!~76|[!",
         SessionEnd::Closed,
         0,
     ),
     (
+        NONE,
         "^<capability> urn:ietf:params:netconf:base:1.1|</capability>+$;~90|(1}<close-session/>)!",
-        "%~91|{1}<ok/>[!",
+        "%~76|[!",
         SessionEnd::Closed,
         0,
     ),
     (
-        "^+$;(1}<close-session/>);(2}_);",
-        "%{1}<ok/>[;",
-        SessionEnd::Closed,
-        0,
-    ),
-    (
+        NONE,
         "^+$;<rpc @ a=\"7\"><get/></rpc>;(1}<discard-changes/>);",
-        "%<rpc-reply @ a=\"7\"><rpc-error><error-type>rpc</error-type>\
-         <error-tag>missing-attribute</error-tag><error-severity>error</error-severity>\
-         <error-info><bad-attribute>message-id</bad-attribute><bad-element>rpc</bad-element>\
-         </error-info></rpc-error>[;{1}<ok/>[;",
+        "%[;[;",
         SessionEnd::InputEnded,
         1,
     ),
     (
-        "^*$;~277|<?xml version=\"1.0\" encoding=\"UTF-8\"?>\
-         <nc:rpc xmlns:nc=\"urn:ietf:params:xml:ns:netconf:base:1.0\" message-id=\"urn:uuid:1\">\
-         <nc:edit-config><nc:target><nc:candidate/></nc:target><nc:config><top xmlns=\"urn:ex\">\
-         <port><name>a</name></port></top></nc:config></nc:edit-config></nc:rpc>!\
-         ~83|(2}<commit/>)!~126|(3}_)!",
-        "%~100|<rpc-reply @ message-id=\"urn:uuid:1\"><ok/>[!~91|{2}<ok/>[!\
-         ~152|{3}<data><top xmlns=\"urn:ex\"><port><name>a</name></port></top></data>[!",
+        NONE,
+        "^*$;~5|<rpc>!~90|(1}<close-session/>)!",
+        "%~76|[!~76|[!",
+        SessionEnd::Closed,
+        0,
+    ),
+    (
+        NONE,
+        "^*$;~4|<a/>!~90|(1}<close-session/>)!",
+        "%~76|[!~76|[!",
+        SessionEnd::Closed,
+        0,
+    ),
+    (NONE, "", "%", SessionEnd::InputEnded, 1),
+    (NONE, "^+", "%", SessionEnd::InputEnded, 1),
+    (NONE, "^+$]]>]]", "%", SessionEnd::InputEnded, 1),
+    (NONE, "^+$;", "%", SessionEnd::InputEnded, 1),
+    (NONE, "^+$;(1}_);(2}_)]]>", "%[;", SessionEnd::InputEnded, 1),
+    (NONE, "^*$;|", "%", SessionEnd::InputEnded, 1),
+    (
+        NONE,
+        "^*$;~90|(1}<close-session/>)~",
+        "%",
         SessionEnd::InputEnded,
         1,
     ),
-];
-
-#[test]
-fn whole_sessions_are_answered(rt: HostRuntime) {
-    each_ends_so(&rt, rt.alloc(), WHOLE);
-}
-
-// Hellos, each with what it lacks.
-const HELLOS: &[(&str, HelloFault)] = &[
-    ("<ping;", HelloFault::NotRead),
-    (";", HelloFault::NotRead),
-    ("(1}_);", HelloFault::NotHello),
-    ("<hello/>;", HelloFault::NotHello),
-    ("<hello @/>;", HelloFault::NotHello),
-    ("^<capability><a/></capability>$;", HelloFault::NotHello),
     (
+        NONE,
+        "<ping;",
+        "%",
+        SessionEnd::BadHello {
+            why: HelloFault::NotRead,
+        },
+        1,
+    ),
+    (
+        NONE,
+        ";",
+        "%",
+        SessionEnd::BadHello {
+            why: HelloFault::NotRead,
+        },
+        1,
+    ),
+    (
+        NONE,
+        "(1}_);",
+        "%",
+        SessionEnd::BadHello {
+            why: HelloFault::NotHello,
+        },
+        1,
+    ),
+    (
+        NONE,
+        "<hello/>;",
+        "%",
+        SessionEnd::BadHello {
+            why: HelloFault::NotHello,
+        },
+        1,
+    ),
+    (
+        NONE,
+        "<hello @/>;",
+        "%",
+        SessionEnd::BadHello {
+            why: HelloFault::NotHello,
+        },
+        1,
+    ),
+    (
+        NONE,
+        "^<capability><a/></capability>$;",
+        "%",
+        SessionEnd::BadHello {
+            why: HelloFault::NotHello,
+        },
+        1,
+    ),
+    (
+        NONE,
         "<hello @><capabilities>+</capabilities><capabilities>+$;",
-        HelloFault::NotHello,
+        "%",
+        SessionEnd::BadHello {
+            why: HelloFault::NotHello,
+        },
+        1,
     ),
     (
+        NONE,
         "<hello @><capabilities>+</capabilities><session-id>1</session-id></hello>;",
-        HelloFault::HasSessionId,
+        "%",
+        SessionEnd::BadHello {
+            why: HelloFault::HasSessionId,
+        },
+        1,
     ),
     (
+        NONE,
         "<hello @><session-id>1</session-id><capabilities>$;",
-        HelloFault::HasSessionId,
+        "%",
+        SessionEnd::BadHello {
+            why: HelloFault::HasSessionId,
+        },
+        1,
     ),
-    ("^$;", HelloFault::NoBase),
     (
+        NONE,
+        "^$;",
+        "%",
+        SessionEnd::BadHello {
+            why: HelloFault::NoBase,
+        },
+        1,
+    ),
+    (
+        NONE,
         "^<capability>urn:ietf:params:netconf:base:1.2</capability>$;",
-        HelloFault::NoBase,
+        "%",
+        SessionEnd::BadHello {
+            why: HelloFault::NoBase,
+        },
+        1,
     ),
-];
-
-fn each_has_hello_fault(rt: &impl Abort, alloc: Global, schema: &Schema) {
-    for (input, why) in HELLOS {
-        let wanted = Wanted {
-            end: SessionEnd::BadHello { why: *why },
-            ends: 1,
-            written: "%",
-        };
-        comes_to_in_pieces(rt, alloc, schema, input, NONE, wanted);
-    }
-}
-
-#[test]
-fn each_hello_fault_is_told_apart(rt: HostRuntime) {
-    let schema = schema(&rt, rt.alloc());
-    each_has_hello_fault(&rt, rt.alloc(), schema.get());
-}
-
-// Faults of the framing. The client's hello of base:1.1 with its mark takes 155 bytes.
-const FRAMES: &[(&str, &str, SessionEnd, u32)] = &[
-    ("^*$;~4294967295|", "%", SessionEnd::TooBig { at: 167 }, 1),
-    ("^*$;~4194305|", "%", SessionEnd::TooBig { at: 164 }, 1),
-    ("^*$;~4294967296", "%", SessionEnd::BadFrame { at: 166 }, 1),
-    ("^*$;~01", "%", SessionEnd::BadFrame { at: 157 }, 1),
-    ("^*$;~0", "%", SessionEnd::BadFrame { at: 157 }, 1),
-    ("^*$;~#", "%", SessionEnd::BadFrame { at: 157 }, 1),
-    ("^*$;(1}_);", "%", SessionEnd::BadFrame { at: 155 }, 1),
     (
+        NONE,
+        "^*$;~4294967295|",
+        "%",
+        SessionEnd::TooBig { at: 167 },
+        1,
+    ),
+    (
+        NONE,
+        "^*$;~4194305|",
+        "%",
+        SessionEnd::TooBig { at: 164 },
+        1,
+    ),
+    (
+        NONE,
+        "^*$;~4294967296",
+        "%",
+        SessionEnd::BadFrame { at: 166 },
+        1,
+    ),
+    (NONE, "^*$;~01", "%", SessionEnd::BadFrame { at: 157 }, 1),
+    (NONE, "^*$;~0", "%", SessionEnd::BadFrame { at: 157 }, 1),
+    (NONE, "^*$;~#", "%", SessionEnd::BadFrame { at: 157 }, 1),
+    (NONE, "^*$;x", "%", SessionEnd::BadFrame { at: 155 }, 1),
+    (NONE, "^*$;(1}_);", "%", SessionEnd::BadFrame { at: 155 }, 1),
+    (
+        NONE,
         "^*$;~92|(1}<discard-changes/>)!~1|<x",
-        "%~91|{1}<ok/>[!",
+        "%~76|[!",
         SessionEnd::BadFrame { at: 261 },
         1,
     ),
-];
-
-#[test]
-fn faults_of_frames_have_their_places(rt: HostRuntime) {
-    each_ends_so(&rt, rt.alloc(), FRAMES);
-}
-
-// Messages that are no request: they end a session of base:1.0, and are answered in one of base:1.1.
-const NO_REQUESTS: &[(&str, &str, SessionEnd, u32)] = &[
     (
+        NONE,
         "^+$;<rpc>;",
         "%",
         SessionEnd::Malformed {
@@ -158,6 +213,7 @@ const NO_REQUESTS: &[(&str, &str, SessionEnd, u32)] = &[
         1,
     ),
     (
+        NONE,
         "^+$;<rpc><a></rpc>;(1}_);",
         "%",
         SessionEnd::Malformed {
@@ -167,6 +223,7 @@ const NO_REQUESTS: &[(&str, &str, SessionEnd, u32)] = &[
         1,
     ),
     (
+        NONE,
         "^+$;<&DOCTYPE a><a/>;",
         "%",
         SessionEnd::Malformed {
@@ -176,6 +233,7 @@ const NO_REQUESTS: &[(&str, &str, SessionEnd, u32)] = &[
         1,
     ),
     (
+        NONE,
         "^+$;<a><p:b/></a>;",
         "%",
         SessionEnd::Malformed {
@@ -185,6 +243,7 @@ const NO_REQUESTS: &[(&str, &str, SessionEnd, u32)] = &[
         1,
     ),
     (
+        NONE,
         "^+$;<hello @/>;",
         "%",
         SessionEnd::Malformed {
@@ -194,6 +253,7 @@ const NO_REQUESTS: &[(&str, &str, SessionEnd, u32)] = &[
         1,
     ),
     (
+        NONE,
         "^+$;<rpc message-id=\"1\"><get/></rpc>;",
         "%",
         SessionEnd::Malformed {
@@ -202,136 +262,197 @@ const NO_REQUESTS: &[(&str, &str, SessionEnd, u32)] = &[
         },
         1,
     ),
-    (
-        "^*$;~5|<rpc>!~90|(1}<close-session/>)!",
-        "%~200|<rpc-reply @>`[!~91|{1}<ok/>[!",
-        SessionEnd::Closed,
-        0,
-    ),
-    (
-        "^*$;~4|<a/>!~90|(1}<close-session/>)!",
-        "%~200|<rpc-reply @>`[!~91|{1}<ok/>[!",
-        SessionEnd::Closed,
-        0,
-    ),
 ];
 
 #[test]
-fn messages_that_are_no_request(rt: HostRuntime) {
-    each_ends_so(&rt, rt.alloc(), NO_REQUESTS);
+fn sessions_end_alike_however_their_bytes_come(rt: HostRuntime) {
+    each_comes_to_in_pieces(&rt, rt.alloc(), SESSIONS);
 }
 
-// Input that ends, also within a message.
-const SHORT: &[(&str, &str, SessionEnd, u32)] = &[
-    ("", "%", SessionEnd::InputEnded, 1),
-    ("^+", "%", SessionEnd::InputEnded, 1),
-    ("^+$]]>]]", "%", SessionEnd::InputEnded, 1),
-    ("^+$;", "%", SessionEnd::InputEnded, 1),
+// A desk that is full, whose numbers are spent, that finds no memory, or whose session is killed.
+const TROUBLES: &[Case] = &[
     (
-        "^+$;(1}_);(2}_)]]>",
-        "%{1}<data/>[;",
-        SessionEnd::InputEnded,
-        1,
+        Faults {
+            trouble: Trouble::Full,
+            ..NONE
+        },
+        "^+$;(1}_);(2}_);",
+        "",
+        SessionEnd::Full { live: 64, last: 70 },
+        0,
     ),
-    ("^*$;|", "%", SessionEnd::InputEnded, 1),
     (
-        "^*$;~90|(1}<close-session/>)~",
+        Faults {
+            trouble: Trouble::Spent { call: 1 },
+            ..NONE
+        },
+        "^+$;(1}_);(2}_);",
+        "",
+        SessionEnd::Spent { ticket: 9 },
+        0,
+    ),
+    (
+        Faults {
+            trouble: Trouble::Spent { call: 2 },
+            ..NONE
+        },
+        "^+$;(1}_);(2}_);",
         "%",
+        SessionEnd::Spent { ticket: 9 },
+        0,
+    ),
+    (
+        Faults {
+            trouble: Trouble::Spent { call: 4 },
+            ..NONE
+        },
+        "^+$;(1}_);(2}_);",
+        "%[;[;",
         SessionEnd::InputEnded,
+        0,
+    ),
+    (
+        Faults {
+            trouble: Trouble::Memory { call: 1 },
+            ..NONE
+        },
+        "^+$;(1}_);(2}_);",
+        "",
+        SessionEnd::Memory,
+        0,
+    ),
+    (
+        Faults {
+            trouble: Trouble::Memory { call: 2 },
+            ..NONE
+        },
+        "^+$;(1}_);(2}_);",
+        "%",
+        SessionEnd::Memory,
         1,
     ),
-];
-
-#[test]
-fn input_ends_anywhere(rt: HostRuntime) {
-    each_ends_so(&rt, rt.alloc(), SHORT);
-}
-
-const BOTH: &str = "%{1}<data/>[;{2}<data/>[;";
-
-const FULL: SessionEnd = SessionEnd::Full { live: 64, last: 70 };
-
-const SPENT: SessionEnd = SessionEnd::Spent { ticket: 9 };
-
-// The trouble of the desk, what is written, the end, and how many Ends are entered.
-const TROUBLES: &[(Trouble, &str, SessionEnd, u32)] = &[
-    (Trouble::Full, "", FULL, 0),
-    (Trouble::Spent { call: 1 }, "", SPENT, 0),
-    (Trouble::Spent { call: 2 }, "%", SPENT, 0),
-    (Trouble::Spent { call: 4 }, BOTH, SessionEnd::InputEnded, 0),
-    (Trouble::Memory { call: 1 }, "", SessionEnd::Memory, 0),
-    (Trouble::Memory { call: 2 }, "%", SessionEnd::Memory, 1),
-    (Trouble::Dead { call: 2 }, "%", SessionEnd::Killed, 0),
     (
-        Trouble::Dead { call: 3 },
-        "%{1}<data/>[;",
+        Faults {
+            trouble: Trouble::Dead { call: 2 },
+            ..NONE
+        },
+        "^+$;(1}_);(2}_);",
+        "%",
         SessionEnd::Killed,
         0,
     ),
-    (Trouble::Dead { call: 4 }, BOTH, SessionEnd::Killed, 1),
+    (
+        Faults {
+            trouble: Trouble::Dead { call: 3 },
+            ..NONE
+        },
+        "^+$;(1}_);(2}_);",
+        "%[;",
+        SessionEnd::Killed,
+        0,
+    ),
+    (
+        Faults {
+            trouble: Trouble::Dead { call: 4 },
+            ..NONE
+        },
+        "^+$;(1}_);(2}_);",
+        "%[;[;",
+        SessionEnd::Killed,
+        1,
+    ),
 ];
-
-fn each_trouble(rt: &impl Abort, alloc: Global, schema: &Schema) {
-    for (trouble, written, end, ends) in TROUBLES {
-        let faults = Faults {
-            trouble: *trouble,
-            bad_read: 0,
-            bad_write: 0,
-        };
-        let wanted = Wanted {
-            end: *end,
-            ends: *ends,
-            written,
-        };
-        comes_to_in_pieces(rt, alloc, schema, "^+$;(1}_);(2}_);", faults, wanted);
-    }
-}
 
 #[test]
 fn the_desk_ends_a_session(rt: HostRuntime) {
-    let schema = schema(&rt, rt.alloc());
-    each_trouble(&rt, rt.alloc(), schema.get());
+    each_comes_to_in_pieces(&rt, rt.alloc(), TROUBLES);
 }
 
-const ONE: &str = "^+$;(1}_);";
-
-const TWO: &str = "^*$;~126|(1}_)!~90|(2}<close-session/>)!";
-
-const READ: SessionEnd = SessionEnd::ReadFault;
-
-const WRITE: SessionEnd = SessionEnd::WriteFault;
-
-// The input, the numbers of the read and of the write that fail, what is written, the end, and how many Ends
-// are entered. What is read comes in one piece, so the second read finds the end.
-const FAILURES: &[(&str, u64, u64, &str, SessionEnd, u32)] = &[
-    (ONE, 1, 0, "%", READ, 1),
-    (ONE, 2, 0, "%{1}<data/>[;", READ, 1),
-    (TWO, 0, 1, "", WRITE, 1),
-    (TWO, 0, 2, "%", WRITE, 1),
-    (TWO, 0, 3, "%~93|", WRITE, 1),
-    (TWO, 0, 4, "%~93|{1}<data/>[", WRITE, 1),
-    (TWO, 0, 5, "%~93|{1}<data/>[!", WRITE, 0),
-    (TWO, 0, 7, "%~93|{1}<data/>[!~91|{2}<ok/>[", WRITE, 0),
+// A read or a write that fails. What is read comes in one piece, so the second read finds the end.
+const FAILURES: &[Case] = &[
+    (
+        Faults {
+            bad_read: 1,
+            ..NONE
+        },
+        "^+$;(1}_);",
+        "%",
+        SessionEnd::ReadFault,
+        1,
+    ),
+    (
+        Faults {
+            bad_read: 2,
+            ..NONE
+        },
+        "^+$;(1}_);",
+        "%[;",
+        SessionEnd::ReadFault,
+        1,
+    ),
+    (
+        Faults {
+            bad_write: 1,
+            ..NONE
+        },
+        "^*$;~126|(1}_)!~90|(2}<close-session/>)!",
+        "",
+        SessionEnd::WriteFault,
+        1,
+    ),
+    (
+        Faults {
+            bad_write: 2,
+            ..NONE
+        },
+        "^*$;~126|(1}_)!~90|(2}<close-session/>)!",
+        "%",
+        SessionEnd::WriteFault,
+        1,
+    ),
+    (
+        Faults {
+            bad_write: 3,
+            ..NONE
+        },
+        "^*$;~126|(1}_)!~90|(2}<close-session/>)!",
+        "%~76|",
+        SessionEnd::WriteFault,
+        1,
+    ),
+    (
+        Faults {
+            bad_write: 4,
+            ..NONE
+        },
+        "^*$;~126|(1}_)!~90|(2}<close-session/>)!",
+        "%~76|[",
+        SessionEnd::WriteFault,
+        1,
+    ),
+    (
+        Faults {
+            bad_write: 5,
+            ..NONE
+        },
+        "^*$;~126|(1}_)!~90|(2}<close-session/>)!",
+        "%~76|[!",
+        SessionEnd::WriteFault,
+        0,
+    ),
+    (
+        Faults {
+            bad_write: 7,
+            ..NONE
+        },
+        "^*$;~126|(1}_)!~90|(2}<close-session/>)!",
+        "%~76|[!~76|[",
+        SessionEnd::WriteFault,
+        0,
+    ),
 ];
-
-fn each_failure(rt: &impl Abort, alloc: Global, schema: &Schema) {
-    for (input, bad_read, bad_write, written, end, ends) in FAILURES {
-        let faults = Faults {
-            trouble: Trouble::Nothing,
-            bad_read: *bad_read,
-            bad_write: *bad_write,
-        };
-        let wanted = Wanted {
-            end: *end,
-            ends: *ends,
-            written,
-        };
-        comes_to(rt, alloc, schema, input, PIECE_LIMIT, faults, wanted);
-    }
-}
 
 #[test]
 fn a_failed_call_ends_the_session(rt: HostRuntime) {
-    let schema = schema(&rt, rt.alloc());
-    each_failure(&rt, rt.alloc(), schema.get());
+    each_comes_to(&rt, rt.alloc(), PIECE_LIMIT, FAILURES);
 }

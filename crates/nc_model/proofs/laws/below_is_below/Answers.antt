@@ -1,5 +1,0 @@
-use Rattle.nc_model.proofs.PlaceLemmas as lemmas
-use Rattle.nc_model.proofs.laws.below_is_below.Goals as goal
-
-pub returns : goal.returns
-returns c = lemmas.below_is_below

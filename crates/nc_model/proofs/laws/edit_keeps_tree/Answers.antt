@@ -1,5 +1,0 @@
-use Rattle.nc_model.proofs.EditLemmas as lemmas
-use Rattle.nc_model.proofs.laws.edit_keeps_tree.Goals as goal
-
-pub returns : goal.returns
-returns c = lemmas.edit_keeps_tree

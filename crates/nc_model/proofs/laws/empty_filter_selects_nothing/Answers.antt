@@ -1,5 +1,0 @@
-use Rattle.nc_model.proofs.FilterLemmas as lemmas
-use Rattle.nc_model.proofs.laws.empty_filter_selects_nothing.Goals as goal
-
-pub returns : goal.returns
-returns c = lemmas.empty_filter_selects_nothing

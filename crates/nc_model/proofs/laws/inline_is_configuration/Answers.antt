@@ -1,5 +1,0 @@
-use Rattle.nc_model.proofs.PayloadLaws as lemmas
-use Rattle.nc_model.proofs.laws.inline_is_configuration.Goals as goal
-
-pub returns : goal.returns
-returns c = lemmas.inline_is_configuration

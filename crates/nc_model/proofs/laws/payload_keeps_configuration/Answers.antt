@@ -1,5 +1,0 @@
-use Rattle.nc_model.proofs.PayloadLaws as lemmas
-use Rattle.nc_model.proofs.laws.payload_keeps_configuration.Goals as goal
-
-pub returns : goal.returns
-returns c = lemmas.payload_keeps_configuration

@@ -1,5 +1,0 @@
-use Rattle.nc_model.proofs.PlaceLemmas as lemmas
-use Rattle.nc_model.proofs.laws.places_are_in_order.Goals as goal
-
-pub returns : goal.returns
-returns c = lemmas.places_are_in_order

@@ -1,5 +1,0 @@
-use Rattle.nc_model.proofs.FilterLemmas as lemmas
-use Rattle.nc_model.proofs.laws.selection_node_selects_subtree.Goals as goal
-
-pub returns : goal.returns
-returns c = lemmas.selection_node_selects_subtree

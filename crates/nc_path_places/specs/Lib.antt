@@ -1,0 +1,4 @@
+pub mod inner
+pub mod Apart
+pub mod Faults
+pub mod Laws

@@ -1,7 +1,0 @@
--- So many signs are the same, and as many as those of the rests.
-use Rattle.std.proofs.Common.{◌≡◌, ◌+◌, drop}
-use Rattle.nc_paths.specs.inner.Candidates.{common}
-use Rattle.nc_paths.proofs.candidates.common.Given as goal
-
-abbrev pub invariant-loop-at : goal.invariant-loop-at
-invariant-loop-at l = l.at + common (drop l.at l.one) (drop l.at l.other) ≡ common l.one l.other

@@ -1,8 +1,0 @@
--- Those among the numbers so far.
-use Rattle.std.proofs.Common.{◌≡◌, filter}
-use Rattle.nc_paths.specs.inner.Candidates.{can_end, numbers}
-use Rattle.nc_paths.specs.inner.Counted.{reading_of}
-use Rattle.nc_paths.proofs.candidates.ends_at.Given as goal
-
-abbrev pub invariant-loop-number : goal.invariant-loop-number
-invariant-loop-number l = l.out ≡ filter (can_end (reading_of l.names) l.above) (numbers l.number)

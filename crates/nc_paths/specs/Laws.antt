@@ -1,8 +1,0 @@
--- What follows from the definitions.
-use Rattle.nc_paths.specs.Apart.{HasKeysApart}
-use Rattle.nc_schema.specs.Proper.{IsProperSchema}
-use Rattle.nc_schema.specs.Tables.{Tables}
-
--- in a schema that modules define no predicate is of two keys
-abbrev pub ProperKeysAreApart : Type 0
-ProperKeysAreApart = (tables : Tables) → IsProperSchema tables → HasKeysApart tables

@@ -1,5 +1,0 @@
-use Rattle.std.proofs.lemmas.Str.Pattern.{strip_suffix_char}
-use Rattle.nc_requests.proofs.white.before_sign.Goals as goal
-
-pub returns : goal.returns
-returns c = strip_suffix_char c.args.sign c.args.text.now c.strip_suffix.result c.strip_suffix.ensures.cases c.requires

@@ -29,10 +29,11 @@ use Rattle.nc_protocol.specs.RequestLaws.{CausesAre}
 use Rattle.nc_model.specs.State.{State, candidate_in_force, expired, is_live}
 use Rattle.nc_model.specs.Step.{CountsFaults, outcome_of, has_failed, has_disk_fault, is_of_disk, is_full, is_done, reaches_disk, appends_record, answer_to}
 use Rattle.nc_model.specs.Verdict.{verdict, verdict_on, operation_refused, asked_verdict, commit_refusal, kept_unless}
+use Rattle.nc_protocol.specs.Asking.{plain_cause}
 use Rattle.nc_protocol.specs.Refusals.{checked, violation_cause}
 use Rattle.nc_model.proofs.KindLemmas.{ErrIs, edits_cause, rows_cause, applied_causes}
 use Rattle.nc_schema.proofs.ViolationLemmas.{violation_kinds}
-use Rattle.nc_model.proofs.VerdictCauses.{asked_is, commit_is, refused_is}
+use Rattle.nc_model.proofs.VerdictCauses.{asked_is, commit_is, refused_is, server_names}
 
 abbrev IsNoFault : Cause → Type 0
 IsNoFault cause = is_of_disk cause.kind ≡ false
@@ -48,6 +49,57 @@ no_fault Done each = refl
 no_fault (Selected rows) each = refl
 no_fault (Locked lock nodes) each = refl
 no_fault (Refused causes) each = none_faults causes each
+
+-- what the server says by itself is of no disk
+no_server_kind : (kind : CauseKind) (count : ℕ) → server_names kind ≡ Some count → is_of_disk kind ≡ false
+no_server_kind Malformed count e = refl
+no_server_kind NoMessageId count e = refl
+no_server_kind NoOperation count e = refl
+no_server_kind TwoOperations count e = refl
+no_server_kind UnknownOperation count e = refl
+no_server_kind ExecDenied count e = refl
+no_server_kind UnknownParameter count e = refl
+no_server_kind RepeatedParameter count e = refl
+no_server_kind MissingParameter count e = refl
+no_server_kind BadParameter count e = refl
+no_server_kind BadFilterType count e = refl
+no_server_kind UnsupportedTarget count e = refl
+no_server_kind LockHeld count e = refl
+no_server_kind LockModified count e = refl
+no_server_kind LockPending count e = refl
+no_server_kind LockPartial count e = refl
+no_server_kind NotHeld count e = refl
+no_server_kind InUseGlobal count e = refl
+no_server_kind InUsePartial count e = refl
+no_server_kind InUsePending count e = refl
+no_server_kind NoPending count e = refl
+no_server_kind BadToken count e = refl
+no_server_kind NotLiveTarget count e = refl
+no_server_kind BadSelect count e = refl
+no_server_kind NoMatch count e = refl
+no_server_kind Limit count e = refl
+no_server_kind UnknownElement count e = refl
+no_server_kind UnknownNamespace count e = refl
+no_server_kind UnknownAttribute count e = refl
+no_server_kind BadAttribute count e = refl
+no_server_kind MissingKey count e = refl
+no_server_kind BadElement count e = refl
+no_server_kind BadValue count e = refl
+no_server_kind Exists count e = refl
+no_server_kind Absent count e = refl
+no_server_kind MissingInstance count e = refl
+no_server_kind DataDenied count e = refl
+no_server_kind Mandatory count e = refl
+no_server_kind MandatoryChoice count e = refl
+no_server_kind TooFew count e = refl
+no_server_kind TooMany count e = refl
+no_server_kind NotUnique count e = refl
+no_server_kind DeadLeafref count e = refl
+no_server_kind DeadInstance count e = refl
+no_server_kind DiskFault count e = cc
+
+no_server : (kind : CauseKind) (names : List (List ℕ)) → server_names kind ≡ Some (length names) → IsNoFault (plain_cause kind names)
+no_server kind names e = no_server_kind kind (length names) e
 
 -- whatever is asked for, its causes are of no disk while the disk does not fail
 module _ (s : State) (n : ℕ) where
@@ -70,21 +122,21 @@ module _ (s : State) (n : ℕ) where
   invalid_is rows = violation_kinds (λ kind. is_of_disk kind ≡ false) refl refl refl refl refl refl refl s.schema rows
 
   commit_none : (confirmed : Bool) (persist_id : Option (List ℕ)) → IfSome (commit_refusal s n confirmed persist_id) IsNoFault
-  commit_none = commit_is IsNoFault s n payload_is inline_is edits_are invalid_is (λ path right. refl) (λ store. refl) refl refl refl refl (λ operation. refl)
+  commit_none = commit_is IsNoFault s n payload_is inline_is edits_are invalid_is (λ path right. refl) no_server (λ operation. refl)
 
   refused_none : (operation : Option Operation) → IfSome (operation_refused s n operation) IsNoFault
-  refused_none = refused_is IsNoFault s n payload_is inline_is edits_are invalid_is (λ path right. refl) (λ store. refl) refl refl refl refl (λ operation. refl)
+  refused_none = refused_is IsNoFault s n payload_is inline_is edits_are invalid_is (λ path right. refl) no_server (λ operation. refl)
 
   asked_none : (asked : Asked) → has_disk_fault (asked_verdict s n asked false) ≡ false
   asked_none asked = no_fault (asked_verdict s n asked false)
-      (asked_is IsNoFault s n payload_is inline_is edits_are invalid_is (λ path right. refl) (λ store. refl) refl refl refl refl (λ operation. refl) asked false (λ e. cc))
+      (asked_is IsNoFault s n payload_is inline_is edits_are invalid_is (λ path right. refl) no_server (λ operation. refl) asked false (λ e. cc))
 
 -- a commit that is answered with a disk fault would have been done
 abbrev WouldBeDone : Bool → Verdict → Type 0
 WouldBeDone confirmed decided = (confirmed ≡ false) × (is_done decided ≡ true)
 
 commit_fails : (s : State) (n : ℕ) (confirmed : Bool) (persist_id : Option (List ℕ)) (found : Option Cause) → commit_refusal s n confirmed persist_id ≡ found →
-    has_disk_fault (checked found (kept_unless true)) ≡ true → WouldBeDone confirmed (checked found (kept_unless false))
+    has_disk_fault (checked found (kept_unless (not confirmed && true))) ≡ true → WouldBeDone confirmed (checked found (kept_unless (not confirmed && false)))
 commit_fails s n confirmed persist_id (Some cause) is failed =
     let none = subst (λ found. IfSome found IsNoFault) is (commit_none s n confirmed persist_id) in
     absurd (apart (sym (ap (λ b. b || false) none) ∙ failed))
@@ -108,24 +160,23 @@ both_are true b e f = f
 both_are false b e f = cc
 
 fault_of : (s : State) (n : ℕ) (asked : Asked) → FaultIsOfCommit s n asked
-fault_of s n (Get filter) failed = not_both _ (asked_none s n (Get filter)) failed
-fault_of s n (GetConfig source filter) failed = not_both _ (asked_none s n (GetConfig source filter)) failed
-fault_of s n (EditConfig target default_operation test on_error config) failed =
-    not_both _ (asked_none s n (EditConfig target default_operation test on_error config)) failed
-fault_of s n (CopyConfig target source) failed = not_both _ (asked_none s n (CopyConfig target source)) failed
-fault_of s n (DeleteConfig target) failed = cc
-fault_of s n (Lock target) failed = cc
-fault_of s n (Unlock target) failed = cc
-fault_of s n CloseSession failed = cc
-fault_of s n (KillSession session) failed = cc
 fault_of s n (Commit confirmed timeout persist persist_id) failed =
     let done = commit_fails s n confirmed persist_id (commit_refusal s n confirmed persist_id) refl failed in
-    both_are (not confirmed) _ (ap not done.0) done.1
-fault_of s n DiscardChanges failed = cc
-fault_of s n (CancelCommit persist_id) failed = cc
-fault_of s n (Validate source) failed = not_both _ (asked_none s n (Validate source)) failed
-fault_of s n (PartialLock selects) failed = cc
-fault_of s n (PartialUnlock lock) failed = cc
+    both_are (not confirmed) (is_done (asked_verdict s n (Commit confirmed timeout persist persist_id) false)) (ap not done.0) done.1
+fault_of s n (Get filter) failed = not_both (has_disk_fault (asked_verdict s n (Get filter) false)) (asked_none s n (Get filter)) failed
+fault_of s n (GetConfig source filter) failed = not_both (has_disk_fault (asked_verdict s n (GetConfig source filter) false)) (asked_none s n (GetConfig source filter)) failed
+fault_of s n (EditConfig target default_operation test on_error config) failed = not_both (has_disk_fault (asked_verdict s n (EditConfig target default_operation test on_error config) false)) (asked_none s n (EditConfig target default_operation test on_error config)) failed
+fault_of s n (CopyConfig target source) failed = not_both (has_disk_fault (asked_verdict s n (CopyConfig target source) false)) (asked_none s n (CopyConfig target source)) failed
+fault_of s n (DeleteConfig target) failed = not_both (has_disk_fault (asked_verdict s n (DeleteConfig target) false)) (asked_none s n (DeleteConfig target)) failed
+fault_of s n (Lock target) failed = not_both (has_disk_fault (asked_verdict s n (Lock target) false)) (asked_none s n (Lock target)) failed
+fault_of s n (Unlock target) failed = not_both (has_disk_fault (asked_verdict s n (Unlock target) false)) (asked_none s n (Unlock target)) failed
+fault_of s n CloseSession failed = not_both (has_disk_fault (asked_verdict s n CloseSession false)) (asked_none s n CloseSession) failed
+fault_of s n (KillSession number) failed = not_both (has_disk_fault (asked_verdict s n (KillSession number) false)) (asked_none s n (KillSession number)) failed
+fault_of s n DiscardChanges failed = not_both (has_disk_fault (asked_verdict s n DiscardChanges false)) (asked_none s n DiscardChanges) failed
+fault_of s n (CancelCommit persist_id) failed = not_both (has_disk_fault (asked_verdict s n (CancelCommit persist_id) false)) (asked_none s n (CancelCommit persist_id)) failed
+fault_of s n (Validate source) failed = not_both (has_disk_fault (asked_verdict s n (Validate source) false)) (asked_none s n (Validate source)) failed
+fault_of s n (PartialLock selects) failed = not_both (has_disk_fault (asked_verdict s n (PartialLock selects) false)) (asked_none s n (PartialLock selects)) failed
+fault_of s n (PartialUnlock id) failed = not_both (has_disk_fault (asked_verdict s n (PartialUnlock id) false)) (asked_none s n (PartialUnlock id)) failed
 
 -- a cause of the reading of a request is of no disk
 no_message : (kind : CauseKind) (count : ℕ) → message_names kind ≡ Some count → is_of_disk kind ≡ false

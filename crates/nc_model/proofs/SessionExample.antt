@@ -26,7 +26,7 @@ use Rattle.nc_protocol.specs.declared.peer.Peer.{Peer}
 use Rattle.nc_protocol.specs.declared.verdict.Verdict.{Verdict}
 use Rattle.nc_protocol.specs.declared.verdict.Verdict.TheVariants.{Done, Refused}
 use Rattle.nc_model.specs.History.{after, IsLegal}
-use Rattle.nc_model.specs.State.{State, opening}
+use Rattle.nc_model.specs.State.{State, no_holders, opening}
 use Rattle.nc_model.specs.Step.{Fits, outcome_of}
 use Rattle.nc_protocol.specs.Reply.{reply_of}
 use Rattle.nc_protocol.specs.declared.request.Request.{Request}
@@ -67,6 +67,10 @@ state running candidate now faults = record {
   now = now;
   last = 1;
   faults = faults;
+  holders = no_holders;
+  partial = [];
+  pending = None;
+  last_lock = 0;
 }
 
 both : List Row

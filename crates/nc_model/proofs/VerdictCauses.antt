@@ -1,9 +1,10 @@
 -- What is so of each cause that may come of a request is so of the causes of its verdict.
-use Rattle.std.proofs.Common.{◌≡◌, ◌++◌, ℕ, Bool, true, false, List, [], ◌∷◌, refl, Option, Some, None, Result, Ok, Err, arith}
-use Rattle.std.specs.Prelude.{not, is_some, option_map, slice_get, IfSome}
+use Rattle.std.proofs.Common.{◌≡◌, ◌++◌, ◌==◌, ◌&&◌, ◌+◌, ℕ, Bool, true, false, List, [], ◌∷◌, length, map, refl, Option, Some, None, Result, Ok, Err, arith}
+use Rattle.std.specs.Prelude.{not, is_some, option_map, option_and_then, slice_get, IfSome, if◌then◌else◌}
 use Rattle.std.specs.List.{All, find}
-use Rattle.std.specs.Option.{option_or, option_to_list}
-use Rattle.nc_names.specs.declared.cause.CauseKind.TheVariants.{UnknownOperation, ExecDenied, UnknownParameter, BadParameter, UnsupportedTarget, BadToken, DataDenied, DiskFault}
+use Rattle.std.specs.Option.{option_map_or, option_or, option_to_list}
+use Rattle.nc_names.specs.declared.cause.CauseKind.{CauseKind}
+use Rattle.nc_names.specs.declared.cause.CauseKind.TheVariants.{UnknownOperation, ExecDenied, UnknownParameter, BadParameter, UnsupportedTarget, LockHeld, LockModified, LockPending, LockPartial, NotHeld, InUseGlobal, InUsePartial, InUsePending, NoPending, BadToken, NotLiveTarget, BadSelect, NoMatch, Limit, DataDenied, DiskFault}
 use Rattle.nc_names.specs.declared.path.Path.{Path}
 use Rattle.nc_names.specs.declared.path.Right.{Right}
 use Rattle.nc_names.specs.declared.path.Right.TheVariants.{Create as MayCreate, Update as MayUpdate, Delete as MayDelete, Exec as MayExec}
@@ -16,29 +17,55 @@ use Rattle.nc_protocol.specs.declared.asked.Asked.TheVariants.{Get, GetConfig, E
 use Rattle.nc_protocol.specs.declared.asked.Default3.{Default3}
 use Rattle.nc_protocol.specs.declared.asked.ErrorOption.{ErrorOption}
 use Rattle.nc_protocol.specs.declared.asked.Operation.{Operation}
+use Rattle.nc_protocol.specs.declared.asked.Select.{Select}
 use Rattle.nc_protocol.specs.declared.asked.TestOption.{TestOption}
 use Rattle.nc_protocol.specs.declared.asked.TestOption.TheVariants.{TestThenSet, Set, TestOnly}
 use Rattle.nc_protocol.specs.declared.changes.Changes.{Changes}
 use Rattle.nc_protocol.specs.declared.datastore.Datastore.{Datastore}
+use Rattle.nc_protocol.specs.declared.datastore.Datastore.TheVariants.{Running, Candidate}
 use Rattle.nc_protocol.specs.declared.datastore.Origin.{Origin}
 use Rattle.nc_protocol.specs.declared.datastore.Origin.TheVariants.{Store, Inline}
 use Rattle.nc_protocol.specs.declared.edit.Edit.{Edit}
 use Rattle.nc_protocol.specs.declared.request.Cause.{Cause}
 use Rattle.nc_protocol.specs.declared.verdict.Verdict.{Verdict}
-use Rattle.nc_protocol.specs.declared.verdict.Verdict.TheVariants.{Done, Selected}
-use Rattle.nc_model.specs.Access.{exec_of, rights_of}
+use Rattle.nc_protocol.specs.declared.verdict.Verdict.TheVariants.{Done, Selected, Locked}
 use Rattle.nc_protocol.specs.Applied.{Applied, applied}
-use Rattle.nc_protocol.specs.Changes.{changes_between}
-use Rattle.nc_protocol.specs.Edited.{cause_at, cause_where, decision_names}
-use Rattle.nc_protocol.specs.Payload.{edits_of, rows_of}
-use Rattle.nc_protocol.specs.RequestLaws.{CausesAre}
-use Rattle.nc_model.specs.State.{State, candidate_in_force}
 use Rattle.nc_protocol.specs.Asking.{plain_cause}
+use Rattle.nc_protocol.specs.Changes.{changes_between}
+use Rattle.nc_protocol.specs.Edited.{cause_at, cause_where, decision_names, first_cause}
+use Rattle.nc_protocol.specs.Payload.{edits_of, rows_of}
 use Rattle.nc_protocol.specs.Refusals.{checked, violation_in, violation_cause, done_unless, result_unless, datastore_name}
-use Rattle.nc_model.specs.Verdict.{operation_refused, is_offered, exec_denied, asked_verdict, unsupported, unsupported_origin, is_source, is_target, is_same_store, stored, shown, edit_verdict, edits_made, made_by, causes_of_test, done_where, copied, unless_denied, rows_copied, changes_denied, denied_among, validated, rows_to_validate, commit_refusal, kept_unless}
-use Rattle.nc_protocol.specs.Words.{source_word, confirmed_word}
+use Rattle.nc_protocol.specs.RequestLaws.{CausesAre}
+use Rattle.nc_protocol.specs.Words.{source_word, confirmed_word, lock_id_word}
+use Rattle.nc_model.specs.Access.{exec_of, rights_of}
+use Rattle.nc_model.specs.State.{State, Pending, NodeLock, candidate_in_force, is_held_by, is_live, last_lock_id, locks_of, locks_some, most_locks}
+use Rattle.nc_model.specs.Verdict.{operation_refused, is_offered, confirms, exec_denied, asked_verdict, unsupported, unsupported_origin, is_source, is_target, is_same_store, is_too_large, stored, shown, edit_verdict, edits_made, edit_checks, made_by, causes_of_test, done_where, copied, copy_checks, unless_denied, rows_copied, changes_denied, denied_among, validated, rows_to_validate, kept_unless, holder_of, global_lock_cause, partial_lock_cause, pending_cause, in_use, in_use_at, in_use_partial, lock_of_other, covers_path, is_candidate, is_running, pending_of_other, partly_locked, lock_checks, lock_refusal, unlock_checks, unlock_refusal, kill_refusal, refused_by, admission, commit_admission, cancel_admission, record_refusal, commit_changes, commit_checks, commit_refusal, cancel_changes, cancel_checks, cancel_refusal, are_selects, is_none_of, nodes_selected, partial_lock_checks, partial_lock_refusal, has_lock, partial_unlock_refusal}
+use Rattle.nc_model.specs.Words.{partial_locks_word, lock_ids_word, record_word}
 use Rattle.nc_model.proofs.KindLemmas.{ErrIs}
 use Rattle.nc_protocol.proofs.ListLemmas.{all_one, all_append}
+use Rattle.nc_model.proofs.SessionLemmas.{Each, first_is, where_is}
+
+-- the causes that the server gives by itself, about no data node, and how many names each has
+abbrev pub server_names : CauseKind → Option ℕ
+server_names UnknownOperation = Some 0
+server_names UnknownParameter = Some 1
+server_names BadParameter = Some 1
+server_names UnsupportedTarget = Some 1
+server_names LockHeld = Some 2
+server_names LockModified = Some 0
+server_names LockPending = Some 1
+server_names LockPartial = Some 2
+server_names NotHeld = Some 1
+server_names InUseGlobal = Some 2
+server_names InUsePartial = Some 2
+server_names InUsePending = Some 1
+server_names NoPending = Some 0
+server_names BadToken = Some 0
+server_names NotLiveTarget = Some 0
+server_names BadSelect = Some 0
+server_names NoMatch = Some 0
+server_names Limit = Some 1
+server_names kind = None
 
 module _ (P : Cause → Type 0) (s : State) (n : ℕ)
     (bad_payload : (default_operation : Default3) (config : Elem) → ErrIs P (edits_of s.schema default_operation config))
@@ -48,19 +75,15 @@ module _ (P : Cause → Type 0) (s : State) (n : ℕ)
     All P (applied s.schema (rights_of s n) on_error (candidate_in_force s) edits).causes)
     (invalid : (rows : List Row) → All (λ violation. P (violation_cause violation)) (violations s.schema rows))
     (denied : (path : Path) (right : Right) → P (cause_at DataDenied path (decision_names right (rights_of s n path right).by)))
-    (no_store : (store : Datastore) → P (plain_cause UnsupportedTarget (datastore_name store ∷ [])))
-    (same_store : P (plain_cause BadParameter (source_word ∷ [])))
-    (confirms : P (plain_cause UnknownParameter (confirmed_word ∷ [])))
-    (no_token : P (plain_cause BadToken []))
-    (unknown : P (plain_cause UnknownOperation []))
+    (plain : (kind : CauseKind) (names : List (List ℕ)) → server_names kind ≡ Some (length names) → P (plain_cause kind names))
     (no_exec : (operation : Operation) → P (plain_cause ExecDenied (decision_names MayExec (exec_of s n operation).by))) where
-  where_is : (b : Bool) (cause : Cause) → P cause → IfSome (cause_where b cause) P
-  where_is true cause is = is
-  where_is false cause is = tt
-
   or_is : (a b : Option Cause) → IfSome a P → IfSome b P → IfSome (option_or a b) P
   or_is None b first second = second
   or_is (Some cause) b first second = first
+
+  -- a check by a test
+  where_plain : (b : Bool) (kind : CauseKind) (names : List (List ℕ)) → server_names kind ≡ Some (length names) → IfSome (cause_where b (plain_cause kind names)) P
+  where_plain b kind names named = where_is P b (plain_cause kind names) (plain kind names named)
 
   none_is : All P []
   none_is k d within = absurd (omega (arith, within))
@@ -91,11 +114,76 @@ module _ (P : Cause → Type 0) (s : State) (n : ℕ)
       (denied_is MayDelete changes.deleted) (or_is updates creates (denied_is MayUpdate changes.updated) (denied_is MayCreate changes.created))
 
   unsupported_is : (offers : Datastore → Bool) (store : Datastore) → IfSome (unsupported offers store) P
-  unsupported_is offers store = where_is (not (offers store)) (plain_cause UnsupportedTarget (datastore_name store ∷ [])) (no_store store)
+  unsupported_is offers store = where_plain (not (offers store)) UnsupportedTarget (datastore_name store ∷ []) refl
 
   origin_is : (source : Origin) → IfSome (unsupported_origin source) P
   origin_is (Store store) = unsupported_is is_source store
   origin_is (Inline config) = tt
+
+  -- ---- locks in the way
+  in_use_is : (store : Datastore) → IfSome (in_use s n store) P
+  in_use_is store = by (holder_of s.holders store)
+    where
+      by : (holder : Option ℕ) → IfSome (option_and_then (λ other. cause_where (not (other == n)) (global_lock_cause InUseGlobal store other)) holder) P
+      by None = tt
+      by (Some other) = where_is P (not (other == n)) (global_lock_cause InUseGlobal store other) (plain InUseGlobal _ refl)
+
+  held_is : (store : Datastore) (holder : Option ℕ) → IfSome (option_map (global_lock_cause LockHeld store) holder) P
+  held_is store None = tt
+  held_is store (Some other) = plain LockHeld _ refl
+
+  partial_in_use : (lock : Option NodeLock) → IfSome (option_map (partial_lock_cause InUsePartial) lock) P
+  partial_in_use None = tt
+  partial_in_use (Some lock) = plain InUsePartial _ refl
+
+  partial_denied : (lock : Option NodeLock) → IfSome (option_map (partial_lock_cause LockPartial) lock) P
+  partial_denied None = tt
+  partial_denied (Some lock) = plain LockPartial _ refl
+
+  one_more : (found : Option Cause) (more : List (Option Cause)) → IfSome found P → IfSome (first_cause more) P → IfSome (first_cause (found ∷ more)) P
+  one_more None more is rest = rest
+  one_more (Some cause) more is rest = is
+
+  paths_are : (paths : List Path) → IfSome (first_cause (map (in_use_at s n) paths)) P
+  paths_are [] = tt
+  paths_are (path ∷ paths) =
+      one_more (in_use_at s n path) (map (in_use_at s n) paths) (partial_in_use (lock_of_other s n (covers_path path))) (paths_are paths)
+
+  in_use_partial_is : (changes : Changes) → IfSome (in_use_partial s n changes) P
+  in_use_partial_is changes = paths_are (changes.deleted ++ changes.updated ++ changes.created)
+
+  -- ---- locks of datastores
+  where_running : (target : Datastore) (found : Option Cause) → IfSome found P → IfSome (if is_running target then found else None) P
+  where_running target found is = by (is_running target)
+    where
+      by : (b : Bool) → IfSome (if b then found else None) P
+      by true = is
+      by false = tt
+
+  pending_is : (pending : Option Pending) → IfSome (pending_of_other n pending) P
+  pending_is None = tt
+  pending_is (Some pending) = where_is P (not (pending.session == n)) (pending_cause LockPending pending) (plain LockPending _ refl)
+
+  lock_is : (target : Datastore) → IfSome (lock_refusal s n target) P
+  lock_is target = first_is P (lock_checks s n target) (
+    unsupported_is is_source target,
+    (
+      held_is target (holder_of s.holders target),
+      (
+        where_plain (is_candidate target && is_some s.candidate) LockModified [] refl,
+        (
+          where_running target (pending_of_other n s.pending) (pending_is s.pending),
+          (where_running target (partly_locked s n) (partial_denied (lock_of_other s n (λ lock. true))), tt),
+        ),
+      ),
+    ),
+  )
+
+  unlock_is : (target : Datastore) → IfSome (unlock_refusal s n target) P
+  unlock_is target = first_is P (unlock_checks s n target) (
+    unsupported_is is_source target,
+    (where_plain (not (is_held_by n (holder_of s.holders target))) NotHeld (datastore_name target ∷ []) refl, tt),
+  )
 
   unless_is : {A : Type 0} (found : Option Cause) (result : Result A Cause) → IfSome found P → ErrIs P result → ErrIs P (result_unless found result)
   unless_is None result each is = is
@@ -129,6 +217,9 @@ module _ (P : Cause → Type 0) (s : State) (n : ℕ)
       by (Ok edits) is each = refused_edits on_error default_operation config edits is
       by (Err cause) is each = each
 
+  before_edits : (target : Datastore) → IfSome (first_cause (edit_checks s n target)) P
+  before_edits target = first_is P (edit_checks s n target) (unsupported_is is_target target, (in_use_is Candidate, tt))
+
   edits_are : (found : Option Cause) (made : Result Applied Cause) → IfSome found P → AreMade made → AreMade (result_unless found made)
   edits_are None made each is = is
   edits_are (Some cause) made each is = each
@@ -149,12 +240,15 @@ module _ (P : Cause → Type 0) (s : State) (n : ℕ)
       let changes = changes_between s.schema (candidate_in_force s) rows in
       unless_is (changes_denied (rights_of s n) changes) (Ok rows) (changes_are changes) tt
 
+  before_copy : (target : Datastore) (source : Origin) → IfSome (first_cause (copy_checks s n target source)) P
+  before_copy target source = first_is P (copy_checks s n target source) (
+    unsupported_is is_target target,
+    (origin_is source, (where_plain (is_same_store target source) BadParameter (source_word ∷ []) refl, (in_use_is Candidate, tt))),
+  )
+
   copied_is : (target : Datastore) (source : Origin) → ErrIs P (copied s n target source)
   copied_is target source =
-      let same = cause_where (is_same_store target source) (plain_cause BadParameter (source_word ∷ [])) in
-      unless_is (option_or (unsupported is_target target) (option_or (unsupported_origin source) same)) (unless_denied s n (rows_copied s n source))
-      (or_is (unsupported is_target target) (option_or (unsupported_origin source) same) (unsupported_is is_target target)
-      (or_is (unsupported_origin source) same (origin_is source) (where_is (is_same_store target source) (plain_cause BadParameter (source_word ∷ [])) same_store)))
+      unless_is (first_cause (copy_checks s n target source)) (unless_denied s n (rows_copied s n source)) (before_copy target source)
       (denied_rows_are (rows_copied s n source) (rows_are source))
 
   validated_is : (result : Result (List Row) Cause) → ErrIs P result → CausesAre P (validated s.schema result)
@@ -165,46 +259,112 @@ module _ (P : Cause → Type 0) (s : State) (n : ℕ)
   to_validate_is (Store store) = unless_is (unsupported is_source store) (Ok (stored s store)) (unsupported_is is_source store) tt
   to_validate_is (Inline config) = bad_rows config
 
+  -- ---- commits
+  refused_by_is : (pending : Pending) (token given : Option (List ℕ)) → IfSome (refused_by n pending token given) P
+  refused_by_is pending (Some token) (Some text) = where_plain _ BadToken [] refl
+  refused_by_is pending (Some token) None = plain InUsePending _ refl
+  refused_by_is pending None (Some text) = plain BadToken [] refl
+  refused_by_is pending None None = where_is P (not (pending.session == n)) (pending_cause InUsePending pending) (plain InUsePending _ refl)
+
+  commit_admitted : (given : Option (List ℕ)) (pending : Option Pending) →
+      IfSome (option_map_or (λ found. admission n found given) pending (cause_where (is_some given) (plain_cause BadToken []))) P
+  commit_admitted given None = where_plain (is_some given) BadToken [] refl
+  commit_admitted given (Some pending) = refused_by_is pending pending.token given
+
+  cancel_admitted : (given : Option (List ℕ)) (pending : Option Pending) →
+      IfSome (option_map_or (λ found. admission n found given) pending (Some (plain_cause NoPending []))) P
+  cancel_admitted given None = plain NoPending [] refl
+  cancel_admitted given (Some pending) = refused_by_is pending pending.token given
+
   pub commit_is : (confirmed : Bool) (persist_id : Option (List ℕ)) → IfSome (commit_refusal s n confirmed persist_id) P
-  commit_is confirmed persist_id =
-      let broken = violation_in s.schema (candidate_in_force s) in
-      let changes = changes_between s.schema s.running (candidate_in_force s) in
-      let refused = changes_denied (rights_of s n) changes in
-      let token = cause_where (is_some persist_id) (plain_cause BadToken []) in
-      or_is (cause_where confirmed (plain_cause UnknownParameter (confirmed_word ∷ []))) (option_or token (option_or refused broken))
-      (where_is confirmed (plain_cause UnknownParameter (confirmed_word ∷ [])) confirms)
-      (or_is token (option_or refused broken) (where_is (is_some persist_id) (plain_cause BadToken []) no_token)
-      (or_is refused broken (changes_are changes) (violation_is (candidate_in_force s))))
+  commit_is confirmed persist_id = first_is P (commit_checks s n confirmed persist_id) (
+    where_plain (not confirms && confirmed) UnknownParameter (confirmed_word ∷ []) refl,
+    (
+      commit_admitted persist_id s.pending,
+      (
+        in_use_is Running,
+        (
+          in_use_is Candidate,
+          (
+            in_use_partial_is (commit_changes s),
+            (
+              changes_are (commit_changes s),
+              (
+                violation_is (candidate_in_force s),
+                (where_plain (is_too_large s.schema (candidate_in_force s)) Limit (record_word ∷ []) refl, tt),
+              ),
+            ),
+          ),
+        ),
+      ),
+    ),
+  )
+
+  cancel_is : (persist_id : Option (List ℕ)) → IfSome (cancel_refusal s n persist_id) P
+  cancel_is persist_id =
+      first_is P (cancel_checks s n persist_id) (cancel_admitted persist_id s.pending, (in_use_is Running, (in_use_partial_is (cancel_changes s), tt)))
+
+  -- ---- partial locks
+  outstanding_is : (pending : Option Pending) → IfSome (option_map (pending_cause LockPending) pending) P
+  outstanding_is None = tt
+  outstanding_is (Some pending) = plain LockPending _ refl
+
+  partial_lock_is : (selects : List Select) → IfSome (partial_lock_refusal s n selects) P
+  partial_lock_is selects = first_is P (partial_lock_checks s n selects) (
+    outstanding_is s.pending,
+    (
+      held_is Running s.holders.running,
+      (
+        where_plain (not (are_selects s.schema selects)) BadSelect [] refl,
+        (
+          where_plain (is_none_of (nodes_selected s n selects)) NoMatch [] refl,
+          (
+            partial_denied (lock_of_other s n (locks_some (nodes_selected s n selects))),
+            (
+              where_plain (length (locks_of n s.partial) == most_locks) Limit (partial_locks_word ∷ []) refl,
+              (where_plain (s.last_lock == last_lock_id) Limit (lock_ids_word ∷ []) refl, tt),
+            ),
+          ),
+        ),
+      ),
+    ),
+  )
 
   kept_is : (failed : Bool) → (failed ≡ true → P (plain_cause DiskFault [])) → CausesAre P (kept_unless failed)
   kept_is true disk = all_one P (plain_cause DiskFault []) (disk refl)
   kept_is false disk = tt
+
+  kept_alone : (confirmed failed : Bool) → (failed ≡ true → P (plain_cause DiskFault [])) → CausesAre P (kept_unless (not confirmed && failed))
+  kept_alone true failed disk = tt
+  kept_alone false failed disk = kept_is failed disk
 
   pub asked_is : (asked : Asked) (failed : Bool) → (failed ≡ true → P (plain_cause DiskFault [])) → CausesAre P (asked_verdict s n asked failed)
   asked_is (Get filter) failed disk = tt
   asked_is (GetConfig source filter) failed disk = checked_is (unsupported is_source source) (Selected (shown s n source filter)) (unsupported_is is_source source) tt
   asked_is (EditConfig target default_operation test on_error config) failed disk =
       edit_is test (edits_made s n target default_operation on_error config)
-      (edits_are (unsupported is_target target) (made_by s n on_error (edits_of s.schema default_operation config)) (unsupported_is is_target target)
+      (edits_are (first_cause (edit_checks s n target)) (made_by s n on_error (edits_of s.schema default_operation config)) (before_edits target)
       (made_is on_error default_operation config))
   asked_is (CopyConfig target source) failed disk = done_where_is (copied s n target source) (copied_is target source)
-  asked_is (DeleteConfig target) failed disk = all_one P (plain_cause UnsupportedTarget (datastore_name target ∷ [])) (no_store target)
-  asked_is (Lock target) failed disk = all_one P (plain_cause UnknownOperation []) unknown
-  asked_is (Unlock target) failed disk = all_one P (plain_cause UnknownOperation []) unknown
+  asked_is (DeleteConfig target) failed disk =
+      all_one P (plain_cause UnsupportedTarget (datastore_name target ∷ [])) (plain UnsupportedTarget (datastore_name target ∷ []) refl)
+  asked_is (Lock target) failed disk = checked_is (lock_refusal s n target) Done (lock_is target) tt
+  asked_is (Unlock target) failed disk = checked_is (unlock_refusal s n target) Done (unlock_is target) tt
   asked_is CloseSession failed disk = tt
-  asked_is (KillSession session) failed disk = all_one P (plain_cause UnknownOperation []) unknown
+  asked_is (KillSession number) failed disk = checked_is (kill_refusal s n number) Done (where_plain _ NotLiveTarget [] refl) tt
   asked_is (Commit confirmed timeout persist persist_id) failed disk =
-      checked_is (commit_refusal s n confirmed persist_id) (kept_unless failed) (commit_is confirmed persist_id) (kept_is failed disk)
-  asked_is DiscardChanges failed disk = tt
-  asked_is (CancelCommit persist_id) failed disk = all_one P (plain_cause UnknownOperation []) unknown
+      checked_is (commit_refusal s n confirmed persist_id) (kept_unless (not confirmed && failed)) (commit_is confirmed persist_id) (kept_alone confirmed failed disk)
+  asked_is DiscardChanges failed disk = checked_is (in_use s n Candidate) Done (in_use_is Candidate) tt
+  asked_is (CancelCommit persist_id) failed disk = checked_is (cancel_refusal s n persist_id) Done (cancel_is persist_id) tt
   asked_is (Validate source) failed disk = validated_is (rows_to_validate s source) (to_validate_is source)
-  asked_is (PartialLock selects) failed disk = all_one P (plain_cause UnknownOperation []) unknown
-  asked_is (PartialUnlock lock) failed disk = all_one P (plain_cause UnknownOperation []) unknown
+  asked_is (PartialLock selects) failed disk =
+      checked_is (partial_lock_refusal s n selects) (Locked (s.last_lock + 1) (nodes_selected s n selects)) (partial_lock_is selects) tt
+  asked_is (PartialUnlock id) failed disk = checked_is (partial_unlock_refusal s n id) Done (where_plain (not (has_lock s n id)) BadParameter (lock_id_word ∷ []) refl) tt
 
   pub refused_is : (operation : Option Operation) → IfSome (operation_refused s n operation) P
   refused_is None = tt
   refused_is (Some operation) =
       let exec = exec_denied (exec_of s n operation) in
       or_is (cause_where (not (is_offered operation)) (plain_cause UnknownOperation [])) exec
-      (where_is (not (is_offered operation)) (plain_cause UnknownOperation []) unknown)
-      (where_is (not (exec_of s n operation).permit) (plain_cause ExecDenied (decision_names MayExec (exec_of s n operation).by)) (no_exec operation))
+      (where_plain (not (is_offered operation)) UnknownOperation [] refl)
+      (where_is P (not (exec_of s n operation).permit) (plain_cause ExecDenied (decision_names MayExec (exec_of s n operation).by)) (no_exec operation))

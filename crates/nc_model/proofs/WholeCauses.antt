@@ -1,5 +1,5 @@
 -- The causes of a verdict have what their errors need.
-use Rattle.std.proofs.Common.{◌≡◌, ◌≢◌, ◌++◌, ℕ, false, List, [], ◌∷◌, length, refl, sym, subst, Option, Some, None, Result, Ok, Err, get_or}
+use Rattle.std.proofs.Common.{◌≡◌, ◌≢◌, ◌++◌, ℕ, Bool, false, List, [], ◌∷◌, length, refl, sym, subst, Option, Some, None, Result, Ok, Err, get_or}
 use Rattle.std.specs.Prelude.{◌⊎◌, IsTrue, IsSome, IfSome, IsSomeAnd, slice_get, option_and_then}
 use Rattle.std.specs.List.{All, last_or}
 use Rattle.std.specs.Option.{option_map_or}
@@ -19,29 +19,34 @@ use Rattle.nc_protocol.specs.declared.asked.Asked.{Asked}
 use Rattle.nc_protocol.specs.declared.asked.Default3.{Default3}
 use Rattle.nc_protocol.specs.declared.asked.ErrorOption.{ErrorOption}
 use Rattle.nc_protocol.specs.declared.asked.Operation.{Operation}
-use Rattle.nc_protocol.specs.declared.datastore.Datastore.{Datastore}
 use Rattle.nc_protocol.specs.declared.edit.Edit.{Edit}
 use Rattle.nc_protocol.specs.declared.request.Cause.{Cause}
-use Rattle.nc_model.specs.Access.{rights_of}
+use Rattle.nc_protocol.specs.declared.request.Request.{Request}
+use Rattle.nc_names.specs.declared.path.Right.TheVariants.{Exec as MayExec}
+use Rattle.nc_model.specs.Access.{exec_of, rights_of}
 use Rattle.nc_protocol.specs.Applied.{applied}
 use Rattle.nc_protocol.specs.Attributes.{path_of}
-use Rattle.nc_protocol.specs.Edited.{cause_at, anchor_names, anchor_word}
+use Rattle.nc_protocol.specs.Edited.{cause_at, anchor_names, anchor_word, decision_names}
 use Rattle.nc_protocol.specs.ErrorRows.{name_count, is_of_node}
 use Rattle.nc_protocol.specs.Payload.{edits_of, rows_of}
-use Rattle.nc_protocol.specs.Proper.{IsAskedOf, message_names, parameter_names}
+use Rattle.nc_protocol.specs.Proper.{IsAskedOf, IsProper, message_names, parameter_names}
 use Rattle.nc_protocol.specs.RequestLaws.{IsWhole, CausesAre}
 use Rattle.nc_model.specs.VerdictLaws.{VerdictIsWhole}
 use Rattle.nc_model.specs.State.{State, candidate_in_force}
 use Rattle.nc_protocol.specs.Asking.{plain_cause}
-use Rattle.nc_model.specs.Verdict.{verdict_on, asked_verdict, operation_refused}
-use Rattle.nc_protocol.specs.Refusals.{checked, datastore_name, violation_cause}
-use Rattle.nc_protocol.specs.Words.{source_word, confirmed_word}
+use Rattle.nc_model.specs.Verdict.{verdict, verdict_on, asked_verdict, operation_refused}
+use Rattle.nc_protocol.specs.Refusals.{checked, violation_cause}
 use Rattle.nc_schema.proofs.ViolationLemmas.{violation_kinds}
 use Rattle.nc_protocol.proofs.DecodedLemmas.{named_properly}
 use Rattle.nc_model.proofs.KindLemmas.{ErrIs, edits_cause, rows_cause, applied_causes}
 use Rattle.nc_protocol.proofs.ListLemmas.{all_one}
 use Rattle.nc_protocol.proofs.PayloadLaws.{payload_edits_fit}
-use Rattle.nc_model.proofs.VerdictCauses.{asked_is, refused_is}
+use Rattle.nc_model.proofs.VerdictCauses.{asked_is, refused_is, server_names}
+use Rattle.nc_model.proofs.SomeCause.{verdict_has_cause}
+use Rattle.nc_model.proofs.DecidedCauses.{denials_are_named}
+
+never : IsTrue false → ⊥
+never e = cc
 
 -- a path with one step or more
 has_path : (above : List Step) (step : Step) → IsSome (path_of (above ++ step ∷ []))
@@ -164,32 +169,93 @@ invalid_is_whole tables rows =
     (λ path. record { names = refl; path = λ about. refl }) (λ path. record { names = refl; path = λ about. refl }) tables rows in
     λ k d within. all k d within (get_or (violations tables rows) k d).path
 
-never : IsTrue false → ⊥
-never e = cc
+-- what the server says by itself has its names, and is about no data node
+server_kind : (kind : CauseKind) (count : ℕ) → server_names kind ≡ Some count → (name_count kind ≡ Some count) × (is_of_node kind ≡ false)
+server_kind Malformed count e = cc
+server_kind NoMessageId count e = cc
+server_kind NoOperation count e = cc
+server_kind TwoOperations count e = cc
+server_kind UnknownOperation count e = (e, refl)
+server_kind ExecDenied count e = cc
+server_kind UnknownParameter count e = (e, refl)
+server_kind RepeatedParameter count e = cc
+server_kind MissingParameter count e = cc
+server_kind BadParameter count e = (e, refl)
+server_kind BadFilterType count e = cc
+server_kind UnsupportedTarget count e = (e, refl)
+server_kind LockHeld count e = (e, refl)
+server_kind LockModified count e = (e, refl)
+server_kind LockPending count e = (e, refl)
+server_kind LockPartial count e = (e, refl)
+server_kind NotHeld count e = (e, refl)
+server_kind InUseGlobal count e = (e, refl)
+server_kind InUsePartial count e = (e, refl)
+server_kind InUsePending count e = (e, refl)
+server_kind NoPending count e = (e, refl)
+server_kind BadToken count e = (e, refl)
+server_kind NotLiveTarget count e = (e, refl)
+server_kind BadSelect count e = (e, refl)
+server_kind NoMatch count e = (e, refl)
+server_kind Limit count e = (e, refl)
+server_kind UnknownElement count e = cc
+server_kind UnknownNamespace count e = cc
+server_kind UnknownAttribute count e = cc
+server_kind BadAttribute count e = cc
+server_kind MissingKey count e = cc
+server_kind BadElement count e = cc
+server_kind BadValue count e = cc
+server_kind Exists count e = cc
+server_kind Absent count e = cc
+server_kind MissingInstance count e = cc
+server_kind DataDenied count e = cc
+server_kind Mandatory count e = cc
+server_kind MandatoryChoice count e = cc
+server_kind TooFew count e = cc
+server_kind TooMany count e = cc
+server_kind NotUnique count e = cc
+server_kind DeadLeafref count e = cc
+server_kind DeadInstance count e = cc
+server_kind DiskFault count e = cc
 
-bare_is_whole : (kind : CauseKind) (names : List (List ℕ)) → IfSome (name_count kind) (λ count. count ≡ length names) → is_of_node kind ≡ false → IsWhole (plain_cause kind names)
-bare_is_whole kind names named bare = record { names = named; path = λ about. absurd (never (subst IsTrue bare about)) }
+server_is_whole : (kind : CauseKind) (names : List (List ℕ)) → server_names kind ≡ Some (length names) → IsWhole (plain_cause kind names)
+server_is_whole kind names named =
+    let parts = server_kind kind (length names) named in
+    record {
+      names = subst (λ count. IfSome count (λ many. many ≡ length names)) (sym parts.0) refl;
+      path = λ about. absurd (never (subst IsTrue parts.1 about));
+    }
 
-pub verdict_is_whole : VerdictIsWhole
-verdict_is_whole s n request failed proper is = by (operation_refused s n request.operation) refused request.asked is
+denied_is_whole : (path : Path) (names : List (List ℕ)) → IsWhole (cause_at DataDenied path names)
+denied_is_whole path names = record { names = tt; path = λ about. refl }
+
+exec_is_whole : (names : List (List ℕ)) → IsWhole (plain_cause ExecDenied names)
+exec_is_whole names = record { names = tt; path = λ about. absurd (never about) }
+
+disk_is_whole : IsWhole (plain_cause DiskFault [])
+disk_is_whole = record { names = refl; path = λ about. absurd (never about) }
+
+causes_are_whole : (s : State) (n : ℕ) (request : Request) (failed : Bool) → IsProperSchema s.schema → IsProper request → CausesAre IsWhole (verdict s n request failed)
+causes_are_whole s n request failed proper is = by (operation_refused s n request.operation) refused request.asked is
   where
-    no_store : (store : Datastore) → IsWhole (plain_cause UnsupportedTarget (datastore_name store ∷ []))
-    no_store store = bare_is_whole UnsupportedTarget (datastore_name store ∷ []) refl refl
-
     refused : IfSome (operation_refused s n request.operation) IsWhole
     refused = refused_is IsWhole s n (payload_is_whole s.schema) (inline_is_whole s.schema) (edits_are_whole s n proper) (invalid_is_whole s.schema)
-        (λ path right. record { names = tt; path = λ about. refl }) no_store (bare_is_whole BadParameter (source_word ∷ []) refl refl)
-        (bare_is_whole UnknownParameter (confirmed_word ∷ []) refl refl) (bare_is_whole BadToken [] refl refl) (bare_is_whole UnknownOperation [] refl refl)
-        (λ operation. bare_is_whole ExecDenied _ tt refl) request.operation
+        (λ path right. denied_is_whole path (decision_names right (rights_of s n path right).by)) server_is_whole
+        (λ operation. exec_is_whole (decision_names MayExec (exec_of s n operation).by)) request.operation
 
     asked_whole : (asked : Asked) → CausesAre IsWhole (asked_verdict s n asked failed)
     asked_whole asked = asked_is IsWhole s n (payload_is_whole s.schema) (inline_is_whole s.schema) (edits_are_whole s n proper) (invalid_is_whole s.schema)
-        (λ path right. record { names = tt; path = λ about. refl }) no_store (bare_is_whole BadParameter (source_word ∷ []) refl refl)
-        (bare_is_whole UnknownParameter (confirmed_word ∷ []) refl refl) (bare_is_whole BadToken [] refl refl) (bare_is_whole UnknownOperation [] refl refl)
-        (λ operation. bare_is_whole ExecDenied _ tt refl) asked failed (λ disk. bare_is_whole DiskFault [] refl refl)
+        (λ path right. denied_is_whole path (decision_names right (rights_of s n path right).by)) server_is_whole
+        (λ operation. exec_is_whole (decision_names MayExec (exec_of s n operation).by)) asked failed (λ disk. disk_is_whole)
 
     by : (found : Option Cause) → IfSome found IsWhole → (asked : Result Asked Cause) → IsAskedOf request.operation asked →
         CausesAre IsWhole (checked found (verdict_on s n asked failed))
     by (Some cause) each asked proper_request = all_one IsWhole cause each
     by None each (Err cause) proper_request = all_one IsWhole cause (read_is_whole request.operation cause proper_request)
     by None each (Ok asked) proper_request = asked_whole asked
+
+pub verdict_is_whole : VerdictIsWhole
+verdict_is_whole s n request failed proper is = record {
+  some = verdict_has_cause s n request failed;
+  causes = causes_are_whole s n request failed proper is;
+  denials = denials_are_named s n request failed is;
+}

@@ -2,22 +2,37 @@
 use Rattle.std.specs.Prelude.{◌≡◌, ◌≤◌, ◌^◌, ℕ, Bool, true, false, IsTrue, List, [], ◌∷◌, ◌++◌, length, Option, Result, Ok, Err}
 use Rattle.std.specs.List.{filter}
 use Rattle.nc_names.specs.Limits.{most_requests}
+use Rattle.nc_names.specs.declared.path.Row.{Row}
 use Rattle.nc_model.specs.declared.desk.DeskFault.{DeskFault}
 use Rattle.nc_model.specs.declared.desk.DeskFault.TheVariants.{Spent as DeskSpent, Memory as DeskMemory}
 use Rattle.nc_model.specs.declared.desk.Spent.{Spent}
 use Rattle.nc_model.specs.declared.entry.Entry.{Entry}
 use Rattle.nc_model.specs.declared.event.Event.{Event}
 use Rattle.nc_model.specs.declared.event.Event.TheVariants.{Reading}
-use Rattle.nc_model.specs.History.{IsLegal, IsMineIn}
+use Rattle.nc_model.specs.History.{IsLegal, IsMineIn, Survives, returning}
 use Rattle.nc_model.specs.State.{State}
 
 -- where a desk's history begins: the opening state, how often the clock had answered and with what, where it tells, and
--- whether no other desk makes entries of it
+-- whether no other desk makes entries of it; the desk's own place among those that share the history, empty where it is
+-- alone; and for crashes the moment at which the opening state was reached, an earlier one, and what may come back too
+-- since that
 pub record Home : Type 0 where
   pub opening : State
   pub answers : ℕ
   pub heard : Option (List ℕ)
   pub alone : Bool
+  pub place : List ℕ
+  pub begun : ℕ
+  pub start : ℕ
+  pub among : List (List Row)
+
+-- a history survives a stop at any moment since it began; a stop between the earlier moment and that leaves what may
+-- come back of the history, or one of those that may come back too
+pub record SurvivesFrom (Leaves : ℕ → List (List Row) → Type 0) (now : ℕ) (home : Home) (history : List Entry) :
+    Type 0 where
+  pub began : home.start ≤ home.begun
+  pub before : Leaves home.start (home.among ++ returning home.opening [] history)
+  pub since : Survives Leaves now home.opening [] home.begun history
 
 -- two lists for which a desk stands: the history, and the entries that it made itself but for readings
 -- of the clock

@@ -1,9 +1,15 @@
 pub mod Access
+pub mod Alike
+pub mod Decision
 pub mod Desks
 pub mod History
 pub mod Laws
+pub mod Nodes
+pub mod Policy
 pub mod ProperEvents
+pub mod Sight
 pub mod State
 pub mod Step
 pub mod Verdict
 pub mod VerdictLaws
+pub mod Words

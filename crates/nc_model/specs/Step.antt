@@ -1,13 +1,15 @@
--- One event: what comes of it, and what state it leaves (RFC 6241 4, 7 and 8.3).
-use Rattle.std.specs.Prelude.{◌≡◌, ◌≤◌, ◌+◌, ◌==◌, ◌&&◌, ◌||◌, ℕ, Bool, true, false, not, if◌then◌else◌, List, [], ◌∷◌, ◌++◌, length, Option, Some, None, Result, Ok, Err}
-use Rattle.std.specs.List.{list_any}
+-- One event: what comes of it, and what state it leaves (RFC 6241 4, 7, 8.3 and 8.4; RFC 5717 2.4).
+use Rattle.std.specs.Prelude.{◌≡◌, ◌≤◌, ◌+◌, ◌*◌, ◌==◌, ◌&&◌, ◌||◌, ℕ, Bool, true, false, not, if◌then◌else◌, List, [], ◌∷◌, ◌++◌, length, Option, Some, None, is_some, option_and_then, Result, Ok, Err}
+use Rattle.std.specs.List.{filter, list_any}
+use Rattle.std.specs.Option.{option_or}
 use Rattle.nc_names.specs.Counts.{Rose}
 use Rattle.nc_names.specs.Same.{is_same_rows}
 use Rattle.nc_names.specs.declared.cause.CauseKind.{CauseKind}
 use Rattle.nc_names.specs.declared.cause.CauseKind.TheVariants.{DiskFault}
+use Rattle.nc_names.specs.declared.path.Path.{Path}
 use Rattle.nc_names.specs.declared.path.Row.{Row}
 use Rattle.nc_protocol.specs.declared.asked.Asked.{Asked}
-use Rattle.nc_protocol.specs.declared.asked.Asked.TheVariants.{EditConfig, CopyConfig, CloseSession, Commit, DiscardChanges}
+use Rattle.nc_protocol.specs.declared.asked.Asked.TheVariants.{EditConfig, CopyConfig, Lock, Unlock, CloseSession, KillSession, Commit, DiscardChanges, CancelCommit, PartialLock, PartialUnlock}
 use Rattle.nc_model.specs.declared.entry.Entry.{Entry}
 use Rattle.nc_model.specs.declared.event.Event.{Event}
 use Rattle.nc_model.specs.declared.event.Event.TheVariants.{Start, Request as Requested, End, Reading}
@@ -16,12 +18,14 @@ use Rattle.nc_model.specs.declared.event.Outcome.TheVariants.{Started, Full, Ans
 use Rattle.nc_protocol.specs.declared.request.Cause.{Cause}
 use Rattle.nc_protocol.specs.declared.request.Request.{Request}
 use Rattle.nc_protocol.specs.declared.verdict.Verdict.{Verdict}
-use Rattle.nc_protocol.specs.declared.verdict.Verdict.TheVariants.{Done, Refused}
+use Rattle.nc_protocol.specs.declared.datastore.Datastore.{Datastore}
+use Rattle.nc_protocol.specs.declared.datastore.Datastore.TheVariants.{Running, Candidate}
+use Rattle.nc_protocol.specs.declared.verdict.Verdict.TheVariants.{Done, Locked, Refused}
 use Rattle.nc_model.specs.Access.{sees_of}
 use Rattle.nc_model.specs.ProperEvents.{IsProperEvent}
 use Rattle.nc_protocol.specs.Reply.{reply_of}
-use Rattle.nc_model.specs.State.{State, candidate_in_force, expired, is_live, session_ended, most_sessions, last_session_id}
-use Rattle.nc_model.specs.Verdict.{verdict, edits_made, rows_set, copied}
+use Rattle.nc_model.specs.State.{State, Holders, Pending, base_of, candidate_in_force, expired, is_live, reverted, session_ended, most_sessions, last_session_id}
+use Rattle.nc_model.specs.Verdict.{verdict, edits_made, rows_set, copied, is_candidate, operation_refused}
 
 -- a fault of the disk
 abbrev pub is_of_disk : CauseKind → Bool
@@ -103,16 +107,70 @@ abbrev pub rows_of_ok : Result (List Row) Cause → Option (List Row)
 rows_of_ok (Ok rows) = Some rows
 rows_of_ok (Err cause) = None
 
--- what an operation changes, by the verdict on it (RFC 6241 7.2, 7.3, 7.8 and 8.3.4). Edits that are made before one
--- is refused stay, as the error-option says
+-- the locks where a datastore's is held so
+abbrev pub with_holder : Holders → Datastore → Option ℕ → Holders
+with_holder holders Running holder = record holders { running = holder }
+with_holder holders Candidate holder = record holders { candidate = holder }
+with_holder holders store holder = holders
+
+-- the session holds the lock of the datastore (RFC 6241 7.5)
+abbrev pub with_lock : State → ℕ → Datastore → State
+with_lock s session target = record s { holders = with_holder s.holders target (Some session) }
+
+-- no session holds it: the changes of a candidate that is unlocked are discarded (RFC 6241 7.6, 8.3.5.2)
+abbrev pub without_lock : State → Datastore → State
+without_lock s target = record s {
+  holders = with_holder s.holders target None;
+  candidate = if is_candidate target then None else s.candidate;
+}
+
+-- the clock's readings are in milliseconds, and `confirm-timeout` is in seconds (RFC 6241 8.4.5.1)
+abbrev pub milliseconds : ℕ → ℕ
+milliseconds seconds = 1000 * seconds
+
+-- the pending commit of a confirmed one: a follow-up keeps the base, and the text of `persist` unless it gives another
+-- (RFC 6241 8.4.1, 8.4.5.1)
+abbrev pub pending_by : State → ℕ → ℕ → Option (List ℕ) → Pending
+pending_by s session timeout persist = record {
+  base = base_of s;
+  deadline = s.now + milliseconds timeout;
+  token = option_or persist (option_and_then (λ pending. pending.token) s.pending);
+  session = session;
+}
+
+-- the candidate is running and unmodified; a confirmed commit waits to be confirmed, and any other one leaves none that
+-- does (RFC 6241 8.3.4.1, 8.4.1)
+abbrev pub committed : State → Option Pending → State
+committed s pending = record s { running = candidate_in_force s; candidate = None; pending = pending }
+
+-- the session has one partial lock more (RFC 5717 2.4.1)
+abbrev pub with_partial : State → ℕ → ℕ → List Path → State
+with_partial s session lock nodes = record s {
+  partial = s.partial ++ record { id = lock; session = session; nodes = nodes } ∷ [];
+  last_lock = lock;
+}
+
+-- the partial lock is released (RFC 5717 2.4.2)
+abbrev pub without_partial : State → ℕ → State
+without_partial s lock = record s { partial = filter (λ held. not (held.id == lock)) s.partial }
+
+-- what an operation changes, by the verdict on it (RFC 6241 7.2, 7.3, 7.5, 7.6, 7.8, 7.9, 8.3.4, 8.4.4 and 8.4.5; RFC
+-- 5717 2.4). Edits that are made before one is refused stay, as the error-option says
 abbrev pub changed_by : State → ℕ → Asked → Verdict → State
 changed_by s session (EditConfig target default_operation test on_error config) verdict =
     with_candidate s (rows_set s.schema test (edits_made s session target default_operation on_error config))
 changed_by s session (CopyConfig target source) verdict = with_candidate s (rows_of_ok (copied s session target source))
-changed_by s session (Commit confirmed timeout persist persist_id) Done =
-    record s { running = candidate_in_force s; candidate = None }
-changed_by s session DiscardChanges Done = record s { candidate = None }
+changed_by s session (Lock target) Done = with_lock s session target
+changed_by s session (Unlock target) Done = without_lock s target
 changed_by s session CloseSession Done = session_ended s session
+changed_by s session (KillSession number) Done = session_ended s number
+changed_by s session (Commit true timeout persist persist_id) Done =
+    committed s (Some (pending_by s session timeout persist))
+changed_by s session (Commit false timeout persist persist_id) Done = committed s None
+changed_by s session DiscardChanges Done = record s { candidate = None }
+changed_by s session (CancelCommit persist_id) Done = reverted s
+changed_by s session (PartialLock selects) (Locked lock nodes) = with_partial s session lock nodes
+changed_by s session (PartialUnlock lock) Done = without_partial s lock
 changed_by s session asked verdict = s
 
 -- the state after a request, by the verdict on it
@@ -120,11 +178,17 @@ abbrev pub answered : State → ℕ → Result Asked Cause → Verdict → State
 answered s session (Err cause) verdict = s
 answered s session (Ok asked) verdict = changed_by s session asked verdict
 
+-- the same, where the operation is not refused before its parameters are looked at: then nothing is changed
+abbrev pub answered_unless : Option Cause → State → ℕ → Result Asked Cause → Verdict → State
+answered_unless (Some cause) s session asked verdict = s
+answered_unless None s session asked verdict = answered s session asked verdict
+
 -- what an event changes, by what came of it
 abbrev pub changed : State → Event → Outcome → State
 changed s (Start peer) (Started number) =
     record s { sessions = s.sessions ++ record { number = number; peer = peer } ∷ []; last = number }
-changed s (Requested session request) (Answered verdict reply) = answered s session request.asked verdict
+changed s (Requested session request) (Answered verdict reply) =
+    answered_unless (operation_refused s session request.operation) s session request.asked verdict
 changed s (End session) Ended = session_ended s session
 changed s event outcome = s
 

@@ -1,6 +1,6 @@
 //! What follows from the definitions in `specs/`, each as the contract of a function that does
 //! nothing. A call of one makes its law known to the caller.
-ghost use Rattle.nc_model.specs.Laws.{HistoriesJoin, LegalHistoriesJoin, OneEntryIsLegal, MineStays, MineGrows, OpeningIsGood, GoodStays, HistoryIsDetermined, DiskFaultHasCause, CommitAloneChangesRunning, IsEndedBetween};
+ghost use Rattle.nc_model.specs.Laws.{HistoriesJoin, LegalHistoriesJoin, OneEntryIsLegal, MineStays, MineGrows, OpeningIsGood, GoodStays, HistoryIsDetermined, DiskFaultHasCause, CommitAloneChangesBase, RunningChangesByFew, RefusedChangesNothing, LockGoesWithChanges, VisibleIsConfiguration, NothingIsDenied, IsEndedBetween};
 ghost use Rattle.nc_model.specs.VerdictLaws.{VerdictIsWhole};
 
 /// The state after a history is that after its rest, from the state after its front.
@@ -49,9 +49,35 @@ pub fn disk_fault_has_cause()
     ensures { DiskFaultHasCause }
 {}
 
-/// Running changes by a commit alone.
-pub fn commit_alone_changes_running()
-    ensures { CommitAloneChangesRunning }
+/// What comes back after a restart changes by a plain or confirming commit alone.
+pub fn commit_alone_changes_base()
+    ensures { CommitAloneChangesBase }
+{}
+
+/// Running changes by a commit, a cancel-commit, the end of a session whose pending commit does not persist,
+/// or at the deadline of a pending commit, and by nothing else.
+pub fn running_changes_by_few()
+    ensures { RunningChangesByFew }
+{}
+
+/// A refused request changes nothing but the clock, but for edits that were made before one was refused.
+pub fn refused_changes_nothing()
+    ensures { RefusedChangesNothing }
+{}
+
+/// Where the lock of the candidate goes, the candidate is unmodified.
+pub fn lock_goes_with_changes()
+    ensures { LockGoesWithChanges }
+{}
+
+/// What a user sees of a configuration is a configuration.
+pub fn visible_is_configuration()
+    ensures { VisibleIsConfiguration }
+{}
+
+/// Where access control is off, and in a recovery session, nothing is denied and everything is seen.
+pub fn nothing_is_denied()
+    ensures { NothingIsDenied }
 {}
 
 /// A session that was started, and is found not to be live by a later entry of it, was ended by one
@@ -60,8 +86,8 @@ pub fn is_ended_between()
     ensures { IsEndedBetween }
 {}
 
-/// The causes of the verdict on a proper request have what their errors need: their names, and a path
-/// where they are about a data node.
+/// A verdict on a proper request that refuses has a cause, and its causes have what their errors need: their
+/// names, a path where they are about a data node, and what denied an access.
 pub fn verdict_is_whole()
     ensures { VerdictIsWhole }
 {}

@@ -1,0 +1,109 @@
+-- A confirmed commit at work: confirmed, followed up, cancelled, and reverted at its deadline and by its session's end.
+use Rattle.std.proofs.Common.{◌≡◌, ℕ, List, [], ◌∷◌, ◌++◌, refl}
+use Rattle.std.specs.Fmt.{decimal}
+use Rattle.std.specs.Prelude.{codes, Option, Some, None, false, true}
+use Rattle.nc_names.specs.declared.cause.CauseKind.TheVariants.{InUsePending, NoPending, BadToken, UnknownParameter}
+use Rattle.nc_names.specs.declared.path.Row.{Row}
+use Rattle.nc_protocol.specs.Asking.{plain_cause}
+use Rattle.nc_protocol.specs.Words.{confirmed_word}
+use Rattle.nc_protocol.specs.declared.asked.Asked.TheVariants.{Commit, CancelCommit}
+use Rattle.nc_protocol.specs.declared.verdict.Verdict.TheVariants.{Done}
+use Rattle.nc_model.specs.State.{State, Pending, base_of, expired, session_ended}
+use Rattle.nc_model.specs.Step.{changed_by}
+use Rattle.nc_model.specs.Verdict.{cancel_refusal, commit_admission, commit_refusal}
+use Rattle.nc_model.proofs.LockExample.{both, modified, one, ports}
+use Rattle.nc_protocol.proofs.Example.{rows_of_port}
+
+abbrev a : List Row
+a = rows_of_port (codes "a")
+
+abbrev token : List ℕ
+token = codes "mine"
+
+-- alice commits port b too, to be confirmed within one second
+abbrev confirming : State
+confirming = changed_by modified 1 (Commit true 1 None None) Done
+
+commit_is_pending : confirming ≡ record both { running = ports; pending = Some (record { base = a; deadline = 1000; token = None; session = 1 }) }
+commit_is_pending = refl
+
+base_is_first : base_of confirming ≡ a
+base_is_first = refl
+
+-- nothing happens before the deadline, and at it the commit is reverted
+waits_at_999 : expired confirming 999 ≡ record confirming { now = 999 }
+waits_at_999 = refl
+
+reverts_at_1000 : expired confirming 1000 ≡ record both { now = 1000 }
+reverts_at_1000 = refl
+
+-- half a second later alice commits an empty candidate in the same way: the deadline is set anew, the base is kept
+abbrev followed : State
+followed = changed_by (record (expired confirming 500) { candidate = Some [] }) 1 (Commit true 1 None None) Done
+
+follow_up_is_pending : followed ≡ record both { running = []; now = 500; pending = Some (record { base = a; deadline = 1500; token = None; session = 1 }) }
+follow_up_is_pending = refl
+
+follow_up_waits : expired followed 1499 ≡ record followed { now = 1499 }
+follow_up_waits = refl
+
+reverts_to_first_base : expired followed 1500 ≡ record both { now = 1500 }
+reverts_to_first_base = refl
+
+-- a plain commit confirms
+confirmed : changed_by confirming 1 (Commit false 600 None None) Done ≡ record both { running = ports }
+confirmed = refl
+
+cancelled : changed_by confirming 1 (CancelCommit None) Done ≡ both
+cancelled = refl
+
+-- the end of alice's session reverts it; with a token it stays, and no session is its own
+ended : session_ended confirming 1 ≡ session_ended both 1
+ended = refl
+
+abbrev persisting : State
+persisting = changed_by modified 1 (Commit true 1 (Some token) None) Done
+
+stays_pending : session_ended persisting 1
+    ≡ record (session_ended both 1) { running = ports; pending = Some (record { base = a; deadline = 1000; token = Some token; session = 0 }) }
+stays_pending = refl
+
+-- a follow-up keeps the token unless it gives a new one, and its session is the pending one
+token_is_kept : changed_by persisting 2 (Commit true 2 None (Some token)) Done
+    ≡ record both { running = ports; pending = Some (record { base = a; deadline = 2000; token = Some token; session = 2 }) }
+token_is_kept = refl
+
+-- ---- who may follow, confirm or cancel
+-- without a token its own session alone, and no `persist-id`
+own_session : commit_admission confirming 1 None ≡ None
+own_session = refl
+
+other_session : commit_admission confirming 2 None ≡ Some (plain_cause InUsePending (decimal 1 ∷ []))
+other_session = refl
+
+needless_token : commit_admission confirming 1 (Some token) ≡ Some (plain_cause BadToken [])
+needless_token = refl
+
+-- with a token whoever gives it
+right_token : commit_admission persisting 2 (Some token) ≡ None
+right_token = refl
+
+wrong_token : commit_admission persisting 1 (Some (codes "other")) ≡ Some (plain_cause BadToken [])
+wrong_token = refl
+
+no_token : commit_admission persisting 1 None ≡ Some (plain_cause InUsePending (decimal 1 ∷ []))
+no_token = refl
+
+ended_session : commit_admission (session_ended persisting 1) 2 None ≡ Some (plain_cause InUsePending (decimal 0 ∷ []))
+ended_session = refl
+
+-- where none is pending
+nothing_to_confirm : commit_refusal both 1 false (Some token) ≡ Some (plain_cause BadToken [])
+nothing_to_confirm = refl
+
+nothing_to_cancel : cancel_refusal both 1 None ≡ Some (plain_cause NoPending [])
+nothing_to_cancel = refl
+
+-- while confirmed commits are not offered, `confirmed` is no parameter
+not_offered : commit_refusal modified 1 true None ≡ Some (plain_cause UnknownParameter (confirmed_word ∷ []))
+not_offered = refl

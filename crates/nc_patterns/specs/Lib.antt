@@ -1,0 +1,10 @@
+pub mod Characters
+pub mod Tokens
+pub mod Reading
+pub mod Translation
+pub mod Admits
+pub mod Makers
+pub mod Laws
+pub mod Listed
+pub mod Classes
+pub mod inner

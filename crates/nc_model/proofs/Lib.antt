@@ -5,6 +5,7 @@ pub mod OpenLemmas
 pub mod DeterminedLemmas
 pub mod RunningLemmas
 pub mod EndLemmas
+pub mod OwnEnd
 pub mod KindLemmas
 pub mod GoodLemmas
 pub mod LockLemmas

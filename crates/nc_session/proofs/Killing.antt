@@ -11,11 +11,13 @@ use Rattle.nc_model.specs.declared.event.Outcome.TheVariants.{Started, Full, Ans
 use Rattle.nc_protocol.specs.declared.peer.Peer.{Peer}
 use Rattle.nc_protocol.specs.declared.request.Request.{Request}
 use Rattle.nc_model.specs.Desks.{Home, IsView, is_own, own_of}
-use Rattle.nc_model.specs.History.{IsLegal}
+use Rattle.nc_model.specs.History.{IsLegal, after}
 use Rattle.nc_model.specs.Laws.{IsOf, EndsSession, asks_close}
-use Rattle.nc_model.specs.Step.{is_done}
+use Rattle.nc_model.specs.State.{State}
+use Rattle.nc_model.specs.Step.{Fits, is_done}
 use Rattle.nc_model.proofs.EndLemmas.{is_ended_between}
 use Rattle.nc_model.proofs.HistoryLemmas.{legal_histories_join}
+use Rattle.nc_model.proofs.OwnEnd.{closes_itself}
 use Rattle.nc_protocol.proofs.ListLemmas.{heads_same, tails_same, all_one, contains_behind, contains_split}
 use Rattle.nc_protocol.proofs.Parts.{IsPartOf, all_from, pair_at, part_second, contains_kept, part_rest, part_of_part}
 use Rattle.nc_session.specs.declared.standing.Standing.TheVariants.{Live, Closed}
@@ -29,27 +31,30 @@ later_cut [] b (z ∷ c) d x y is less = (c, tails_same x z b (c ++ y ∷ d) is)
 later_cut (u ∷ a) b [] d x y is less = absurd (omega (arith, less))
 later_cut (u ∷ a) b (z ∷ c) d x y is less = later_cut a b c d x y (tails_same u z (a ++ x ∷ b) (c ++ y ∷ d) is) (omega (arith, less))
 
--- an entry that leaves its session live, or is not of a live one, or is a Start, ends none
-live_ends : (session : ℕ) (event : Event) (outcome : Outcome) → standing_by (is_close event) outcome ≡ Live → EndsSession session event outcome → ⊥
-live_ends session (Requested own request) (Answered verdict reply) live ends = by (asks_close request.asked) (is_done verdict) ends.1 ends.2 live
+-- an entry of a request of a session
+abbrev pub IsRequestOf : ℕ → Entry → Type 0
+IsRequestOf session e = (request : Request) × (e.event ≡ Requested session request)
+
+-- a request of a session that leaves it live does not end it
+stays_on : (session : ℕ) (request : Request) (outcome : Outcome) → asks_close request.asked ≡ true → standing_by (asks_close request.asked) outcome ≡ Live → EndsSession session (Requested session request) outcome → ⊥
+stays_on session request (Answered verdict reply) closes live ends = by (asks_close request.asked) (is_done verdict) closes ends.1 live
   where
     by : (closes done : Bool) → closes ≡ true → done ≡ true → (if closes && done then Closed else Live) ≡ Live → ⊥
     by true true c d is = cc
     by true false c d is = cc
     by false done c d is = cc
-live_ends session (End own) Ended live ends = cc
-live_ends session (Start peer) outcome live ends = absurd ends
-live_ends session Reading outcome live ends = absurd ends
-live_ends session (Requested own request) (Started n) live ends = absurd ends
-live_ends session (Requested own request) (Full n m) live ends = absurd ends
-live_ends session (Requested own request) NotLive live ends = absurd ends
-live_ends session (Requested own request) Ended live ends = absurd ends
-live_ends session (Requested own request) Noted live ends = absurd ends
-live_ends session (End own) (Started n) live ends = absurd ends
-live_ends session (End own) (Full n m) live ends = absurd ends
-live_ends session (End own) (Answered verdict reply) live ends = absurd ends
-live_ends session (End own) NotLive live ends = absurd ends
-live_ends session (End own) Noted live ends = absurd ends
+stays_on session request (Started n) closes live ends = absurd ends
+stays_on session request (Full n m) closes live ends = absurd ends
+stays_on session request NotLive closes live ends = absurd ends
+stays_on session request Ended closes live ends = absurd ends
+stays_on session request Noted closes live ends = absurd ends
+
+live_ends : (session : ℕ) (e : Entry) (s : State) → Fits s e → IsRequestOf session e → standing_after e ≡ Live → EndsSession session e.event e.outcome → ⊥
+live_ends session e s fits (request, is) live ends =
+    let P : Event → Type 0 = λ event. EndsSession session event e.outcome in
+    let Q : Event → Type 0 = λ event. standing_by (is_close event) e.outcome ≡ Live in
+    let ended = subst P is ends in
+    stays_on session request e.outcome (closes_itself s e session request fits is ended) (subst Q is live) ended
 
 dead_ends : (session : ℕ) (event : Event) → EndsSession session event NotLive → ⊥
 dead_ends session (Start peer) ends = absurd ends
@@ -74,32 +79,37 @@ abbrev found : Entry → List Entry → Entry → List Entry
 found start answers last = start ∷ (answers ++ last ∷ [])
 
 end_none : (session : ℕ) (peer : Peer) (start last : Entry) (answers : List Entry) → start.event ≡ Start peer → StayLive answers → last.outcome ≡ NotLive
-    → All (EndsNone session) (found start answers last)
-end_none session peer start last answers event live dead =
+    → All (IsRequestOf session) answers → ((e : Entry) → Contains answers e → (s : State) × Fits s e) → All (EndsNone session) (found start answers last)
+end_none session peer start last answers event live dead asked fits =
     let P : Event → Type 0 = λ v. EndsSession session v start.outcome → ⊥ in
     let Q : Outcome → Type 0 = λ o. EndsSession session last.event o → ⊥ in
     All-cons (EndsNone session) start (answers ++ last ∷ []) (subst P (sym event) (start_ends session peer start.outcome))
     (All-append (EndsNone session) answers (last ∷ [])
-    (all_from (EndsNone session) answers (λ x there. live_ends session x.event x.outcome (All-contains (λ (e : Entry). standing_after e ≡ Live) answers x live there)))
+    (all_from (EndsNone session) answers (λ x there. live_ends session x (fits x there).0 (fits x there).1 (All-contains (IsRequestOf session) answers x asked there)
+    (All-contains (λ (e : Entry). standing_after e ≡ Live) answers x live there)))
     (all_one (EndsNone session) last (subst Q (sym dead) (dead_ends session last.event))))
 
 last_part : (start last : Entry) (answers : List Entry) → IsPartOf (start ∷ last ∷ []) (found start answers last)
 last_part start last answers = inl (refl, part_rest answers (last ∷ []))
 
--- the session's requests are its own
-pub all_of : (session : ℕ) (answers : List Entry) (requests : List Request) → map (λ (e : Entry). e.event) answers ≡ map (λ r. Requested session r) requests
-    → All (λ e. IsOf session e.event) answers
-all_of session [] requests is = λ k d within. absurd (omega (arith, within))
-all_of session (e ∷ more) [] is = cc
-all_of session (e ∷ more) (request ∷ requests) is =
+-- the entries of a session's requests are of its own
+pub all_asked : (session : ℕ) (answers : List Entry) (requests : List Request) → map (λ (e : Entry). e.event) answers ≡ map (λ r. Requested session r) requests
+    → All (IsRequestOf session) answers
+all_asked session [] requests is = λ k d within. absurd (omega (arith, within))
+all_asked session (e ∷ more) [] is = cc
+all_asked session (e ∷ more) (request ∷ requests) is =
+    All-cons (IsRequestOf session) e more (request, heads_same _ _ _ _ is) (all_asked session more requests (tails_same _ _ _ _ is))
+
+pub own_request : (session : ℕ) (e : Entry) → IsRequestOf session e → IsOf session e.event
+own_request session e (request, is) =
     let P : Event → Type 0 = λ v. IsOf session v in
-    All-cons (λ (x : Entry). IsOf session x.event) e more (subst P (sym (heads_same _ _ _ _ is)) refl) (all_of session more requests (tails_same _ _ _ _ is))
+    subst P (sym is) refl
 
 -- a session that is found dead was killed
 module _ (home : Home) (seen grown mine : List Entry) (start last : Entry) (answers : List Entry) (peer : Peer) (session : ℕ)
     (view : IsView home (seen ++ grown) (mine ++ found start answers last)) (fresh : Contains grown start)
     (event : start.event ≡ Start peer) (started : start.outcome ≡ Started session) (live : StayLive answers)
-    (of : IsOf session last.event) (dead : last.outcome ≡ NotLive)
+    (asked : All (IsRequestOf session) answers) (of : IsOf session last.event) (dead : last.outcome ≡ NotLive)
     (alone : IsTrue home.alone → own_of grown ≡ found start answers last) where
   abbrev own : List Entry
   own = found start answers last
@@ -151,8 +161,15 @@ module _ (home : Home) (seen grown mine : List Entry) (start last : Entry) (answ
       (Contains-append_right begin.0 (start ∷ begin.1) ended.0
       (contains_behind start begin.1 ended.0 (subst P (sym cut.1) (Contains-append_left cut.0 (last ∷ finish.1) ended.0 ended.1))))
 
+  -- an answer fits the state that those before it leave
+  fits : (e : Entry) → Contains answers e → (s : State) × Fits s e
+  fits e within =
+      let there = Contains-append_right mine own e (contains_behind start (answers ++ last ∷ []) e (Contains-append_left answers (last ∷ []) e within)) in
+      let split = contains_split (seen ++ grown) e (All-contains (Contains (seen ++ grown)) (mine ++ own) e view.own.there there) in
+      (after home.opening split.0, (view.legal split.0 split.1 e split.2).1)
+
   another : ¬ Contains own ended.0
-  another here = All-contains (EndsNone session) own ended.0 (end_none session peer start last answers event live dead) here ended.2
+  another here = All-contains (EndsNone session) own ended.0 (end_none session peer start last answers event live dead asked fits) here ended.2
 
   pub was_killed : WasKilled session home.alone grown own
   was_killed = record { ender = ended.0; there = within; ends = ended.2; another = another; shared = by home.alone refl }

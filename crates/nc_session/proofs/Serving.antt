@@ -20,6 +20,7 @@ use Rattle.nc_protocol.specs.declared.request.Request.{Request}
 use Rattle.nc_model.specs.Desks.{IsView, IsLastNumber, is_own, own_of}
 use Rattle.nc_model.specs.Laws.{IsOf}
 use Rattle.nc_protocol.proofs.ListLemmas.{contains_last}
+use Rattle.nc_protocol.proofs.Parts.{all_from}
 use Rattle.nc_session.specs.declared.base.Base.TheVariants.{Base10}
 use Rattle.nc_session.specs.declared.end.SessionEnd.{SessionEnd}
 use Rattle.nc_session.specs.declared.end.SessionEnd.TheVariants.{Closed, InputEnded, BadHello, BadFrame, TooBig, Malformed, Killed, ReadFault, WriteFault, Full, Spent, Memory}
@@ -32,7 +33,7 @@ use Rattle.nc_session.specs.Sessions.{session_text, entry_text, StayLive, HasEnt
 use Rattle.nc_session.specs.Serves.{Call, Course, WrotePart, CountedBy, Met, Starts, WasKilled, is_spent, IsOver, WasSpent, Ends, IsDead, Serves, NoStart, NoPlace, Served}
 use Rattle.nc_session.specs.inner.Turns.{Underway, entered_all, TellsEnd, Stops, Writes, Begins, ComesTo, HasBegun, Ending}
 use Rattle.nc_session.proofs.Ending.{asks_these, own_entries, own_first}
-use Rattle.nc_session.proofs.Killing.{all_of, was_killed}
+use Rattle.nc_session.proofs.Killing.{IsRequestOf, all_asked, own_request, was_killed}
 use Rattle.nc_session.proofs.Living.{Lands, end_comes, start_comes}
 use Rattle.nc_session.proofs.Turning.{live_not_dead}
 
@@ -168,13 +169,14 @@ module _ (schema : Tables) (call : Call) (session : ℕ) (Stands : List Entry �
           let entries : s.course.entries ≡ s.has_met.entered.start ∷ (l.before ++ l.last ∷ []) = s.has_met.entered.entries_are ∙ ap (λ a. s.has_met.entered.start ∷ a) l.entries_are in
           let V : List Entry → Type 0 = λ x. IsView call.home (call.seen ++ s.more) (call.mine ++ x) in
           let O : List Entry → Type 0 = λ x. IsTrue call.home.alone → own_of s.more ≡ x in
-          let A : List Entry → Type 0 = λ x. All (λ (e : Entry). IsOf session e.event) x in
+          let A : List Entry → Type 0 = λ x. All (IsRequestOf session) x in
           let K : List Entry → Type 0 = λ x. HasKilled s.more x in
           let M : List Entry → Type 0 = λ x. HasKilled x (s.course.entries ++ []) in
-          let all = subst A l.entries_are (all_of session s.has_met.entered.answers s.course.requests s.has_met.entered.events) in
+          let all = subst A l.entries_are (all_asked session s.has_met.entered.answers s.course.requests s.has_met.entered.events) in
           let killed = was_killed call.home call.seen s.more call.mine s.has_met.entered.start l.last l.before call.peer session
           (subst V entries (views _ _ s.stands)) s.has_met.fresh s.has_met.entered.event s.has_met.entered.started l.live
-          (All-contains (λ (e : Entry). IsOf session e.event) (l.before ++ l.last ∷ []) l.last all (contains_last l.before l.last)) l.is (subst O entries s.has_met.own) in
+          (all_from (IsRequestOf session) l.before (λ x there. All-contains (IsRequestOf session) (l.before ++ l.last ∷ []) x all (Contains-append_left l.before (l.last ∷ []) x there)))
+          (own_request session l.last (All-contains (IsRequestOf session) (l.before ++ l.last ∷ []) l.last all (contains_last l.before l.last))) l.is (subst O entries s.has_met.own) in
           subst M (sym (append-nil s.more)) (subst K (sym (append-nil s.course.entries)) (subst K (sym entries) killed))
 
   -- it goes on, so it was not killed yet
@@ -249,7 +251,8 @@ module _ (schema : Tables) (call : Call) (session : ℕ) (Stands : List Entry �
             (was_killed call.home call.seen (s.more ++ (entered.others ++ e ∷ [])) call.mine s.has_met.entered.start e s.has_met.entered.answers call.peer session
             (subst V mine (subst W (append_assoc call.seen s.more (entered.others ++ e ∷ [])) (views _ _ entered.stands)))
             (Contains-append_left s.more (entered.others ++ e ∷ []) s.has_met.entered.start s.has_met.fresh)
-            s.has_met.entered.event s.has_met.entered.started (subst S was s.has_met.leave) (subst O (sym entered.event_is) refl) out
+            s.has_met.entered.event s.has_met.entered.started (subst S was s.has_met.leave)
+            (all_asked session s.has_met.entered.answers s.course.requests s.has_met.entered.events) (subst O (sym entered.event_is) refl) out
             (λ alone. own_and_end alone ∙ entries))
 
         by : (l : Bool) → (e.outcome ≡ Ended) ⊎ (e.outcome ≡ NotLive) → Ending e.outcome l → Serves schema call Then IsSpentThen now (if l then met.end else Killed)

@@ -57,8 +57,16 @@ pub record HasMade (opening : State) (before now : Times) (seen mine : List Entr
 
 -- a server without another desk, before its first event
 abbrev pub home_of : Server → Times → Home
-home_of server before =
-    record { opening = opening server.schema server.running 0; answers = before.answers; heard = before.given; alone = true }
+home_of server before = record {
+  opening = opening server.schema server.running 0;
+  answers = before.answers;
+  heard = before.given;
+  alone = true;
+  place = [];
+  begun = 0;
+  start = 0;
+  among = [];
+}
 
 -- The session of that peer was served whole, at a server of its own: no other session can end it, and there is a place
 -- for it.

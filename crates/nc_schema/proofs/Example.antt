@@ -43,7 +43,7 @@ octet = record { least = negsuc 127; most = pos 127 } ∷ []
 
 abbrev pub types : List ValueType
 types =
-    Chars any_length false
+    Chars any_length false []
     ∷ Whole (record { least = pos 0; most = pos 65535 } ∷ [])
     ∷ Leafref 3 (Some 0) false
     ∷ Whole octet
@@ -79,6 +79,7 @@ example = record {
   choices = [];
   types = types;
   modules = record { name = codes "ex"; space = codes "urn:ex"; revision = []; features = [] } ∷ [];
+  patterns = [];
 }
 
 -- the prefix `e` stands for the namespace of the module, and it is the default namespace

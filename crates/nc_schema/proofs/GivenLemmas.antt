@@ -1,5 +1,5 @@
 -- Keys beside values, from a place on.
-use Rattle.std.proofs.Common.{◌≡◌, ◌<◌, ◌≤◌, ◌+◌, ℕ, zero, suc, List, [], ◌∷◌, ◌++◌, Option, Some, None, length, drop, get_or, slice_get, refl, sym, ap, subst, ◌∙◌, append-nil, append_assoc, arith}
+use Rattle.std.proofs.Common.{◌≡◌, ◌<◌, ◌≤◌, ◌+◌, ℕ, zero, suc, List, [], ◌∷◌, ◌++◌, Some, None, length, drop, get_or, slice_get, refl, sym, ap, ◌∙◌, append-nil, append_assoc, arith}
 use Rattle.std.specs.List.{flat_map, zip}
 
 pub nothing_left : {X : Type 0} (xs : List X) (i : ℕ) → length xs ≤ i → drop i xs ≡ []

@@ -14,3 +14,6 @@ pub mod ChildLemmas
 pub mod ValidityLemmas
 pub mod GivenLemmas
 pub mod NumberLemmas
+pub mod RecordLemmas
+pub mod RecordRows
+pub mod Sent

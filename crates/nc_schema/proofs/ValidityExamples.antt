@@ -42,6 +42,7 @@ schema nodes choices types = record {
   choices = choices;
   types = Boolean ∷ types;
   modules = record { name = codes "ex"; space = codes "urn:ex"; revision = []; features = [] } ∷ [];
+  patterns = [];
 }
 
 at : ℕ → Step

@@ -1,5 +1,5 @@
 -- A configuration without rows, of a schema in which nothing has to stand.
-use Rattle.std.proofs.Common.{◌≡◌, ◌==◌, ◌&&◌, ◌||◌, ◌+◌, ◌++◌, ℕ, zero, suc, Bool, true, false, cond, not, ltb, List, [], ◌∷◌, Option, Some, None, map, length, refl, sym, ap, ◌∙◌, arith}
+use Rattle.std.proofs.Common.{◌≡◌, ◌==◌, ◌&&◌, ◌||◌, ◌+◌, ◌++◌, ℕ, zero, suc, Bool, true, false, cond, not, ltb, List, [], ◌∷◌, Option, Some, None, map, length, refl, ap, ◌∙◌, arith}
 use Rattle.std.proofs.lemmas.Bool.{le-ltb}
 use Rattle.std.proofs.lemmas.List.Elements.{All-head, All-tail}
 use Rattle.std.specs.List.{All, enumerate_from, filter, flat_map, list_all}
@@ -7,7 +7,6 @@ use Rattle.std.specs.Option.{option_map_or}
 use Rattle.std.specs.Prelude.{slice_get}
 use Rattle.nc_names.specs.declared.cause.CauseKind.TheVariants.{Mandatory, MandatoryChoice, TooFew, TooMany}
 use Rattle.nc_names.specs.declared.path.Step.{Step}
-use Rattle.nc_schema.specs.declared.node.Case.{Case}
 use Rattle.nc_schema.specs.declared.node.Choice.{Choice}
 use Rattle.nc_schema.specs.declared.node.Kind.{Kind}
 use Rattle.nc_schema.specs.declared.node.Kind.TheVariants.{Container, Leaf, LeafList, List as ListKind}

@@ -94,7 +94,7 @@ module _ (P : CauseKind → Type 0) (mandatory : P Mandatory) (mandatory_choice 
   reference_is tables rows steps text (Instance required) = violated_is _ DeadInstance steps dead_instance
   reference_is tables rows steps text (Whole among) = none_of Is
   reference_is tables rows steps text (Decimal digits among) = none_of Is
-  reference_is tables rows steps text (Chars lengths starless) = none_of Is
+  reference_is tables rows steps text (Chars lengths starless numbers) = none_of Is
   reference_is tables rows steps text Boolean = none_of Is
   reference_is tables rows steps text (Enumeration names) = none_of Is
   reference_is tables rows steps text (Bits names) = none_of Is

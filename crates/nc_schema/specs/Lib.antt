@@ -17,4 +17,5 @@ pub mod Values
 pub mod InUse
 pub mod Violations
 pub mod Places
+pub mod Record
 pub mod inner

@@ -12,6 +12,7 @@ use Rattle.nc_names.specs.Bindings.{space_of}
 use Rattle.nc_names.specs.Ends.{trimmed}
 use Rattle.nc_names.specs.Same.{is_same_name, is_same_text}
 use Rattle.nc_names.specs.Signs.{is_white, apostrophe, asterisk, blank, colon, quote, slash}
+use Rattle.nc_patterns.specs.Admits.{admits_each}
 use Rattle.nc_schema.specs.Bindings.{module_bounds, module_of}
 use Rattle.nc_schema.specs.InstancePaths.{instance_path, key_nodes, node_pattern}
 use Rattle.nc_schema.specs.Kinds.{has_value}
@@ -38,11 +39,14 @@ abbrev pub character_count : List ℕ → ℕ
 character_count text = count_by begins_character text
 
 -- a string has a length in characters (RFC 7950 9.4.4); a group name does not begin with `*`
--- (RFC 8341, `group-name-type`)
-unfoldable pub string_text : List Between → Bool → List ℕ → Option (List ℕ)
-string_text lengths starless text =
-    if is_among lengths (pos (character_count text)) && not (starless && begins_with asterisk text) then Some text
-    else None
+-- (RFC 8341, `group-name-type`); each pattern of the type admits the string (RFC 7950 9.4.5). `patterns` are
+-- those of the schema, and `numbers` name those of the type
+unfoldable pub string_text :
+    (patterns : List (List ℕ)) → List Between → Bool → (numbers : List ℕ) → List ℕ → Option (List ℕ)
+string_text patterns lengths starless numbers text =
+    if is_among lengths (pos (character_count text)) && not (starless && begins_with asterisk text)
+    && admits_each patterns numbers text
+    then Some text else None
 
 -- the text, where it is one of these (RFC 7950 9.5.1, 9.6.1)
 abbrev pub one_of : List (List ℕ) → List ℕ → Option (List ℕ)
@@ -203,7 +207,8 @@ pub record Givers : Type 0 where
 abbrev pub text_in_type : Tables → Givers → ValueType → List Bound → List ℕ → Option (List ℕ)
 text_in_type tables givers (Whole among) bounds text = whole_text among (trimmed text)
 text_in_type tables givers (Decimal digits among) bounds text = decimal_text digits among (trimmed text)
-text_in_type tables givers (Chars lengths starless) bounds text = string_text lengths starless text
+text_in_type tables givers (Chars lengths starless numbers) bounds text =
+    string_text tables.patterns lengths starless numbers text
 text_in_type tables givers Boolean bounds text = boolean_text (trimmed text)
 text_in_type tables givers (Enumeration names) bounds text = one_of names (trimmed text)
 text_in_type tables givers (Bits names) bounds text = bits_text names (trimmed text)

@@ -1,6 +1,6 @@
 //! What follows from the definitions in `specs/`, each as the contract of a function that does
 //! nothing. A call of one makes its law known to the caller.
-ghost use Rattle.nc_schema.specs.Laws.{OrderIsStrict, OrderIsTotal, TextNamesOnePath, EmptyIsDataTree, RowsRise, RowsAreOneList, EmptyIsValid};
+ghost use Rattle.nc_schema.specs.Laws.{OrderIsStrict, OrderIsTotal, TextNamesOnePath, EmptyIsDataTree, RowsRise, RowsAreOneList, EmptyIsValid, SizeIsLength};
 
 /// Document order is irreflexive and transitive.
 pub fn order_is_strict()
@@ -36,4 +36,9 @@ pub fn rows_are_one_list()
 /// Where nothing has to stand in the schema, a configuration without rows is valid.
 pub fn empty_is_valid()
     ensures { EmptyIsValid }
+{}
+
+/// The size of a record is the length of its body.
+pub fn record_size_is_length()
+    ensures { SizeIsLength }
 {}

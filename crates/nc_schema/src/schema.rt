@@ -1,26 +1,35 @@
-//! The schema: data nodes, choices, types and modules, each named by its number from 0.
-ghost use Rattle.std.specs.Prelude.{◌≡◌, ◌<◌, [], ◌∷◌, ◌++◌, length, slice_get, slice_set, IfOk, OnOk, OnErr};
+//! The schema: data nodes, choices, types, modules and patterns, each named by its number from 0.
+ghost use Rattle.std.specs.Prelude.{◌≡◌, ◌<◌, [], ◌∷◌, ◌++◌, length, slice_get, slice_index_or, slice_set, All, IfSome, IfOk, OnOk, OnErr};
 ghost use Rattle.std.specs.Option.{option_copied};
 ghost use Rattle.nc_schema.specs.Children.{IsFirstChild, child_number, IsAbove, HasLowerParents, HasRoom};
-ghost use Rattle.nc_schema.specs.Tables.{no_tables};
+ghost use Rattle.nc_patterns.specs.Admits.{admits, admits_each};
+ghost use Rattle.nc_patterns.specs.Makers.{HasCause};
+ghost use Rattle.nc_patterns.specs.Reading.{IsPattern};
+ghost use Rattle.nc_patterns.specs.Translation.{anchored};
+ghost use Rattle.nc_patterns.specs.declared.fault.PatternFault.TheVariants.{Refused as PatternRefused};
+ghost use Rattle.nc_schema.specs.Tables.{no_tables, NamesPatterns};
 
 use crate::nodes::Nodes;
 use crate::{Choice, Node, ValueType};
 use nc_names::{Many, Memory, Module, QName};
+use nc_patterns::{Built, Maker, NoMemory, PatternFault};
 use std::alloc::Global;
 use std::marker::Model;
 
-/// A schema, which contracts see as its four lists: nodes, choices, types and modules.
+/// A schema, which contracts see as its five lists: nodes, choices, types, modules and the texts of
+/// patterns. Its types name no other patterns.
 #[derive(Drop)]
 pub struct Schema {
     nodes: Nodes,
     choices: Many<Choice>,
     types: Many<ValueType>,
     modules: Many<Module>,
+    built: Built,
 }
 
 impl Model for Schema {
-    ghost use Rattle.nc_schema.specs.Tables.{Tables};
+    ghost use Rattle.std.specs.Prelude.{All, length};
+    ghost use Rattle.nc_schema.specs.Tables.{Tables, NamesPatterns};
 
     ghost Value = { Tables };
 
@@ -29,7 +38,10 @@ impl Model for Schema {
       choices = s.choices;
       types = s.types;
       modules = s.modules;
+      patterns = s.built;
     } };
+
+    ghost invariant = { λ s. All (NamesPatterns (length s.built)) s.types };
 }
 
 impl Schema {
@@ -68,16 +80,18 @@ impl Schema {
         self.choices.as_slice()
     }
 
-    /// The types by their numbers.
+    /// The types by their numbers. The schema has the patterns that they name.
     pub fn types(&self) -> &[ValueType]
-        ensures { result.now ≡ self.now.types }
+        ensures types { result.now ≡ self.now.types }
+        ensures patterns { All (NamesPatterns (length self.now.patterns)) result.now }
     {
         self.types.as_slice()
     }
 
-    /// The type of a number, or `None` past the last.
+    /// The type of a number, or `None` past the last. The schema has the patterns that it names.
     pub fn value_type(&self, number: u32) -> Option<&ValueType>
-        ensures { option_copied result ≡ slice_get self.now.types number }
+        ensures found { option_copied result ≡ slice_get self.now.types number }
+        ensures patterns { IfSome (option_copied result) (NamesPatterns (length self.now.patterns)) }
     {
         self.types.get(number as usize)
     }
@@ -108,6 +122,7 @@ impl Schema {
             choices: Many::new(alloc),
             types: Many::new(alloc),
             modules: Many::new(alloc),
+            built: Built::new(alloc),
         }
     }
 
@@ -135,9 +150,11 @@ impl Schema {
         Ok(number)
     }
 
-    /// Adds a type and answers its number. With it there are fewer than 2^32.
+    /// Adds a type, whose patterns were added before, and answers its number. With it there are
+    /// fewer than 2^32.
     pub fn add_type(&mut self, value_type: ValueType) -> Result<u32, Memory>
-        requires { HasRoom self.old.types }
+        requires room { HasRoom self.old.types }
+        requires patterns { NamesPatterns (length self.old.patterns) value_type }
         ensures number { IfOk result (λ number. number ≡ length self.old.types) }
         ensures ok { OnOk result (self.new ≡ record self.old { types = self.old.types ++ value_type ∷ [] }) }
         ensures err { OnErr result (self.new ≡ self.old) }
@@ -171,11 +188,49 @@ impl Schema {
         self.nodes.set(number, node);
     }
 
-    /// Puts a type in the place of another. It takes no memory.
+    /// Puts a type, whose patterns were added before, in the place of another. It takes no memory.
     pub fn set_type(&mut self, number: u32, value_type: ValueType)
-        requires { number < length self.old.types }
+        requires given { number < length self.old.types }
+        requires patterns { NamesPatterns (length self.old.patterns) value_type }
         ensures { self.new ≡ record self.old { types = slice_set self.old.types number value_type } }
     {
         self.types.set(number as usize, value_type);
+    }
+
+    /// Adds a pattern that can be read (RFC 7950 9.4.5), and answers its number.
+    ///
+    /// `Refused` comes only where the maker's count of refusals rises, and the last text that it
+    /// refused is then the pattern's expression. `Memory` comes also where no number is left.
+    pub fn add_pattern<M: Maker>(
+        &mut self,
+        maker: &mut M,
+        pattern: &str,
+    ) -> Result<u32, PatternFault>
+        requires { IsPattern pattern.now }
+        ensures number { IfOk result (λ number. number ≡ length self.old.patterns) }
+        ensures ok { OnOk result (self.new
+            ≡ record self.old { patterns = self.old.patterns ++ pattern.now ∷ [] }) }
+        ensures err { OnErr result (self.new ≡ self.old) }
+        ensures cause { HasCause (anchored pattern.now) PatternRefused (M.refusals maker.old) (M.refusals
+            maker.new) (M.last_refused maker.old) (M.last_refused maker.new) result }
+    {
+        self.built.add(maker, pattern)
+    }
+
+    /// Whether the pattern of that number admits a text.
+    pub fn admits(&self, number: u32, text: &str) -> Result<bool, NoMemory>
+        requires { number < length self.now.patterns }
+        ensures { IfOk result (λ found. found
+            ≡ admits (slice_index_or self.now.patterns number []) text.now) }
+    {
+        self.built.admits(number, text)
+    }
+
+    /// Whether each pattern that a type of the schema names by these numbers admits a text.
+    pub fn admits_each(&self, numbers: &[u32], text: &str) -> Result<bool, Memory>
+        requires { All (λ number. number < length self.now.patterns) numbers.now }
+        ensures { IfOk result (λ found. found ≡ admits_each self.now.patterns numbers.now text.now) }
+    {
+        self.built.admits_each(numbers, text).map_err(|_| Memory)
     }
 }

@@ -30,11 +30,13 @@ pub enum ValueType {
         digits: u32,
         among: Many<Between>,
     },
-    /// A string whose length in characters is in one of the ranges (RFC 7950 9.4). Where `starless`
-    /// it may not begin with `*` (group names, RFC 8341 3.5.2).
+    /// A string whose length in characters is in one of the ranges (RFC 7950 9.4) and which each of
+    /// the patterns admits, that are named by their numbers in the schema (RFC 7950 9.4.5). Where
+    /// `starless` it may not begin with `*` (group names, RFC 8341 3.5.2).
     Chars {
         lengths: Many<Between>,
         starless: bool,
+        patterns: Many<u32>,
     },
     /// `true` or `false` (RFC 7950 9.5).
     Boolean,
@@ -87,9 +89,14 @@ impl Copies for ValueType {
                 digits: *digits,
                 among: among.copy()?,
             }),
-            ValueType::Chars { lengths, starless } => Ok(ValueType::Chars {
+            ValueType::Chars {
+                lengths,
+                starless,
+                patterns,
+            } => Ok(ValueType::Chars {
                 lengths: lengths.copy()?,
                 starless: *starless,
+                patterns: patterns.copy()?,
             }),
             ValueType::Boolean => Ok(ValueType::Boolean),
             ValueType::Enumeration { names } => Ok(ValueType::Enumeration {

@@ -34,6 +34,7 @@ pub mod PayloadRows
 pub mod PayloadFits
 pub mod PayloadLaws
 pub mod RequestsExample
+pub mod PrefixesExample
 pub mod PrintedExample
 pub mod RepliesExample
 pub mod FilterExample

@@ -1,5 +1,5 @@
 -- The errors of the causes: type, tag and app-tag, and what error-info holds (RFC 6241 4.3 and appendix A; RFC 7950
--- 15; RFC 5717 2.4.1; RFC 8341 3.4.5).
+-- 15; RFC 5717 2.4.1; RFC 8341 3.4.3).
 use Rattle.std.specs.Prelude.{◌-◌, ℕ, Bool, true, false, List, [], ◌∷◌, Option, Some, None, length, slice_get}
 use Rattle.std.specs.List.{zip}
 use Rattle.std.specs.Option.{option_map_or}
@@ -171,7 +171,8 @@ name_count BadElement = Some 1
 name_count MissingInstance = Some 2
 name_count kind = Some 0
 
--- a cause that is about one data node: its error has the node's path
+-- a cause that is about one data node: its error has the node's path. A mandatory choice is about none where it stands at
+-- the top level of the data tree
 abbrev pub is_of_node : CauseKind → Bool
 is_of_node UnknownAttribute = true
 is_of_node BadAttribute = true
@@ -181,7 +182,6 @@ is_of_node Absent = true
 is_of_node MissingInstance = true
 is_of_node DataDenied = true
 is_of_node Mandatory = true
-is_of_node MandatoryChoice = true
 is_of_node TooFew = true
 is_of_node TooMany = true
 is_of_node NotUnique = true

@@ -1,13 +1,18 @@
--- The names of modules that stand as prefixes in canonical texts, and their namespaces.
+-- The names of modules that stand as prefixes in canonical texts, and their namespaces (RFC 7950 9.10, 9.13).
 use Rattle.std.specs.Prelude.{◌==◌, ◌||◌, ℕ, zero, suc, Bool, true, false, not, if◌then◌else◌, List, [], ◌∷◌, ◌++◌, length, fold, Option, Some, None, slice_get}
-use Rattle.std.specs.List.{before_first, find, list_any, slice_split}
+use Rattle.std.specs.List.{before_first, find, list_any, slice_split, zip}
 use Rattle.std.specs.Option.{option_map_or}
 use Rattle.nc_names.specs.declared.name.Bound.{Bound}
 use Rattle.nc_names.specs.declared.name.Module.{Module}
+use Rattle.nc_names.specs.declared.path.Path.{Path}
+use Rattle.nc_names.specs.declared.path.Step.{Step}
 use Rattle.nc_names.specs.Same.{is_same_text}
 use Rattle.nc_names.specs.Signs.{colon, is_in_identifier}
+use Rattle.nc_schema.specs.PathTexts.{module_name}
 use Rattle.nc_schema.specs.Tables.{Tables}
 use Rattle.nc_schema.specs.Values.{type_of}
+use Rattle.nc_schema.specs.declared.node.Kind.{Kind}
+use Rattle.nc_schema.specs.declared.node.Kind.TheVariants.{Container, Leaf, LeafList, List as ListKind}
 use Rattle.nc_schema.specs.declared.value_type.ValueType.{ValueType}
 use Rattle.nc_schema.specs.declared.value_type.ValueType.TheVariants.{Union, Identity, Leafref, Instance, NodeInstance}
 
@@ -43,10 +48,6 @@ with_piece tables bounds piece =
 abbrev pub with_names : Tables → List Bound → List ℕ → List Bound
 with_names tables bounds text = fold (with_piece tables) bounds (slice_split is_apart text)
 
--- the bindings of the module names that a text has before colons, each once, in the order of first use
-abbrev pub names_bound : Tables → List ℕ → List Bound
-names_bound tables text = with_names tables [] text
-
 -- a value of the type may have a module's name as a prefix: one of an identity or of a path, also as a member of a
 -- union or as the target of a leafref. `holds` is this of the types by which it is given
 abbrev pub may_hold_names : Tables → (holds : ℕ → Bool) → ValueType → Bool
@@ -63,8 +64,44 @@ holds_names tables zero number = false
 holds_names tables (suc most) number =
     option_map_or (may_hold_names tables (holds_names tables most)) (slice_get tables.types number) false
 
+-- a value of that data node may have a module's name as a prefix, by its type
+abbrev pub value_holds_names : Tables → ℕ → Bool
+value_holds_names tables number = option_map_or (holds_names tables (length tables.types)) (type_of tables number) false
+
+-- bindings with those of the module names in a value of that data node
+abbrev pub with_value : Tables → List Bound → ℕ → List ℕ → List Bound
+with_value tables bounds number text =
+    if value_holds_names tables number then with_names tables bounds text else bounds
+
 -- the bindings of the module names in a value of that data node
 abbrev pub value_bounds : Tables → ℕ → List ℕ → List Bound
-value_bounds tables number text =
-    if option_map_or (holds_names tables (length tables.types)) (type_of tables number) false
-    then names_bound tables text else []
+value_bounds tables number text = with_value tables [] number text
+
+-- with that of the module of a data node, which is its prefix in a path text
+abbrev pub with_node : Tables → List Bound → ℕ → List Bound
+with_node tables bounds number =
+    option_map_or (λ node. with_name tables bounds (module_name tables node.module)) (slice_get tables.nodes number) bounds
+
+-- with those of a key and its value
+abbrev pub with_key : Tables → List Bound → ℕ × List ℕ → List Bound
+with_key tables bounds key = with_value tables (with_node tables bounds key.0) key.0 key.1
+
+-- with those of the predicates of a step to that data node
+abbrev pub with_predicates : Tables → List Bound → (number : ℕ) → Kind → (keys : List ℕ) → List (List ℕ) → List Bound
+with_predicates tables bounds number (Container presence) keys values = bounds
+with_predicates tables bounds number Leaf keys values = bounds
+with_predicates tables bounds number LeafList keys values =
+    fold (λ before value. with_value tables before number value) bounds values
+with_predicates tables bounds number ListKind keys values = fold (with_key tables) bounds (zip keys values)
+
+-- with those of a step
+abbrev pub with_step_names : Tables → List Bound → Step → List Bound
+with_step_names tables bounds step =
+    option_map_or (λ node. with_predicates tables (with_node tables bounds step.node) step.node node.kind node.keys step.keys)
+    (slice_get tables.nodes step.node) bounds
+
+-- the bindings of the module names that the text of a path has as prefixes, each once, in the order of first use: those
+-- of its steps and keys, and of the values in it whose types have names. A plain string that holds a colon declares
+-- nothing
+abbrev pub path_bounds : Tables → Path → List Bound
+path_bounds tables path = fold (with_step_names tables) [] path.steps

@@ -1,4 +1,4 @@
--- The reply to a request (RFC 6241 4.2 to 4.4; RFC 5717 2.4.1; RFC 8341 3.2.5 and 3.4.5).
+-- The reply to a request (RFC 6241 4.2 to 4.4; RFC 5717 2.4.1; RFC 8341 3.2.5 and 3.4.3).
 use Rattle.std.specs.Prelude.{◌||◌, ℕ, Bool, false, if◌then◌else◌, List, [], ◌∷◌, ◌++◌, map, Option, Some, None, Result, Ok, Err}
 use Rattle.std.specs.Fmt.{decimal}
 use Rattle.std.specs.Option.{option_map_or}
@@ -19,7 +19,7 @@ use Rattle.nc_protocol.specs.declared.verdict.Verdict.{Verdict}
 use Rattle.nc_protocol.specs.declared.verdict.Verdict.TheVariants.{Done, Selected, Locked, Refused}
 use Rattle.nc_protocol.specs.Content.{base_name, made_element, partial_lock_name, text_part, text_parts}
 use Rattle.nc_protocol.specs.ErrorRows.{ErrorRow, Info, error_of, own_info, standard_info}
-use Rattle.nc_protocol.specs.ModuleNames.{names_bound}
+use Rattle.nc_protocol.specs.ModuleNames.{path_bounds}
 use Rattle.nc_protocol.specs.Payload.{names_path}
 use Rattle.nc_protocol.specs.Printed.{printed}
 use Rattle.nc_protocol.specs.Words as w
@@ -28,11 +28,11 @@ use Rattle.nc_protocol.specs.Words as w
 abbrev pub base_part : List ℕ → List Part → Part
 base_part name parts = Child (made_element (base_name name) parts)
 
--- an element round a path text, with the module names in it bound to their namespaces
+-- an element round a path text, with the module names that are prefixes in it bound to their namespaces
 abbrev pub path_part : Tables → QName → Path → Part
 path_part tables name path =
     let text = path_text_of tables path in
-    Child (record { name = name; bounds = names_bound tables text; attrs = []; parts = text_parts text })
+    Child (record { name = name; bounds = path_bounds tables path; attrs = []; parts = text_parts text })
 
 -- ---- errors
 
@@ -61,7 +61,7 @@ abbrev pub seen_names : (Path → Bool) → List (List ℕ) → List (List ℕ)
 seen_names sees (word ∷ list ∷ rule ∷ []) = if sees (rule_path list rule) then word ∷ list ∷ rule ∷ [] else word ∷ []
 seen_names sees names = names
 
--- the names of a cause, without those of a rule that the session does not see (RFC 8341 3.4.5)
+-- the names of a cause, without those of a rule that the session does not see (RFC 8341 3.4.3)
 abbrev pub names_shown : (Path → Bool) → Cause → List (List ℕ)
 names_shown sees cause =
     elim cause.kind as (λ kind. List (List ℕ)) [

@@ -1,4 +1,4 @@
--- Access without access control (RFC 8341 3.2.1).
+-- Access without access control (RFC 8341 3.3.4.1).
 use Rattle.std.specs.Prelude.{true}
 use Rattle.nc_names.specs.declared.path.Path.{Path}
 use Rattle.nc_names.specs.declared.path.Right.{Right}

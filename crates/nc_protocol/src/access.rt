@@ -53,7 +53,7 @@ pub trait Rights {
 }
 
 /// Knows which data nodes may be seen: those at which, and above which, reading is permitted
-/// (RFC 8341 3.2.3).
+/// (RFC 8341 3.2.4).
 pub trait Sees {
     /// Whether the node of a path may be seen.
     ghost seen: { Self → Path → Bool };
@@ -63,7 +63,7 @@ pub trait Sees {
         ensures { result ≡ seen self.now path.now };
 }
 
-/// Access without access control (RFC 8341 3.2.1): every right is given, and every node may be seen.
+/// Access without access control (RFC 8341 3.3.4.1): every right is given, and every node may be seen.
 #[derive(Clone, Copy, PartialEq, Eq, Debug)]
 pub struct Unchecked;
 

@@ -1,11 +1,12 @@
 //! A request, and why one is refused.
 ghost use Rattle.std.specs.Prelude.{◌≡◌, IfOk, [], ◌∷◌};
 ghost use Rattle.nc_protocol.specs.Asking.{plain_cause};
+ghost use Rattle.nc_protocol.specs.Attributes.{cause_in, path_of};
 ghost use Rattle.nc_protocol.specs.Edited.{cause_at};
 
 use crate::{Asked, Operation};
 use nc_message::Attr;
-use nc_names::{CauseKind, Copies, Many, Memory, Path, Text};
+use nc_names::{CauseKind, Copies, Many, Memory, Path, Step, Text};
 use std::alloc::Global;
 
 /// Why a request is refused: what becomes of one `rpc-error` (RFC 6241 4.3).
@@ -13,7 +14,7 @@ use std::alloc::Global;
 pub struct Cause {
     /// Its kind, which has an error-type, an error-tag and an error-app-tag.
     pub kind: CauseKind,
-    /// The node that it is about (`error-path`).
+    /// The node that it is about (`error-path`), if it is about one.
     pub path: Option<Path>,
     /// The names that `error-info` needs, such as `bad-element`.
     pub names: Many<Text>,
@@ -50,6 +51,27 @@ impl Cause {
             names,
         }
     }
+
+    /// A cause that is about the node to which the steps lead, or about none at the top.
+    pub fn inside(kind: CauseKind, steps: Many<Step>, names: Many<Text>) -> Cause
+        ensures { result ≡ cause_in kind steps names }
+    {
+        Cause {
+            kind,
+            path: path_of(steps),
+            names,
+        }
+    }
+}
+
+// The path of a node; at the top there is none.
+fn path_of(steps: Many<Step>) -> Option<Path>
+    ensures { result ≡ path_of steps }
+{
+    if steps.is_empty() {
+        return None;
+    }
+    Some(Path { steps })
 }
 
 impl Copies for Cause {

@@ -1,6 +1,6 @@
 -- The module names that are prefixes in path texts: those of steps and keys, and of values by their types alone.
 use Rattle.std.proofs.Common.{◌≡◌, ℕ, List, [], ◌∷◌, refl}
-use Rattle.std.specs.Prelude.{codes, map, false, Option, Some, None}
+use Rattle.std.specs.Prelude.{codes, map, false, Some, None}
 use Rattle.nc_names.specs.declared.name.Bound.{Bound}
 use Rattle.nc_names.specs.declared.path.Path.{Path}
 use Rattle.nc_schema.specs.Tables.{Tables}

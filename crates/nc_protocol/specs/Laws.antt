@@ -1,5 +1,5 @@
 -- What follows from the definitions.
-use Rattle.std.specs.Prelude.{Some, ◌⊎◌, ◌≡◌, ◌↔◌, ◌+◌, Bool, true, false, List, [], ◌∷◌, ◌++◌, Ok}
+use Rattle.std.specs.Prelude.{Some, ◌⊎◌, ◌≡◌, ◌↔◌, Bool, true, false, List, [], ◌∷◌, ◌++◌, Ok}
 use Rattle.std.specs.List.{All, AllPairs, Contains, filter, list_any}
 use Rattle.nc_message.specs.declared.tree.Elem.{Elem}
 use Rattle.nc_message.specs.declared.tree.Part.TheVariants.{Child}

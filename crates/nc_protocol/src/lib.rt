@@ -10,6 +10,7 @@ mod access;
 mod asked;
 pub mod cause_words;
 mod changes;
+pub mod content;
 mod datastore;
 mod edit;
 mod laws;

@@ -17,7 +17,7 @@ use Rattle.nc_schema.specs.Tables.{Tables}
 use Rattle.nc_schema.proofs.TextLemmas.{all_in_identifier}
 use Rattle.nc_protocol.proofs.BoolLemmas.{is_false}
 use Rattle.nc_protocol.proofs.ListLemmas.{contains_behind}
-use Rattle.nc_protocol.specs.ModuleNames.{is_apart, is_bound, is_colon, names_bound, with_module, with_name, with_piece}
+use Rattle.nc_protocol.specs.ModuleNames.{is_apart, is_bound, is_colon, with_module, with_name, with_names, with_piece}
 use Rattle.nc_print.proofs.TrimAgain.{left_true, right_true}
 
 -- ---- where a name may stand
@@ -344,7 +344,7 @@ module _ (tables : Tables) (schema : IsProperSchema tables) where
   }
 
   -- so do those that a text has
-  pub names_know : (text : List ℕ) → Knows tables (names_bound tables text) text
+  pub names_know : (text : List ℕ) → Knows tables (with_names tables [] text) text
   names_know text = record {
     known = λ before prefix after is ends named. known before prefix after is ends named;
     default = other [] refl;
@@ -354,16 +354,16 @@ module _ (tables : Tables) (schema : IsProperSchema tables) where
       pieces : AreWith tables [] (fold (with_piece tables) [] (slice_split is_apart text)) (slice_split is_apart text)
       pieces = pieces_are tables [] (slice_split is_apart text) (λ prefix. inl refl)
 
-      other : (prefix : List ℕ) → is_identifier prefix ≡ false → space_of prefix (names_bound tables text) ≡ None
+      other : (prefix : List ℕ) → is_identifier prefix ≡ false → space_of prefix (with_names tables [] text) ≡ None
       other prefix none = by (pieces.names prefix)
         where
-          by : (space_of prefix (names_bound tables text) ≡ None) ⊎ Covers tables (names_bound tables text) prefix → space_of prefix (names_bound tables text) ≡ None
+          by : (space_of prefix (with_names tables [] text) ≡ None) ⊎ Covers tables (with_names tables [] text) prefix → space_of prefix (with_names tables [] text) ≡ None
           by (inl is) = is
           by (inr covers) = covers ∙ none_named prefix none
 
-      known : (before prefix after : List ℕ) → text ≡ before ++ (prefix ++ colon ∷ after) → EndsApart before → IsPrefix prefix → space_of prefix (names_bound tables text) ≡ space_of prefix (module_bounds tables)
+      known : (before prefix after : List ℕ) → text ≡ before ++ (prefix ++ colon ∷ after) → EndsApart before → IsPrefix prefix → space_of prefix (with_names tables [] text) ≡ space_of prefix (module_bounds tables)
       known before prefix after text_is ends named =
-          subst (λ (p : List ℕ). space_of p (names_bound tables text) ≡ space_of p (module_bounds tables)) first.0
+          subst (λ (p : List ℕ). space_of p (with_names tables [] text) ≡ space_of p (module_bounds tables)) first.0
           (pieces.each (prefix ++ colon ∷ head.0) (subst (λ (t : List ℕ). Contains (slice_split is_apart t) (prefix ++ colon ∷ head.0)) (sym text_is) (there ends)) first.1)
         where
           head : (head : List ℕ) × (rest : List (List ℕ)) × (slice_split is_apart after ≡ head ∷ rest)

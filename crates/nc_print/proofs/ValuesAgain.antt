@@ -18,7 +18,7 @@ use Rattle.nc_schema.specs.declared.value_type.ValueType.{ValueType}
 use Rattle.nc_schema.specs.declared.value_type.ValueType.TheVariants.{Whole, Decimal, Chars, Boolean, Enumeration, Bits, Binary, Empty, Union, Identity, Leafref, Instance, NodeInstance}
 use Rattle.nc_protocol.proofs.ListLemmas.{contains_at, contains_behind, none_passes}
 use Rattle.nc_protocol.proofs.Parts.{all_at}
-use Rattle.nc_protocol.specs.ModuleNames.{holds_names, may_hold_names, names_bound, value_bounds}
+use Rattle.nc_protocol.specs.ModuleNames.{holds_names, may_hold_names, value_bounds, with_names}
 use Rattle.nc_print.proofs.BitsAgain.{bits_again}
 use Rattle.nc_print.proofs.DecimalAgain.{decimal_again}
 use Rattle.nc_print.proofs.IdentityAgain.{identity_again, knows_trimmed, same_identity}
@@ -289,11 +289,11 @@ module _ (tables : Tables) (schema : IsProperSchema tables) (keys : List Bound �
           ∙ (λ i. sym is i >>= (λ t. type_text tables keys (length tables.types) [] (module_bounds tables) t text >>= (λ v. cond (fits_paths tables number v) (Some v) None)))
       by (Some type) is = go (holds_names tables (length tables.types) type) refl
         where
-          bounds_are : (b : Bool) → holds_names tables (length tables.types) type ≡ b → value_bounds tables number text ≡ cond b (names_bound tables text) []
-          bounds_are b e = ap (λ o. cond (option_map_or (holds_names tables (length tables.types)) o false) (names_bound tables text) []) is ∙ ap (λ t. cond t (names_bound tables text) []) e
+          bounds_are : (b : Bool) → holds_names tables (length tables.types) type ≡ b → value_bounds tables number text ≡ cond b (with_names tables [] text) []
+          bounds_are b e = ap (λ o. cond (option_map_or (holds_names tables (length tables.types)) o false) (with_names tables [] text) []) is ∙ ap (λ t. cond t (with_names tables [] text) []) e
 
           go : (b : Bool) → holds_names tables (length tables.types) type ≡ b → node_text tables keys (value_bounds tables number text) number text ≡ node_text tables keys (module_bounds tables) number text
-          go true e = ap (λ bs. node_text tables keys bs number text) (bounds_are true e) ∙ node_same (names_bound tables text) number text (names_know tables schema text)
+          go true e = ap (λ bs. node_text tables keys bs number text) (bounds_are true e) ∙ node_same (with_names tables [] text) number text (names_know tables schema text)
           go false e =
               ap (λ bs. node_text tables keys bs number text) (bounds_are false e)
               ∙ (λ i. is i >>= (λ t. type_text tables keys (length tables.types) [] [] t text >>= (λ v. cond (fits_paths tables number v) (Some v) None)))

@@ -3,7 +3,7 @@
 //! `print` gives exactly the elements that nc_protocol's definition `printed` has for rows in document order: one
 //! for each row, and for each container without presence that has a row below it. Where a value may have module
 //! names as prefixes these are bound on its element. Each row is looked at once for each step of its path.
-//! `names_bound` gives the bindings that a path text needs. The laws say that an element so made for a data node is
+//! `path_bounds` gives the bindings that a path text needs. The laws say that an element so made for a data node is
 //! read back as that node, by nc_protocol's definition of a payload, and that the elements of a whole configuration
 //! are read back as its rows.
 #![tactic(auto)]
@@ -12,6 +12,7 @@ mod element;
 mod elements;
 mod laws;
 mod module_names;
+mod paths;
 mod runs;
 mod value_types;
 
@@ -22,4 +23,4 @@ pub use laws::{
     printed_is_merges, printed_is_named, printed_keys_are_read, printed_rows_are_read_back,
     printed_value_is_read,
 };
-pub use module_names::names_bound;
+pub use paths::path_bounds;

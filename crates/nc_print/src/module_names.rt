@@ -1,4 +1,4 @@
-//! The names of modules that a text has as prefixes (RFC 7951 6.8, 6.11).
+//! The names of modules that a text has as prefixes (RFC 7950 9.10, 9.13).
 ghost use Rattle.std.specs.Prelude.{◌≡◌, ◌≤◌, length, take, drop, not, position, IfOk, MatchOption};
 ghost use Rattle.std.specs.Option.{option_copied};
 ghost use Rattle.std.specs.List.{before_first, find, list_any, prefix_len};
@@ -6,10 +6,8 @@ ghost use Rattle.nc_names.specs.Same.{is_same_text};
 ghost use Rattle.nc_protocol.specs.ModuleNames as names;
 ghost use Rattle.nc_print.specs.inner.Pieces.{IsOnePiece, EndsAt};
 
-use nc_message::Bounds;
 use nc_names::{Bound, Copies, Many, Memory, Module, is_in_identifier};
 use nc_schema::Schema;
-use std::alloc::Global;
 
 // Whether a sign stands between names.
 fn is_apart(sign: u8) -> bool
@@ -52,8 +50,12 @@ fn is_bound(bounds: &[Bound], name: &[u8]) -> bool
         .any(|bound| bound.prefix.as_str().as_bytes() == name)
 }
 
-// Adds the binding of a module's name, unless it is there or no module has the name.
-fn push_name(schema: &Schema, name: &[u8], bounds: &mut Many<Bound>) -> Result<(), Memory>
+/// Adds the binding of a module's name, unless it is there or no module has the name.
+pub(crate) fn push_name(
+    schema: &Schema,
+    name: &[u8],
+    bounds: &mut Many<Bound>,
+) -> Result<(), Memory>
     ensures { IfOk result (λ _. bounds.new ≡ names.with_name schema.now bounds.old name.now) }
 {
     if is_bound(bounds.as_slice(), name) {
@@ -112,9 +114,13 @@ fn end_of_piece(text: &[u8]) -> Option<usize>
     place_of(text)
 }
 
-// The bindings of the module names in a text.
+/// Adds the bindings of the module names that a text has before colons, each once, in the order of first use.
 #[tactic(auto, using(crate::proofs::NameLemmas::next_piece, crate::proofs::NameLemmas::last_piece))]
-fn push_names(schema: &Schema, text: &[u8], bounds: &mut Many<Bound>) -> Result<(), Memory>
+pub(crate) fn push_names(
+    schema: &Schema,
+    text: &[u8],
+    bounds: &mut Many<Bound>,
+) -> Result<(), Memory>
     ensures { IfOk result (λ _. bounds.new ≡ names.with_names schema.now bounds.old text.now) }
 {
     let mut rest = text;
@@ -127,13 +133,4 @@ fn push_names(schema: &Schema, text: &[u8], bounds: &mut Many<Bound>) -> Result<
             None => return push_piece(schema, rest, bounds),
         }
     }
-}
-
-/// The bindings of the module names that a text has before colons, each once, in the order of first use.
-pub fn names_bound(alloc: Global, schema: &Schema, text: &str) -> Result<Bounds, Memory>
-    ensures { IfOk result (λ it. it ≡ names.names_bound schema.now text.now) }
-{
-    let mut bounds = Many::new(alloc);
-    push_names(schema, text.as_bytes(), &mut bounds)?;
-    Bounds::from_many(alloc, &bounds)
 }

@@ -5,9 +5,9 @@ ghost use Rattle.std.specs.Option.{option_map_or};
 ghost use Rattle.nc_schema.specs.Values.{type_of};
 ghost use Rattle.nc_protocol.specs.ModuleNames as names;
 
-use crate::module_names::names_bound;
+use crate::module_names::push_names;
 use nc_message::Bounds;
-use nc_names::{Memory, Text};
+use nc_names::{Bound, Many, Memory, Text};
 use nc_schema::{Kind, Schema, ValueType};
 use std::alloc::Global;
 
@@ -67,6 +67,28 @@ fn target_holds(schema: &Schema, most: usize, target: u32) -> bool
     }
 }
 
+// Whether a value of that data node may hold module names.
+fn value_holds_names(schema: &Schema, number: u32) -> bool
+    ensures { result ≡ names.value_holds_names schema.now number }
+{
+    target_holds(schema, schema.types().len(), number)
+}
+
+/// Adds the bindings of the module names in a value of that data node.
+pub(crate) fn push_value(
+    schema: &Schema,
+    number: u32,
+    text: &Text,
+    bounds: &mut Many<Bound>,
+) -> Result<(), Memory>
+    ensures { IfOk result (λ _. bounds.new ≡ names.with_value schema.now bounds.old number text.now) }
+{
+    if !value_holds_names(schema, number) {
+        return Ok(());
+    }
+    push_names(schema, text.as_str().as_bytes(), bounds)
+}
+
 /// The bindings of the module names in a value of that data node.
 pub(crate) fn value_bounds(
     alloc: Global,
@@ -76,8 +98,10 @@ pub(crate) fn value_bounds(
 ) -> Result<Bounds, Memory>
     ensures { IfOk result (λ it. it ≡ names.value_bounds schema.now number text.now) }
 {
-    if target_holds(schema, schema.types().len(), number) {
-        return names_bound(alloc, schema, text.as_str());
+    let mut bounds = Many::new(alloc);
+    push_value(schema, number, text, &mut bounds)?;
+    if bounds.is_empty() {
+        return Ok(Bounds::new());
     }
-    Ok(Bounds::new())
+    Bounds::from_many(alloc, &bounds)
 }

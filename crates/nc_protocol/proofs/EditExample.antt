@@ -36,6 +36,7 @@ unfoldable schema : Tables
 schema = record {
   nodes = node (codes "top") None (Container false) [] ∷ rule_node ∷ node (codes "name") (Some 1) Leaf [] ∷ x_node ∷ y_node ∷ [];
   choices = [];
+  patterns = [];
   types = [];
   modules = [];
 }

@@ -43,6 +43,7 @@ unfoldable pub tables : Tables
 tables = record {
   nodes = node (codes "top") None (Container false) [] ∷ node (codes "port") (Some 0) ListKind (2 ∷ []) ∷ node (codes "name") (Some 1) Leaf [] ∷ [];
   choices = [];
+  patterns = [];
   types = Enumeration (codes "a" ∷ codes "b" ∷ []) ∷ [];
   modules = record { name = codes "ex"; space = codes "urn:ex"; revision = []; features = [] } ∷ [];
 }

@@ -44,6 +44,7 @@ schema = record {
       ∷ node (codes "dept") (Some 6) Leaf [] ∷ node (codes "id") (Some 6) Leaf [] ∷ node (codes "tag") (Some 2) LeafList []
       ∷ node (codes "host") (Some 0) Leaf [] ∷ node (codes "port") (Some 0) Leaf [] ∷ [];
   choices = [];
+  patterns = [];
   types = [];
   modules = [];
 }

@@ -50,6 +50,7 @@ tables = record {
       ∷ node (codes "up") Leaf false (record { choice = 0; case = 0 } ∷ [])
       ∷ node (codes "down") Leaf false (record { choice = 0; case = 1 } ∷ []) ∷ [];
   choices = [];
+  patterns = [];
   types = [];
   modules = [];
 }

@@ -51,6 +51,7 @@ schema = record {
       ∷ x_node ∷ y_node ∷ node (codes "sub") (Some 1) (Container false) [] ∷ node (codes "tag") (Some 6) LeafList []
       ∷ node (codes "port") (Some 0) ListKind (9 ∷ []) ∷ node (codes "id") (Some 8) Leaf [] ∷ [];
   choices = [];
+  patterns = [];
   types = [];
   modules = record { name = codes "ex"; space = codes "urn:ex"; revision = []; features = [] } ∷ [];
 }

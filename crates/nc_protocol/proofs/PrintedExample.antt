@@ -27,6 +27,7 @@ schema = record {
       ∷ node (codes "id") (Some 1) Leaf [] ∷ node (codes "tag") (Some 0) LeafList [] ∷ node (codes "host") (Some 0) ListKind (5 ∷ [])
       ∷ node (codes "name") (Some 4) Leaf [] ∷ node (codes "sub") (Some 4) (Container false) [] ∷ kind_node ∷ node (codes "note") (Some 6) Leaf [] ∷ [];
   choices = [];
+  patterns = [];
   types = Boolean ∷ Union (0 ∷ 2 ∷ []) ∷ Identity (record { space = codes "urn:ex"; name = codes "k" } ∷ []) ∷ [];
   modules = record { name = codes "ex"; space = codes "urn:ex"; revision = []; features = [] } ∷ [];
 }

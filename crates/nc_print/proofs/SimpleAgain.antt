@@ -120,11 +120,12 @@ whole_again among given text e = by (number_of given) refl e
             ∙ ap (λ b. option_map signed_decimal (cond b (Some z) None)) within ∙ g
 
 -- ---- texts that are taken as they are
-pub string_again : (lengths : List Between) (starless : Bool) (given text : List ℕ) → string_text lengths starless given ≡ Some text → string_text lengths starless text ≡ Some text
+pub string_again : (patterns : List (List ℕ)) (lengths : List Between) (starless : Bool) (numbers given text : List ℕ) → string_text patterns lengths starless numbers given ≡ Some text →
+    string_text patterns lengths starless numbers text ≡ Some text
 unfolding string_text
-string_again lengths starless given text e =
+string_again patterns lengths starless numbers given text e =
     let both = passed _ given text e in
-    subst (λ (t : List ℕ). string_text lengths starless t ≡ Some text) both.1 e
+    subst (λ (t : List ℕ). string_text patterns lengths starless numbers t ≡ Some text) both.1 e
 
 one_again : (names : List (List ℕ)) (given text : List ℕ) → one_of names given ≡ Some text → given ≡ text
 one_again names given text e = (passed (list_any (λ name. is_same_text name given) names) given text e).1

@@ -155,7 +155,7 @@ module _ (tables : Tables) (schema : IsProperSchema tables) (keys : List Bound �
         text_in_type tables givers type (module_bounds tables) text ≡ Some text
     type_again each (Whole among) proper bounds given text e = whole_again among (trimmed given) text e
     type_again each (Decimal digits among) proper bounds given text e = decimal_again digits among (trimmed given) text e
-    type_again each (Chars lengths starless) proper bounds given text e = string_again lengths starless given text e
+    type_again each (Chars lengths starless numbers) proper bounds given text e = string_again tables.patterns lengths starless numbers given text e
     type_again each Boolean proper bounds given text e = boolean_again given text e
     type_again each (Enumeration names) proper bounds given text e = one_of_again names given text e
     type_again each (Bits names) proper bounds given text e = bits_again names (trimmed given) text e
@@ -173,7 +173,7 @@ module _ (tables : Tables) (schema : IsProperSchema tables) (keys : List Bound �
         (type : ValueType) → text_in_type tables givers type bounds text ≡ text_in_type tables givers type (module_bounds tables) text
     type_same bounds text knows each (Whole among) = refl
     type_same bounds text knows each (Decimal digits among) = refl
-    type_same bounds text knows each (Chars lengths starless) = refl
+    type_same bounds text knows each (Chars lengths starless numbers) = refl
     type_same bounds text knows each Boolean = refl
     type_same bounds text knows each (Enumeration names) = refl
     type_same bounds text knows each (Bits names) = refl
@@ -191,7 +191,7 @@ module _ (tables : Tables) (schema : IsProperSchema tables) (keys : List Bound �
         (type : ValueType) → may_hold_names tables holds type ≡ false → text_in_type tables givers type bounds text ≡ text_in_type tables givers type (module_bounds tables) text
     type_free holds bounds text each (Whole among) none = refl
     type_free holds bounds text each (Decimal digits among) none = refl
-    type_free holds bounds text each (Chars lengths starless) none = refl
+    type_free holds bounds text each (Chars lengths starless numbers) none = refl
     type_free holds bounds text each Boolean none = refl
     type_free holds bounds text each (Enumeration names) none = refl
     type_free holds bounds text each (Bits names) none = refl

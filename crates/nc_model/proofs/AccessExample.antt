@@ -99,6 +99,7 @@ unfoldable tables : Tables
 tables = record {
   nodes = built_in ++ own;
   choices = record { parent = Some 13; mandatory = false; default_case = None; within = [] } ∷ [];
+  patterns = [];
   types = [];
   modules =
       record { name = codes "ietf-netconf-acm"; space = codes "urn:acm"; revision = []; features = [] }

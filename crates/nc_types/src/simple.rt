@@ -1,5 +1,5 @@
 //! Strings, booleans, enumerations, bits, binary and empty values (RFC 7950 9.4 to 9.8, 9.11).
-ghost use Rattle.std.specs.Prelude.{◌≡◌, ◌++◌, count_by, not, filter, length, Some, None, IfOk, IfErr, OnOk};
+ghost use Rattle.std.specs.Prelude.{◌≡◌, ◌<◌, ◌++◌, All, count_by, not, filter, length, Some, None, IfOk, IfErr, OnOk};
 ghost use Rattle.std.specs.List.{join_with_byte, list_any};
 ghost use Rattle.nc_names.specs.Signs as signs;
 ghost use Rattle.nc_schema.specs.PathWords as words;
@@ -11,7 +11,7 @@ use crate::number::is_among;
 use base64::DecodeAllocError;
 use base64::engine::general_purpose::STANDARD;
 use nc_names::{Copies, Many, Memory, Text, is_white};
-use nc_schema::Between;
+use nc_schema::{Between, Schema};
 use std::alloc::Global;
 
 // Whether a byte begins a character.
@@ -38,20 +38,28 @@ fn begins_with_star(text: &str) -> bool
     }
 }
 
-/// The text of a string.
+/// The text of a string, which the patterns with these numbers admit. Its length is looked at first, since a
+/// search takes longer.
 #[tactic(auto, unfolding(nc_schema::specs::Values::string_text))]
 pub(crate) fn string_text(
     alloc: Global,
+    schema: &Schema,
     lengths: &[Between],
     starless: bool,
+    numbers: &[u32],
     text: &str,
 ) -> Result<Text, TypeFault>
-    ensures ok { IfOk result (λ it. values.string_text lengths.now starless text.now ≡ Some it) }
-    ensures refused { IfErr result (λ fault. OnNotInType fault (values.string_text lengths.now starless
-        text.now ≡ None)) }
+    requires { All (λ number. number < length schema.now.patterns) numbers.now }
+    ensures ok { IfOk result (λ it. values.string_text schema.now.patterns lengths.now starless numbers.now
+        text.now ≡ Some it) }
+    ensures refused { IfErr result (λ fault. OnNotInType fault (values.string_text schema.now.patterns
+        lengths.now starless numbers.now text.now ≡ None)) }
 {
     let count = character_count(text.as_bytes());
-    if is_among(lengths, count as i128) && !(starless && begins_with_star(text)) {
+    if !is_among(lengths, count as i128) || (starless && begins_with_star(text)) {
+        return Err(TypeFault::NotInType);
+    }
+    if schema.admits_each(numbers, text)? {
         Ok(Text::from_text(alloc, text)?)
     } else {
         Err(TypeFault::NotInType)

@@ -2,6 +2,7 @@
 ghost use Rattle.std.specs.Prelude.{◌≡◌, ◌∷◌, [], true, Some, None, IfOk, IfErr, length};
 ghost use Rattle.std.specs.List.{list_all, list_any};
 ghost use Rattle.nc_schema.specs.Bindings as bindings;
+ghost use Rattle.nc_schema.specs.Tables.{NamesPatterns};
 ghost use Rattle.nc_schema.specs.Values as values;
 ghost use Rattle.nc_types.specs.inner.Asked.{givers};
 ghost use Rattle.nc_types.specs.inner.Faults.{OnNotInType};
@@ -97,6 +98,7 @@ fn text_in_type<K: Gives, B: Binds>(
     found: &ValueType,
     text: &str,
 ) -> Result<Text, TypeFault>
+    requires { NamesPatterns (length schema.now.patterns) found.now }
     ensures ok { IfOk result (λ it. values.text_in_type schema.now (givers schema.now (K.gives schema.now)
         most (number ∷ chain.now)) found.now (under by_names (bindings.module_bounds schema.now) (B.bound
         bounds.now)) text.now ≡ Some it) }
@@ -112,10 +114,16 @@ fn text_in_type<K: Gives, B: Binds>(
             among.as_slice(),
             trimmed(text),
         ),
-        ValueType::Chars { lengths, starless } => string_text(
+        ValueType::Chars {
+            lengths,
+            starless,
+            patterns,
+        } => string_text(
             alloc,
+            schema,
             lengths.as_slice(),
             *starless,
+            patterns.as_slice(),
             text,
         ),
         ValueType::Boolean => boolean_text(alloc, trimmed(text)),

@@ -26,7 +26,7 @@ type_text-returns-clause-ok g t c =
     same_ok c.text_in_type.result _ _
     (sym (type_known tables keys c.args.most c.args.chain.now (under c.args.by_names (module_bounds c.args.schema.now) (g.B.Binds.bound c.args.bounds.now)) c.args.number c.args.text.now c.in-Some.found.now
     (text_in_type tables (givers tables keys (c.args.most - 1) (c.args.number ∷ c.args.chain.now)) c.in-Some.found.now (under c.args.by_names (module_bounds c.args.schema.now) (g.B.Binds.bound c.args.bounds.now)) c.args.text.now)
-    (omega arith) (sym c.contains.ensures.value ∙ c.if-contains.false) (sym c.value_type.ensures ∙ ap option_copied c.in-Some.is) refl)) c.text_in_type.ensures.ok
+    (omega arith) (sym c.contains.ensures.value ∙ c.if-contains.false) (sym c.value_type.ensures.found ∙ ap option_copied c.in-Some.is) refl)) c.text_in_type.ensures.ok
 
 pub type_text-returns-clause-refused : goal.type_text-returns-clause-refused
 type_text-returns-clause-refused g t c =
@@ -35,7 +35,7 @@ type_text-returns-clause-refused g t c =
     same_refused c.text_in_type.result _ _
     (sym (type_known tables keys c.args.most c.args.chain.now (under c.args.by_names (module_bounds c.args.schema.now) (g.B.Binds.bound c.args.bounds.now)) c.args.number c.args.text.now c.in-Some.found.now
     (text_in_type tables (givers tables keys (c.args.most - 1) (c.args.number ∷ c.args.chain.now)) c.in-Some.found.now (under c.args.by_names (module_bounds c.args.schema.now) (g.B.Binds.bound c.args.bounds.now)) c.args.text.now)
-    (omega arith) (sym c.contains.ensures.value ∙ c.if-contains.false) (sym c.value_type.ensures ∙ ap option_copied c.in-Some.is) refl)) c.text_in_type.ensures.refused
+    (omega arith) (sym c.contains.ensures.value ∙ c.if-contains.false) (sym c.value_type.ensures.found ∙ ap option_copied c.in-Some.is) refl)) c.text_in_type.ensures.refused
 
 pub union_text-returns-then-is_settled-clause-ok : goal.union_text-returns-then-is_settled-clause-ok
 union_text-returns-then-is_settled-clause-ok g t c =

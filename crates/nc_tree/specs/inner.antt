@@ -3,3 +3,4 @@ pub mod Sides
 pub mod Lacking
 pub mod Cuts
 pub mod Finding
+pub mod Sizes

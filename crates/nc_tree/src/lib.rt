@@ -4,7 +4,8 @@
 //! A `Config` is seen as its list of rows: `put`, `set_block` and `remove` give exactly the rows that
 //! `with_row`, `with_block` and the rows outside a subtree are, and leave the list as it was where
 //! memory ends. A `Keeper` keeps one configuration, its base: `keep` makes what was prepared the base,
-//! or fails with a fault that is counted and leaves the base as it was.
+//! or fails with a fault that is counted and leaves the base as it was. A keeper says of each moment with
+//! which configurations the next start begins whatever a crash has left since then.
 #![tactic(auto)]
 
 mod block;
@@ -14,6 +15,7 @@ mod index;
 mod keeper;
 mod look;
 mod mem_keeper;
+mod size;
 mod standing;
 
 pub use block::{last_step, node_of, rows_of_node};

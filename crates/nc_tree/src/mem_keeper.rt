@@ -1,5 +1,5 @@
 //! A keeper in memory.
-ghost use Rattle.std.specs.Prelude.{◌≡◌, ◌↔◌, Contains, IsTrue, List, None};
+ghost use Rattle.std.specs.Prelude.{◌≡◌, ◌↔◌, Contains, IfOk, IsTrue, List, None};
 ghost use Rattle.nc_names.specs.Counts.{one_more};
 ghost use Rattle.nc_names.specs.declared.path.Row.{Row};
 ghost use Rattle.nc_tree.specs.Keeping.{Keeps};
@@ -9,7 +9,8 @@ use crate::{Config, Doubt, Keeper, Kept};
 use nc_names::{Copies, Many, Memory};
 use std::marker::Model;
 
-/// Keeps the base in memory, and fails at the calls of `keep` that are listed, counted from 1.
+/// Keeps the base in memory, and fails at the calls of `keep` that are listed, counted from 1. A next
+/// start finds nothing of it, and so it promises nothing of what a crash leaves.
 #[derive(Debug, Drop)]
 pub struct MemKeeper {
     base: Config,
@@ -54,15 +55,25 @@ impl MemKeeper {
 impl Keeper for MemKeeper {
     type Ready = Config;
 
+    ghost schema = { λ k. None };
+
     ghost base = { λ k. k.base };
 
     ghost doubt = { λ k. None };
 
     ghost failures = { λ k. k.failures };
 
+    ghost moment = { λ k. 0 };
+
+    ghost leaves = { λ k t among. Unit };
+
+    ghost continues = { λ old new. Unit };
+
     ghost readied = { λ k ready rows. ready ≡ rows };
 
-    fn prepare(&self, old: &Config, new: &Config) -> Result<Config, Memory> {
+    fn prepare(&self, old: &Config, new: &Config) -> Result<Config, Memory>
+        ensures { IfOk result (λ ready. ready ≡ new.now) }
+    {
         new.copy()
     }
 
@@ -88,4 +99,10 @@ impl Keeper for MemKeeper {
     fn faults(&self) -> u64 {
         self.failures
     }
+
+    ghost fewer = { λ k t these those more leaves. leaves };
+
+    ghost goes_on = { λ k. tt };
+
+    ghost goes_further = { λ one two three first second. tt };
 }

@@ -35,6 +35,7 @@ tables = record {
       ∷ typed (codes "kind") 1 Leaf 1 ∷ typed (codes "name") 1 Leaf 0 ∷ typed (codes "tag") 0 LeafList 0
       ∷ typed (codes "at") 0 LeafList 2 ∷ typed (codes "either") 0 LeafList 3 ∷ [];
   choices = [];
+  patterns = [];
   types = Enumeration (codes "x:a" ∷ []) ∷ Identity (record { space = codes "urn:oc"; name = codes "k" } ∷ []) ∷ Instance false
       ∷ Union (0 ∷ 1 ∷ []) ∷ [];
   modules = map (λ found. record { name = found.prefix; space = found.space; revision = []; features = [] }) (ex ∷ oc ∷ x ∷ []);

@@ -1,8 +1,9 @@
 -- A good state stays good.
 use Rattle.std.proofs.Common.{◌≡◌, ◌≢◌, ◌⊎◌, ◌≤◌, ◌<◌, ◌+◌, ◌==◌, ◌||◌, ◌&&◌, ℕ, Bool, true, false, cond, List, [], ◌∷◌, ◌++◌, length, refl, sym, ap, subst, ◌∙◌, inl, inr, arith, length-append, get_or}
-use Rattle.std.specs.Prelude.{Option, Some, None, IfSome, IsSome, Result, Ok, Err, unwrap_or, if◌then◌else◌, not, is_some, option_map, option_and_then, slice_get}
-use Rattle.std.specs.List.{All, AllPairs, filter, find}
-use Rattle.std.specs.Option.{option_map_or, option_or}
+use Rattle.std.specs.Prelude.{Option, Some, None, IfSome, Result, Ok, Err, unwrap_or, if◌then◌else◌, not, is_some, option_map, slice_get}
+use Rattle.std.specs.List.{filter}
+use Rattle.std.specs.Option.{option_map_or}
+use Rattle.std.proofs.lemmas.Bool.{ltb-false}
 use Rattle.std.proofs.lemmas.Bool.Decides.{eqb_tells}
 use Rattle.std.proofs.lemmas.List.Elements.{filter-append}
 use Rattle.nc_names.specs.Same.{is_same_rows}
@@ -10,7 +11,7 @@ use Rattle.nc_names.specs.declared.path.Path.{Path}
 use Rattle.nc_names.specs.declared.path.Row.{Row}
 use Rattle.nc_message.specs.declared.tree.Elem.{Elem}
 use Rattle.nc_schema.specs.Configuration.{IsConfiguration}
-use Rattle.nc_schema.specs.Proper.{IsProperSchema}
+use Rattle.nc_schema.specs.Record.{body_limit, record_size}
 use Rattle.nc_schema.specs.Tables.{Tables}
 use Rattle.nc_schema.specs.Violations.{violations, IsValid}
 use Rattle.nc_schema.specs.declared.violation.Violation.{Violation}
@@ -33,7 +34,7 @@ use Rattle.nc_protocol.specs.declared.verdict.Verdict.TheVariants.{Done, Selecte
 use Rattle.nc_protocol.specs.Applied.{Applied, applied}
 use Rattle.nc_names.specs.declared.cause.CauseKind.TheVariants.{LockPartial, Limit}
 use Rattle.nc_protocol.specs.Asking.{plain_cause}
-use Rattle.nc_model.specs.Words.{partial_locks_word, lock_ids_word}
+use Rattle.nc_model.specs.Words.{partial_locks_word, lock_ids_word, record_word}
 use Rattle.nc_protocol.specs.Payload.{edits_of}
 use Rattle.nc_protocol.specs.Refusals.{checked, violation_in, violation_cause, result_unless}
 use Rattle.nc_model.specs.declared.entry.Entry.{Entry}
@@ -44,9 +45,9 @@ use Rattle.nc_model.specs.declared.event.Outcome.TheVariants.{Started, Full, Not
 use Rattle.nc_model.specs.declared.session.Session.{Session}
 use Rattle.nc_model.specs.Access.{access_policy, peer_of, rights_of, visible}
 use Rattle.nc_model.specs.Laws.{OpeningIsGood, GoodStays}
-use Rattle.nc_model.specs.State.{State, Holders, NodeLock, Pending, IsGood, IsBase, IsPendingOf, IsSessionId, IsAmong, AreLocks, AreSessions, ShareNone, base_of, candidate_in_force, expired, holders_without, is_among, is_due, is_held_by, is_live, last_lock_id, left_by_end, locks_of, locks_some, most_locks, read_at, released, reverted, session_ended, unless_held_by, without_session}
-use Rattle.nc_model.specs.Step.{Fits, next, changed, changed_by, outcome_of, answer_to, answered, answered_unless, committed, is_full, pending_by, with_candidate, with_holder, with_lock, with_partial, without_lock, without_partial, rows_of_ok, has_failed}
-use Rattle.nc_model.specs.Verdict.{verdict_on, asked_verdict, operation_refused, commit_checks, commit_refusal, is_candidate, kept_unless, edits_made, made_by, rows_set, copied, unless_denied, rows_copied, stored, lock_of_other, nodes_selected, partial_lock_cause, partial_lock_checks, partial_lock_refusal}
+use Rattle.nc_model.specs.State.{State, Holders, NodeLock, Pending, IsGood, IsBase, IsPendingOf, IsSessionId, IsAmong, AreLocks, AreSessions, ShareNone, base_of, candidate_in_force, expired, holders_without, is_due, is_held_by, is_live, left_by_end, locks_of, locks_some, read_at, released, reverted, session_ended, unless_held_by, without_session}
+use Rattle.nc_model.specs.Step.{Fits, next, changed, changed_by, outcome_of, answer_to, answered_unless, committed, is_full, pending_by, with_candidate, with_holder, with_lock, with_partial, without_lock, rows_of_ok, has_failed}
+use Rattle.nc_model.specs.Verdict.{verdict_on, asked_verdict, operation_refused, commit_checks, commit_refusal, is_candidate, kept_unless, edits_made, made_by, rows_set, copied, unless_denied, rows_copied, stored, lock_of_other, nodes_selected, partial_lock_cause, partial_lock_checks, partial_lock_refusal, record_refusal, is_too_large}
 use Rattle.nc_protocol.proofs.PayloadLaws.{payload_keeps_configuration, inline_is_configuration}
 use Rattle.nc_protocol.proofs.ListLemmas.{all_one, all_append, pairs_last, all_filter, pairs_filter, filter_shorter}
 use Rattle.nc_model.proofs.HistoryLemmas.{rest_legal}
@@ -287,7 +288,7 @@ in_force : (P : List Row → Type 0) (candidate : Option (List Row)) (running : 
 in_force P None running some otherwise = otherwise
 in_force P (Some rows) running some otherwise = some
 
-in_force_is : (s : State) → IsGood s → IsConfiguration s.schema (candidate_in_force s)
+pub in_force_is : (s : State) → IsGood s → IsConfiguration s.schema (candidate_in_force s)
 in_force_is s good = in_force (IsConfiguration s.schema) s.candidate s.running good.stores.candidate good.stores.running
 
 good_committed : (s : State) (pending : Option Pending) → IsGood s → IsValid s.schema (candidate_in_force s) → IfSome pending (IsBase s.schema s.sessions) → IsGood (committed s pending)
@@ -342,9 +343,16 @@ checked_locked None decided lock nodes e = (refl, e)
 checked_locked (Some cause) decided lock nodes e = cc
 
 -- a commit that is done makes a valid configuration running
-commit_is_valid : (s : State) (n : ℕ) (confirmed : Bool) (persist_id : Option (List ℕ)) → commit_refusal s n confirmed persist_id ≡ None → IsValid s.schema (candidate_in_force s)
+pub commit_is_valid : (s : State) (n : ℕ) (confirmed : Bool) (persist_id : Option (List ℕ)) → commit_refusal s n confirmed persist_id ≡ None → IsValid s.schema (candidate_in_force s)
 commit_is_valid s n confirmed persist_id none =
     no_violation s.schema (candidate_in_force s) (all_none (commit_checks s n confirmed persist_id) none).1.1.1.1.1.1.0
+
+-- one whose record is within the limit
+pub commit_is_small : (s : State) (n : ℕ) (confirmed : Bool) (persist_id : Option (List ℕ)) → commit_refusal s n confirmed persist_id ≡ None → record_size (candidate_in_force s) ≤ body_limit
+commit_is_small s n confirmed persist_id none =
+    let refusal : record_refusal s ≡ None = (all_none (commit_checks s n confirmed persist_id) none).1.1.1.1.1.1.1.0 in
+    ltb-false body_limit (record_size (candidate_in_force s))
+    (where_none (is_too_large (candidate_in_force s)) (plain_cause Limit (record_word ∷ [])) refusal)
 
 -- ---- locks
 good_locks : (s : State) (holders : Holders) (partial : List NodeLock) (last : ℕ) → IsGood s → AreLocks s.sessions holders partial last →

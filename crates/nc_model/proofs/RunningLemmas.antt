@@ -1,6 +1,6 @@
 -- By what running changes, and what comes back after a restart.
-use Rattle.std.proofs.Common.{◌≡◌, ◌⊎◌, ◌==◌, ℕ, Bool, true, false, not, List, [], ◌∷◌, refl, sym, ap, subst, ◌∙◌, inl, inr, Option, Some, None, Result, Ok, Err}
-use Rattle.std.specs.Prelude.{if◌then◌else◌, is_some, IsSomeAnd}
+use Rattle.std.proofs.Common.{◌≡◌, ◌⊎◌, ◌==◌, ℕ, Bool, true, false, not, List, refl, sym, ap, subst, ◌∙◌, inl, inr, Option, Some, None, Result, Ok, Err}
+use Rattle.std.specs.Prelude.{if◌then◌else◌, is_some}
 use Rattle.std.specs.Option.{option_map_or}
 use Rattle.std.proofs.lemmas.Bool.{eqb-true}
 use Rattle.nc_names.specs.Same.{is_same_rows}
@@ -12,7 +12,6 @@ use Rattle.nc_protocol.specs.declared.request.Cause.{Cause}
 use Rattle.nc_protocol.specs.declared.request.Request.{Request}
 use Rattle.nc_protocol.specs.declared.verdict.Verdict.{Verdict}
 use Rattle.nc_protocol.specs.declared.verdict.Verdict.TheVariants.{Done, Selected, Locked, Refused}
-use Rattle.nc_model.specs.declared.entry.Entry.{Entry}
 use Rattle.nc_model.specs.declared.event.Event.{Event}
 use Rattle.nc_model.specs.declared.event.Event.TheVariants.{Start, Request as Requested, End, Reading}
 use Rattle.nc_model.specs.declared.event.Outcome.{Outcome}
@@ -47,7 +46,7 @@ candidate_running s (Some rows) = by (is_same_rows rows (candidate_in_force s))
     by true = refl
     by false = refl
 
-candidate_base : (s : State) (rows : Option (List Row)) → base_of (with_candidate s rows) ≡ base_of s
+pub candidate_base : (s : State) (rows : Option (List Row)) → base_of (with_candidate s rows) ≡ base_of s
 candidate_base s None = refl
 candidate_base s (Some rows) = by (is_same_rows rows (candidate_in_force s))
   where
@@ -68,7 +67,7 @@ left_base s n (Some pending) is = by (pending.session == n) (is_some pending.tok
     by true true = sym (ap (λ (p : Option Pending). option_map_or (λ found. found.base) p s.running) is)
     by true false = refl
 
-ended_base : (s : State) (n : ℕ) → base_of (session_ended s n) ≡ base_of s
+pub ended_base : (s : State) (n : ℕ) → base_of (session_ended s n) ≡ base_of s
 ended_base s n = left_base s n s.pending refl
 
 none_of : (token : Option (List ℕ)) → is_some token ≡ false → token ≡ None

@@ -1,5 +1,5 @@
 -- The verdict on a request: the first check that fails refuses it (RFC 6241 7 and 8; RFC 5717 2.4; RFC 8341 3.4).
-use Rattle.std.specs.Prelude.{◌==◌, ◌+◌, ◌&&◌, ◌||◌, ℕ, Bool, true, false, not, if◌then◌else◌, List, [], ◌∷◌, ◌++◌, length, map, Option, Some, None, is_some, option_map, option_and_then, Result, Ok, Err}
+use Rattle.std.specs.Prelude.{◌==◌, ◌+◌, ◌&&◌, ◌||◌, ℕ, Bool, true, false, not, if◌then◌else◌, nat_lt, List, [], ◌∷◌, ◌++◌, length, map, Option, Some, None, is_some, option_map, option_and_then, Result, Ok, Err}
 use Rattle.std.specs.Fmt.{decimal}
 use Rattle.std.specs.List.{filter, filter_map, find, list_all, list_any}
 use Rattle.std.specs.Option.{option_map_or, option_or, option_to_list}
@@ -15,6 +15,7 @@ use Rattle.nc_message.specs.declared.tree.Elem.{Elem}
 use Rattle.nc_schema.specs.Blocks.{at_node}
 use Rattle.nc_schema.specs.InstancePaths.{instance_path}
 use Rattle.nc_schema.specs.Kinds.{is_plain_container}
+use Rattle.nc_schema.specs.Record.{body_limit, record_size}
 use Rattle.nc_schema.specs.Standing.{exists, has_row}
 use Rattle.nc_schema.specs.Tables.{Tables}
 use Rattle.nc_schema.specs.Values.{canonical, canonical_steps}
@@ -69,9 +70,9 @@ is_offered operation = false
 abbrev pub confirms : Bool
 confirms = false
 
--- whether the record of a configuration is larger than the server keeps: its size is not limited yet
-abbrev pub is_too_large : Tables → List Row → Bool
-is_too_large tables rows = false
+-- the record of a configuration is larger than the server keeps
+abbrev pub is_too_large : List Row → Bool
+is_too_large rows = nat_lt body_limit (record_size rows)
 
 -- ---- locks in the way
 
@@ -107,7 +108,7 @@ lock_of_other s session test = find (λ lock. not (lock.session == session) && t
 abbrev pub covers_path : Path → NodeLock → Bool
 covers_path path lock = list_any (λ node. is_at_or_below node.steps path) lock.nodes
 
--- another session's partial lock locks the node (`in-use`, RFC 5717 2.1)
+-- another session's partial lock locks the node (`in-use`, RFC 5717 2.5)
 abbrev pub in_use_at : State → ℕ → Path → Option Cause
 in_use_at s session path =
     option_map (partial_lock_cause InUsePartial) (lock_of_other s session (covers_path path))
@@ -269,7 +270,7 @@ abbrev pub is_running : Datastore → Bool
 is_running Running = true
 is_running store = false
 
--- a commit is pending whose session is another (RFC 6241 7.5, 8.4.5.2)
+-- a commit is pending whose session is another (RFC 6241 7.5)
 abbrev pub pending_of_other : ℕ → Option Pending → Option Cause
 pending_of_other session pending =
     option_and_then (λ found. cause_where (not (found.session == session)) (pending_cause LockPending found)) pending
@@ -339,13 +340,13 @@ cancel_admission s session given =
 -- the record of the candidate is larger than the server keeps
 abbrev pub record_refusal : State → Option Cause
 record_refusal s =
-    cause_where (is_too_large s.schema (candidate_in_force s)) (plain_cause Limit (record_word ∷ []))
+    cause_where (is_too_large (candidate_in_force s)) (plain_cause Limit (record_word ∷ []))
 
 -- what a commit changes: running becomes the candidate (RFC 6241 8.3.4.1)
 abbrev pub commit_changes : State → Changes
 commit_changes s = changes_between s.schema s.running (candidate_in_force s)
 
--- what is looked at before a commit (RFC 6241 8.3.4.1, 8.4.5.1; RFC 5717 2.1; RFC 8341 3.2.8)
+-- what is looked at before a commit (RFC 6241 8.3.4.1, 8.4.5.1; RFC 5717 2.5; RFC 8341 3.2.8)
 abbrev pub commit_checks : State → ℕ → Bool → Option (List ℕ) → List (Option Cause)
 commit_checks s session confirmed persist_id =
     cause_where (not confirms && confirmed) (plain_cause UnknownParameter (confirmed_word ∷ []))
@@ -363,7 +364,7 @@ commit_refusal s session confirmed persist_id = first_cause (commit_checks s ses
 abbrev pub cancel_changes : State → Changes
 cancel_changes s = changes_between s.schema s.running (base_of s)
 
--- what is looked at before a cancel-commit (RFC 6241 8.4.4.1; RFC 5717 2.1)
+-- what is looked at before a cancel-commit (RFC 6241 8.4.4.1; RFC 5717 2.5)
 abbrev pub cancel_checks : State → ℕ → Option (List ℕ) → List (Option Cause)
 cancel_checks s session persist_id =
     cancel_admission s session persist_id ∷ in_use s session Running
@@ -419,7 +420,7 @@ are_selects tables selects = list_all (λ select. is_some (selected_path tables 
 
 -- what is looked at before nodes are locked: a commit is pending; a session holds running's lock; a select names no
 -- node of the schema; none of the nodes exists; another session's partial lock has one of them; the session has as many
--- locks as it may have; no lock-id is left (RFC 5717 2.4.1)
+-- locks as it may have; no lock-id is left (RFC 5717 2.4.1, 2.6.2)
 abbrev pub partial_lock_checks : State → ℕ → List Select → List (Option Cause)
 partial_lock_checks s session selects =
     option_map (pending_cause LockPending) s.pending

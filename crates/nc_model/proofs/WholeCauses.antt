@@ -115,7 +115,7 @@ is_not_read Absent about = (refl, refl)
 is_not_read MissingInstance about = (refl, refl)
 is_not_read DataDenied about = (refl, refl)
 is_not_read Mandatory about = (refl, refl)
-is_not_read MandatoryChoice about = (refl, refl)
+is_not_read MandatoryChoice about = cc
 is_not_read TooFew about = (refl, refl)
 is_not_read TooMany about = (refl, refl)
 is_not_read NotUnique about = (refl, refl)
@@ -163,8 +163,8 @@ edits_are_whole s n proper on_error default_operation config edits is =
 
 invalid_is_whole : (tables : Tables) (rows : List Row) → All (λ violation. IsWhole (violation_cause violation)) (violations tables rows)
 invalid_is_whole tables rows =
-    let each : (kind : CauseKind) → Type 0 = λ kind. (path : Path) → IsWhole (cause_at kind path []) in
-    let all = violation_kinds each (λ path. record { names = refl; path = λ about. refl }) (λ path. record { names = refl; path = λ about. refl })
+    let each : (kind : CauseKind) → Type 0 = λ kind. (path : Path) → IsWhole (violation_cause (record { kind = kind; path = path })) in
+    let all = violation_kinds each (λ path. record { names = refl; path = λ about. refl }) (λ path. record { names = refl; path = λ about. cc })
     (λ path. record { names = refl; path = λ about. refl }) (λ path. record { names = refl; path = λ about. refl }) (λ path. record { names = refl; path = λ about. refl })
     (λ path. record { names = refl; path = λ about. refl }) (λ path. record { names = refl; path = λ about. refl }) tables rows in
     λ k d within. all k d within (get_or (violations tables rows) k d).path

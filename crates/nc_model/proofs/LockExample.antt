@@ -1,7 +1,7 @@
 -- Locks and partial locks at work: each cause for which one is refused, or stands in the way of a request.
 use Rattle.std.proofs.Common.{◌≡◌, ℕ, List, [], ◌∷◌, ◌++◌, replicate, refl}
 use Rattle.std.specs.Fmt.{decimal}
-use Rattle.std.specs.Prelude.{codes, Option, Some, None, false, true}
+use Rattle.std.specs.Prelude.{codes, Some, None, false, true}
 use Rattle.nc_names.specs.declared.cause.CauseKind.TheVariants.{LockHeld, LockModified, LockPending, LockPartial, NotHeld, InUseGlobal, InUsePartial, NotLiveTarget, BadSelect, NoMatch, Limit, BadParameter}
 use Rattle.nc_names.specs.declared.name.Bound.{Bound}
 use Rattle.nc_names.specs.declared.path.Path.{Path}
@@ -24,7 +24,7 @@ use Rattle.nc_model.specs.declared.session.Session.{Session}
 use Rattle.nc_protocol.proofs.Example.{node, tables, port, name, rows_of_port}
 
 abbrev user : List ℕ → Peer
-user it = record { user = it; groups = []; recovery = false }
+user it = record { user = it; groups = []; recovery = true }
 
 abbrev pub one : Session
 one = record { number = 1; peer = user (codes "alice") }

@@ -34,7 +34,7 @@ use Rattle.nc_model.proofs.HistoryLemmas.{legal_histories_join, one_entry_is_leg
 use Rattle.nc_protocol.proofs.Example.{node, tables, port, name, element, rows_of_port}
 
 alice : Peer
-alice = record { user = codes "alice"; groups = []; recovery = false }
+alice = record { user = codes "alice"; groups = []; recovery = true }
 
 -- <config><top><port><name>..</name></port></top></config>
 with_port : List ℕ → Elem

@@ -26,7 +26,7 @@ netconf_operation name = record { «module» = netconf_module; name = name; deni
 abbrev pub partial_lock_operation : List ℕ → Called
 partial_lock_operation name = record { «module» = partial_lock_module; name = name; denied = false }
 
--- the names under which rules are about an operation (RFC 6241 appendix C; RFC 5717 5). None of them has
+-- the names under which rules are about an operation (RFC 6241 appendix C; RFC 5717 appendix B). None of them has
 -- `default-deny-all`
 abbrev pub called : Operation → Called
 called Get = netconf_operation w.get_word

@@ -1,17 +1,18 @@
 -- States that are alike for a session: what it may learn of them is the same (RFC 8341 3.2.4, 3.4.5).
-use Rattle.std.specs.Prelude.{◌≡◌, ◌⊎◌, ℕ, Bool, true, false, if◌then◌else◌, List, [], map, Option, is_some, option_map}
+use Rattle.std.specs.Prelude.{◌≡◌, ◌⊎◌, ℕ, Bool, true, false, List, map, Option, Some, is_some, option_map}
 use Rattle.std.specs.List.{list_any}
 use Rattle.nc_names.specs.declared.cause.CauseKind.{CauseKind}
 use Rattle.nc_names.specs.declared.cause.CauseKind.TheVariants.{LockPartial, InUsePartial, Limit, Exists, Absent, MissingInstance, DataDenied, Mandatory, MandatoryChoice, TooFew, TooMany, NotUnique, DeadLeafref, DeadInstance, DiskFault}
 use Rattle.nc_message.specs.declared.tree.Tree.{Tree}
 use Rattle.nc_names.specs.declared.path.Path.{Path}
 use Rattle.nc_names.specs.declared.path.Right.{Right}
+use Rattle.nc_names.specs.declared.path.Right.TheVariants.{Exec}
+use Rattle.nc_protocol.specs.Edited.{decision_names}
 use Rattle.nc_protocol.specs.Proper.{IsProper}
-use Rattle.nc_protocol.specs.Reply.{reply_of, rule_path}
-use Rattle.nc_protocol.specs.declared.access.By.{By}
-use Rattle.nc_protocol.specs.declared.access.By.TheVariants.{Rule as ByRule}
+use Rattle.nc_protocol.specs.Reply.{reply_of, seen_names}
 use Rattle.nc_protocol.specs.declared.access.Decision.{Decision}
 use Rattle.nc_protocol.specs.declared.asked.Operation.{Operation}
+use Rattle.nc_protocol.specs.declared.asked.Operation.TheVariants.{Get, GetConfig}
 use Rattle.nc_protocol.specs.declared.request.Request.{Request}
 use Rattle.nc_protocol.specs.declared.verdict.Verdict.{Verdict}
 use Rattle.nc_protocol.specs.declared.verdict.Verdict.TheVariants.{Refused}
@@ -19,14 +20,10 @@ use Rattle.nc_model.specs.Access.{exec_of, rights_of, sees_of, visible}
 use Rattle.nc_model.specs.State.{State, IsGood, NodeLock, Pending, candidate_in_force, locks_of}
 use Rattle.nc_model.specs.Verdict.{verdict}
 
--- what decided, without the names of a rule that is not seen (RFC 8341 3.4.5)
-abbrev pub by_seen : (Path → Bool) → By → By
-by_seen sees (ByRule list rule) = if sees (rule_path list rule) then ByRule list rule else ByRule [] []
-by_seen sees by = by
-
--- the same of a decision
-abbrev pub decision_seen : (Path → Bool) → Decision → Decision
-decision_seen sees decision = record decision { by = by_seen sees decision.by }
+-- what a reply tells of a decision: whether it permits, and what decided, without the names of a rule that is not seen
+-- (RFC 8341 3.4.5)
+abbrev pub decision_told : (Path → Bool) → Right → Decision → Bool × List (List ℕ)
+decision_told sees right decision = (decision.permit, seen_names sees (decision_names right decision.by))
 
 -- a partial lock by its lock-id and the session that holds it
 abbrev pub owner : NodeLock → ℕ × ℕ
@@ -52,11 +49,11 @@ pub record AreAlike (s t : State) (session : ℕ) : Type 0 where
   pub candidate : visible s session (candidate_in_force s) ≡ visible t session (candidate_in_force t)
   pub modified : is_some s.candidate ≡ is_some t.candidate
   pub operations : (operation : Operation) →
-      decision_seen (sees_of s session) (exec_of s session operation)
-      ≡ decision_seen (sees_of t session) (exec_of t session operation)
+      decision_told (sees_of s session) Exec (exec_of s session operation)
+      ≡ decision_told (sees_of t session) Exec (exec_of t session operation)
   pub rights : (path : Path) (right : Right) →
-      decision_seen (sees_of s session) (rights_of s session path right)
-      ≡ decision_seen (sees_of t session) (rights_of t session path right)
+      decision_told (sees_of s session) right (rights_of s session path right)
+      ≡ decision_told (sees_of t session) right (rights_of t session path right)
 
 -- a cause that may come of what a session does not see: another session's partial lock, a limit, the data that edits
 -- find or leave, or the disk
@@ -88,11 +85,23 @@ abbrev pub reply_to : State → ℕ → Request → Bool → Tree
 reply_to s session request failed =
     reply_of s.schema (sees_of s session) request (verdict s session request failed)
 
--- least disclosure: states that are alike for a session give equal replies to its request, or one of the verdicts has
--- such a cause (RFC 8341 3.2.4, 3.4.5)
-abbrev pub DisclosesLeast : Type 0
-DisclosesLeast =
-    (s t : State) (session : ℕ) (request : Request) (failed failing : Bool) →
-    IsGood s → IsGood t → AreAlike s t session → IsProper request →
-    (reply_to s session request failed ≡ reply_to t session request failing)
-    ⊎ ((has_unseen (verdict s session request failed) ≡ true) ⊎ (has_unseen (verdict t session request failing) ≡ true))
+-- get and get-config (RFC 6241 7.1, 7.7)
+abbrev pub is_reading : Option Operation → Bool
+is_reading (Some Get) = true
+is_reading (Some GetConfig) = true
+is_reading operation = false
+
+-- least disclosure: states in which the clock was read, and that are alike for a session, give equal replies to its
+-- request, or one of the verdicts has such a cause; to a get or get-config they give equal replies (RFC 8341 3.2.4,
+-- 3.4.5)
+pub record DisclosesLeast : Type 0 where
+  pub requests :
+      (s t : State) (session : ℕ) (request : Request) (failed failing : Bool) →
+      IsGood s → IsGood t → AreAlike s t session → IsProper request →
+      (reply_to s session request failed ≡ reply_to t session request failing)
+      ⊎ ((has_unseen (verdict s session request failed) ≡ true)
+      ⊎ (has_unseen (verdict t session request failing) ≡ true))
+  pub reads :
+      (s t : State) (session : ℕ) (request : Request) (failed failing : Bool) →
+      IsGood s → IsGood t → AreAlike s t session → IsProper request → is_reading request.operation ≡ true →
+      reply_to s session request failed ≡ reply_to t session request failing

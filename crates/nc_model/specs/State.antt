@@ -1,6 +1,6 @@
 -- The state of the server: its datastores, sessions, locks and the pending commit (RFC 6241 5.1, 7.5, 8.1, 8.3 and 8.4;
 -- RFC 5717 2.1).
-use Rattle.std.specs.Prelude.{◌≡◌, ◌≢◌, ◌≤◌, ◌<◌, ◌==◌, ◌||◌, ◌⊎◌, ℕ, Bool, true, false, IsTrue, IsSome, if◌then◌else◌, nat_le, List, [], length, max, not, Option, None, Some, IfSome, is_some, unwrap_or}
+use Rattle.std.specs.Prelude.{◌≡◌, ◌≢◌, ◌≤◌, ◌<◌, ◌==◌, ◌||◌, ◌⊎◌, ℕ, Bool, false, IsTrue, IsSome, if◌then◌else◌, nat_le, List, [], length, max, not, Option, None, Some, IfSome, is_some, unwrap_or}
 use Rattle.std.specs.List.{All, AllPairs, filter, list_any}
 use Rattle.std.specs.Option.{option_map_or}
 use Rattle.nc_names.specs.Same.{is_at_or_below}
@@ -144,7 +144,7 @@ released s number = record s {
 abbrev pub most_locks : ℕ
 most_locks = 64
 
--- the last lock-id: they are from 1 to 2 ^ 32 - 1 (RFC 5717 5, `lock-id-type`)
+-- the last lock-id: they are from 1 to 2 ^ 32 - 1 (RFC 5717 appendix B, `lock-id-type`)
 abbrev pub last_lock_id : ℕ
 last_lock_id = 4294967295
 

@@ -1,5 +1,5 @@
--- The fixed texts of access control and of limits (RFC 8341 3.5.2, RFC 6241 10.2, RFC 5717 5). Those that requests and
--- replies have too stand in nc_protocol.
+-- The fixed texts of access control and of limits (RFC 8341 3.5.2, RFC 6241 10.2, RFC 5717 appendix B). Those that
+-- requests and replies have too stand in nc_protocol.
 use Rattle.std.specs.Prelude.{ℕ, List, codes}
 
 -- ---- access control
@@ -30,7 +30,7 @@ update_word = codes "update"
 unfoldable pub netconf_module : List ℕ
 netconf_module = codes "ietf-netconf"
 
--- the module of the partial locks (RFC 5717 5)
+-- the module of the partial locks (RFC 5717 appendix B)
 unfoldable pub partial_lock_module : List ℕ
 partial_lock_module = codes "ietf-netconf-partial-lock"
 

@@ -1,5 +1,5 @@
 -- A cause that an access was denied names what denied it.
-use Rattle.std.proofs.Common.{◌≡◌, ◌⊎◌, ◌++◌, ℕ, Bool, true, false, List, [], ◌∷◌, length, refl, sym, ◌∙◌, inl, inr, Option, Some, None, Result, Ok, Err}
+use Rattle.std.proofs.Common.{◌≡◌, ℕ, Bool, true, false, List, length, refl, sym, ◌∙◌, inl, inr, Option, Some, None, Result, Ok, Err}
 use Rattle.std.specs.Prelude.{IfSome}
 use Rattle.std.specs.List.{All}
 use Rattle.nc_names.specs.declared.cause.CauseKind.{CauseKind}
@@ -9,7 +9,6 @@ use Rattle.nc_names.specs.declared.path.Right.{Right}
 use Rattle.nc_names.specs.declared.path.Right.TheVariants.{Exec as MayExec}
 use Rattle.nc_names.specs.declared.path.Row.{Row}
 use Rattle.nc_message.specs.declared.tree.Elem.{Elem}
-use Rattle.nc_schema.specs.Tables.{Tables}
 use Rattle.nc_schema.specs.Violations.{violations}
 use Rattle.nc_protocol.specs.declared.access.By.{By}
 use Rattle.nc_protocol.specs.declared.access.By.TheVariants.{Off, Recovery, CloseSession, DenyAll, DenyWrite, OperationDefault, Default, Rule}
@@ -22,7 +21,7 @@ use Rattle.nc_protocol.specs.declared.request.Cause.{Cause}
 use Rattle.nc_protocol.specs.declared.request.Request.{Request}
 use Rattle.nc_protocol.specs.Applied.{applied}
 use Rattle.nc_protocol.specs.Asking.{plain_cause}
-use Rattle.nc_protocol.specs.Edited.{cause_at, decision_names}
+use Rattle.nc_protocol.specs.Edited.{decision_names}
 use Rattle.nc_protocol.specs.Payload.{edits_of, rows_of}
 use Rattle.nc_protocol.specs.Proper.{IsAskedOf, IsProper, message_names, parameter_names}
 use Rattle.nc_protocol.specs.Refusals.{checked, violation_cause}

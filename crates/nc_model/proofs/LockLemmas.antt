@@ -1,5 +1,5 @@
 -- The candidate's lock goes with the candidate's changes.
-use Rattle.std.proofs.Common.{◌≡◌, ◌≢◌, ◌⊎◌, ◌==◌, ◌+◌, ℕ, Bool, true, false, not, List, [], ◌∷◌, length, refl, sym, ap, subst, ◌∙◌, inl, inr, Option, Some, None, Result, Ok, Err}
+use Rattle.std.proofs.Common.{◌≡◌, ◌⊎◌, ◌==◌, ◌+◌, ℕ, Bool, true, false, not, List, length, refl, sym, subst, ◌∙◌, inl, inr, Option, Some, None, Result, Ok, Err}
 use Rattle.std.specs.Prelude.{if◌then◌else◌, is_some, option_map}
 use Rattle.nc_names.specs.Same.{is_same_rows}
 use Rattle.nc_names.specs.declared.cause.CauseKind.TheVariants.{LockHeld}
@@ -9,18 +9,16 @@ use Rattle.nc_protocol.specs.declared.asked.Asked.TheVariants.{Get, GetConfig, E
 use Rattle.nc_protocol.specs.declared.datastore.Datastore.{Datastore}
 use Rattle.nc_protocol.specs.declared.datastore.Datastore.TheVariants.{Running, Candidate, Startup, Url}
 use Rattle.nc_protocol.specs.declared.request.Cause.{Cause}
-use Rattle.nc_protocol.specs.declared.request.Request.{Request}
 use Rattle.nc_protocol.specs.declared.verdict.Verdict.{Verdict}
 use Rattle.nc_protocol.specs.declared.verdict.Verdict.TheVariants.{Done, Selected, Locked, Refused}
 use Rattle.nc_protocol.specs.Refusals.{checked}
-use Rattle.nc_model.specs.declared.entry.Entry.{Entry}
 use Rattle.nc_model.specs.declared.event.Event.{Event}
 use Rattle.nc_model.specs.declared.event.Event.TheVariants.{Start, Request as Requested, End, Reading}
 use Rattle.nc_model.specs.declared.event.Outcome.{Outcome}
-use Rattle.nc_model.specs.declared.event.Outcome.TheVariants.{Started, Full, Answered, NotLive, Ended}
+use Rattle.nc_model.specs.declared.event.Outcome.TheVariants.{Started, Full, NotLive, Ended}
 use Rattle.nc_model.specs.Laws.{LockGoesWithChanges}
 use Rattle.nc_model.specs.State.{State, Pending, candidate_in_force, expired, is_due, is_held_by, is_live, left_by_end, read_at, released, reverted, session_ended, unless_held_by, without_session}
-use Rattle.nc_model.specs.Step.{Fits, answer_to, answered_unless, changed, changed_by, has_failed, is_full, next, outcome_of, rows_of_ok, with_candidate, with_lock}
+use Rattle.nc_model.specs.Step.{answer_to, answered_unless, changed, changed_by, has_failed, is_full, next, outcome_of, rows_of_ok, with_candidate, with_lock}
 use Rattle.nc_model.specs.Verdict.{asked_verdict, copied, edits_made, global_lock_cause, lock_checks, lock_refusal, operation_refused, rows_set, verdict_on}
 use Rattle.nc_model.proofs.GoodLemmas.{checked_done}
 use Rattle.nc_model.proofs.SessionLemmas.{all_none}

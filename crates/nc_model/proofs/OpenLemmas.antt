@@ -1,23 +1,20 @@
 -- Where access control is off, and in a recovery session, nothing is denied.
-use Rattle.std.proofs.Common.{◌≡◌, ◌&&◌, ◌||◌, ℕ, Bool, true, false, not, List, [], ◌∷◌, refl, sym, ap, ◌∙◌, Option, Some, None}
-use Rattle.std.specs.Prelude.{option_map, if◌then◌else◌}
+use Rattle.std.proofs.Common.{◌≡◌, ◌&&◌, ◌||◌, ℕ, Bool, true, false, not, List, [], ◌∷◌, refl, ap, ◌∙◌}
+use Rattle.std.specs.Prelude.{option_map}
 use Rattle.std.specs.List.{find, list_all}
 use Rattle.nc_names.specs.declared.path.Path.{Path}
-use Rattle.nc_names.specs.declared.path.Right.{Right}
 use Rattle.nc_names.specs.declared.path.Right.TheVariants.{Read}
 use Rattle.nc_names.specs.declared.path.Row.{Row}
 use Rattle.nc_names.specs.declared.path.Step.{Step}
 use Rattle.nc_schema.specs.Tables.{Tables}
 use Rattle.nc_protocol.specs.declared.access.By.TheVariants.{Off, Recovery}
-use Rattle.nc_protocol.specs.declared.access.Decision.{Decision}
 use Rattle.nc_protocol.specs.declared.peer.Peer.{Peer}
 use Rattle.nc_protocol.proofs.KeyLemmas.{filter_whole}
 use Rattle.nc_model.specs.Access.{access_policy, peer_of, sees_of, visible}
-use Rattle.nc_model.specs.Decision.{Question, by_default, by_rule, data_decision, decision, denied_by, exec_decision, first_made, made_if, of_data, of_operation, permitted_by, rules_for, subject}
+use Rattle.nc_model.specs.Decision.{Question, by_default, by_rule, decision, denied_by, first_made, made_if, of_data, of_operation, permitted_by, rules_for, subject}
 use Rattle.nc_model.specs.Laws.{NothingIsDenied}
-use Rattle.nc_model.specs.Sight.{beginnings, is_open, may_read, may_see, visible_rows}
+use Rattle.nc_model.specs.Sight.{beginnings, is_open, may_read, may_see}
 use Rattle.nc_model.specs.State.{State}
-use Rattle.nc_model.specs.declared.called.Called.{Called}
 use Rattle.nc_model.specs.declared.policy.Policy.{Policy}
 
 -- whatever is asked

@@ -1,17 +1,17 @@
 -- A confirmed commit at work: confirmed, followed up, cancelled, and reverted at its deadline and by its session's end.
-use Rattle.std.proofs.Common.{◌≡◌, ℕ, List, [], ◌∷◌, ◌++◌, refl}
+use Rattle.std.proofs.Common.{◌≡◌, ℕ, List, [], ◌∷◌, refl}
 use Rattle.std.specs.Fmt.{decimal}
-use Rattle.std.specs.Prelude.{codes, Option, Some, None, false, true}
+use Rattle.std.specs.Prelude.{codes, Some, None, false, true}
 use Rattle.nc_names.specs.declared.cause.CauseKind.TheVariants.{InUsePending, NoPending, BadToken, UnknownParameter}
 use Rattle.nc_names.specs.declared.path.Row.{Row}
 use Rattle.nc_protocol.specs.Asking.{plain_cause}
 use Rattle.nc_protocol.specs.Words.{confirmed_word}
 use Rattle.nc_protocol.specs.declared.asked.Asked.TheVariants.{Commit, CancelCommit}
 use Rattle.nc_protocol.specs.declared.verdict.Verdict.TheVariants.{Done}
-use Rattle.nc_model.specs.State.{State, Pending, base_of, expired, session_ended}
+use Rattle.nc_model.specs.State.{State, base_of, expired, session_ended}
 use Rattle.nc_model.specs.Step.{changed_by}
 use Rattle.nc_model.specs.Verdict.{cancel_refusal, commit_admission, commit_refusal}
-use Rattle.nc_model.proofs.LockExample.{both, modified, one, ports}
+use Rattle.nc_model.proofs.LockExample.{both, modified, ports}
 use Rattle.nc_protocol.proofs.Example.{rows_of_port}
 
 abbrev a : List Row

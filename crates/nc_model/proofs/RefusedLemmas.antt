@@ -1,5 +1,5 @@
 -- A refused request changes nothing but the clock, and what edits before a refused one set.
-use Rattle.std.proofs.Common.{◌≡◌, ◌≢◌, ◌⊎◌, ◌++◌, ℕ, Bool, true, false, List, [], ◌∷◌, refl, sym, ap, subst, ◌∙◌, inl, inr, Option, Some, None, Result, Ok, Err}
+use Rattle.std.proofs.Common.{◌≡◌, ◌⊎◌, ◌++◌, ℕ, Bool, true, false, List, [], ◌∷◌, refl, sym, ap, subst, ◌∙◌, inl, inr, Option, Some, None, Result, Ok, Err}
 use Rattle.std.specs.Prelude.{fold, if◌then◌else◌, is_some}
 use Rattle.std.specs.Option.{option_to_list}
 use Rattle.nc_names.proofs.SameLemmas.{rows_decide}
@@ -7,11 +7,9 @@ use Rattle.nc_names.specs.Same.{is_same_rows}
 use Rattle.nc_names.specs.declared.path.Row.{Row}
 use Rattle.nc_message.specs.declared.tree.Elem.{Elem}
 use Rattle.nc_message.specs.declared.tree.Tree.{Tree}
-use Rattle.nc_schema.specs.Tables.{Tables}
 use Rattle.nc_protocol.specs.declared.asked.Asked.{Asked}
 use Rattle.nc_protocol.specs.declared.asked.Asked.TheVariants.{Get, GetConfig, EditConfig, CopyConfig, DeleteConfig, Lock, Unlock, CloseSession, KillSession, Commit, DiscardChanges, CancelCommit, Validate, PartialLock, PartialUnlock}
 use Rattle.nc_protocol.specs.declared.asked.Default3.{Default3}
-use Rattle.nc_protocol.specs.declared.asked.ErrorOption.{ErrorOption}
 use Rattle.nc_protocol.specs.declared.asked.ErrorOption.TheVariants.{Stop, Continue, Rollback}
 use Rattle.nc_protocol.specs.declared.asked.TestOption.{TestOption}
 use Rattle.nc_protocol.specs.declared.asked.TestOption.TheVariants.{TestThenSet, Set, TestOnly}
@@ -24,7 +22,6 @@ use Rattle.nc_protocol.specs.declared.verdict.Verdict.TheVariants.{Done, Refused
 use Rattle.nc_protocol.specs.Applied.{Applied, applied, is_empty, rolled_back, stopped}
 use Rattle.nc_protocol.specs.Payload.{edits_of}
 use Rattle.nc_protocol.specs.Refusals.{checked, done_unless, result_unless, violation_in}
-use Rattle.nc_model.specs.declared.entry.Entry.{Entry}
 use Rattle.nc_model.specs.declared.event.Event.{Event}
 use Rattle.nc_model.specs.declared.event.Event.TheVariants.{Request as Requested}
 use Rattle.nc_model.specs.declared.event.Outcome.{Outcome}
@@ -32,8 +29,8 @@ use Rattle.nc_model.specs.declared.event.Outcome.TheVariants.{Answered, NotLive}
 use Rattle.nc_model.specs.Access.{rights_of}
 use Rattle.nc_model.specs.Laws.{ChangesCandidate, RefusedChangesNothing, keeps_edits}
 use Rattle.nc_model.specs.State.{State, candidate_in_force, expired, is_live}
-use Rattle.nc_model.specs.Step.{Fits, answer_to, answered_unless, changed, changed_by, has_failed, next, outcome_of, rows_of_ok, with_candidate}
-use Rattle.nc_model.specs.Verdict.{asked_verdict, causes_of_test, copied, done_where, edit_verdict, edits_made, made_by, operation_refused, rows_set, verdict, verdict_on}
+use Rattle.nc_model.specs.Step.{answer_to, answered_unless, changed, changed_by, has_failed, outcome_of, rows_of_ok, with_candidate}
+use Rattle.nc_model.specs.Verdict.{asked_verdict, copied, done_where, edit_verdict, edits_made, made_by, operation_refused, rows_set, verdict, verdict_on}
 
 -- ---- edits that are rolled back
 -- nothing is changed by rows that are those of the candidate

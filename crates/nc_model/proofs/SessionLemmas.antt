@@ -1,8 +1,8 @@
 -- Sessions among others, the first check of several that fails, and lists that are cut down.
-use Rattle.std.proofs.Common.{◌≡◌, ◌≢◌, ◌⊎◌, ◌≤◌, ◌+◌, ◌==◌, ◌||◌, ◌&&◌, ℕ, zero, suc, Bool, true, false, cond, not, List, [], ◌∷◌, ◌++◌, length, refl, sym, ap, subst, ◌∙◌, inl, inr, arith, Option, Some, None, get_or}
-use Rattle.std.specs.Prelude.{IfSome, if◌then◌else◌}
-use Rattle.std.specs.List.{All, Contains, filter, find, list_any}
-use Rattle.std.proofs.lemmas.Bool.{eqb-true, eq-eqb}
+use Rattle.std.proofs.Common.{◌≡◌, ◌≢◌, ◌⊎◌, ◌≤◌, ◌==◌, ◌||◌, ℕ, zero, suc, Bool, true, false, cond, not, List, [], ◌∷◌, ◌++◌, length, refl, sym, ap, ◌∙◌, inl, inr, arith, Option, Some, None, get_or}
+use Rattle.std.specs.Prelude.{IfSome}
+use Rattle.std.specs.List.{All, filter, find, list_any}
+use Rattle.std.proofs.lemmas.Bool.{eqb-true}
 use Rattle.std.proofs.lemmas.Bool.Decides.{eqb_tells}
 use Rattle.std.proofs.lemmas.List.Folds.{list_any-append}
 use Rattle.std.proofs.lemmas.List.Elements.{filter_passes, All-filter}
@@ -11,7 +11,6 @@ use Rattle.nc_protocol.specs.declared.request.Cause.{Cause}
 use Rattle.nc_protocol.specs.Edited.{cause_where, first_cause}
 use Rattle.nc_model.specs.State.{is_among}
 use Rattle.nc_model.specs.declared.session.Session.{Session}
-use Rattle.nc_protocol.proofs.ListLemmas.{filter_shorter}
 
 -- ---- sessions
 

@@ -1,7 +1,7 @@
 -- Access decisions (RFC 8341 3.4): one walk, which the decisions on an operation, on a notification and on a data
 -- node are instances of.
 use Rattle.std.specs.Prelude.{◌==◌, ◌&&◌, ◌||◌, ℕ, Bool, true, false, not, if◌then◌else◌, List, [], ◌∷◌, Option, Some, None, slice_get, option_map}
-use Rattle.std.specs.List.{find, flat_map, last_or, list_any}
+use Rattle.std.specs.List.{find, flat_map, list_any}
 use Rattle.std.specs.Option.{option_map_or}
 use Rattle.nc_names.specs.Same.{is_same_text}
 use Rattle.nc_names.specs.declared.path.Right.{Right}

@@ -1,4 +1,4 @@
-//! Replies to requests (RFC 6241 4.2 to 4.4; RFC 5717 2.4.1; RFC 8341 3.2.5 and 3.4.5).
+//! Replies to requests (RFC 6241 4.2 to 4.4; RFC 5717 2.4.1; RFC 8341 3.2.5 and 3.4.3).
 //!
 //! `reply_naming` gives exactly the tree that nc_protocol's definition of that name has for a request and its verdict: the
 //! attributes of the `rpc` as they are written there, and `ok`, the selected rows, the locked nodes, or an `rpc-error`

@@ -6,7 +6,7 @@ ghost use Rattle.nc_protocol.specs.Reply as reply;
 use crate::built::text_parts;
 use nc_message::{Elem, Part};
 use nc_names::{Boxed, Many, Memory, Path, QName, Text};
-use nc_print::names_bound;
+use nc_print::path_bounds;
 use nc_schema::Schema;
 use std::alloc::Global;
 
@@ -31,7 +31,7 @@ pub(crate) fn path_part(
     let text = path_text(alloc, schema, path)?;
     let elem = Elem {
         name,
-        bounds: names_bound(alloc, schema, text.as_str())?,
+        bounds: path_bounds(alloc, schema, path)?,
         attrs: Many::new(alloc),
         parts: text_parts(alloc, text.as_str())?,
     };

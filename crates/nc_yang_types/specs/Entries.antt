@@ -131,7 +131,7 @@ own stands Enumeration ss = Some (Names (enum_names stands ss))
 own stands IdentityRef ss = None
 own stands InstanceIdentifier ss = Some (Instance (required true ss))
 own stands LeafRef ss = None
-own stands Chars ss = option_map (λ among. String among false) (restricted Lengths Length lengths ss)
+own stands Chars ss = option_map (λ among. String among false []) (restricted Lengths Length lengths ss)
 own stands Union ss = None
 own stands built_in ss = option_map Whole (restricted (Units 0) Range (integers built_in) ss)
 
@@ -139,7 +139,7 @@ own stands built_in ss = option_map Whole (restricted (Units 0) Range (integers 
 abbrev pub misnarrowed : ValueType → List Statement → List Fault
 misnarrowed (Whole among) ss = misread (Units 0) Range among ss
 misnarrowed (Decimal digits among) ss = misread (Units digits) Range among ss
-misnarrowed (String among starless) ss = misread Lengths Length among ss
+misnarrowed (String among starless patterns) ss = misread Lengths Length among ss
 misnarrowed (Octets among) ss = misread Lengths Length among ss
 misnarrowed base ss = []
 
@@ -150,7 +150,8 @@ narrowed_faults base ss = foreign_over base ss ++ misnarrowed base ss
 abbrev pub narrowed : ValueType → List Statement → Option ValueType
 narrowed (Whole among) ss = option_map Whole (restricted (Units 0) Range among ss)
 narrowed (Decimal digits among) ss = option_map (λ left. Decimal digits left) (restricted (Units digits) Range among ss)
-narrowed (String among starless) ss = option_map (λ left. String left starless) (restricted Lengths Length among ss)
+narrowed (String among starless patterns) ss =
+    option_map (λ left. String left starless patterns) (restricted Lengths Length among ss)
 narrowed (Octets among) ss = option_map Octets (restricted Lengths Length among ss)
 narrowed (Leafref target above need) ss = Some (Leafref target above (required need ss))
 narrowed (Instance need) ss = Some (Instance (required need ss))

@@ -44,7 +44,7 @@ needs built_in = None
 abbrev pub narrows : ValueType → Keyword → Bool
 narrows (Whole among) keyword = is_same_keyword Range keyword
 narrows (Decimal digits among) keyword = is_same_keyword Range keyword
-narrows (String lengths starless) keyword = is_same_keyword Length keyword
+narrows (String lengths starless patterns) keyword = is_same_keyword Length keyword
 narrows (Octets lengths) keyword = is_same_keyword Length keyword
 narrows (Leafref target above required) keyword = is_same_keyword RequireInstance keyword
 narrows (Instance required) keyword = is_same_keyword RequireInstance keyword

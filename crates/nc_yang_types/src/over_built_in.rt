@@ -139,6 +139,7 @@ fn entry<'a, C: Conditions<'a>>(
         BuiltIn::Chars => Ok(Some(ValueType::Chars {
             lengths: lengths_left(alloc, below)?,
             starless: false,
+            patterns: Many::new(alloc),
         })),
         BuiltIn::Decimal64 => decimal(alloc, below),
         BuiltIn::Enumeration => Ok(Some(ValueType::Enumeration {

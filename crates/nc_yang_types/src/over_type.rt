@@ -8,7 +8,7 @@ ghost use Rattle.nc_yang_statements.specs.Stops.{OnBroken};
 use crate::bound::Counted;
 use crate::part::foreign_over;
 use crate::restricted::{narrower, required};
-use nc_names::Many;
+use nc_names::{Copies, Many};
 use nc_schema::{Between, ValueType};
 use nc_yang_statements::{Fault, Keyword, Stop};
 use nc_yang_words::Statement;
@@ -59,18 +59,23 @@ fn over_chars(
     alloc: Global,
     lengths: &Many<Between>,
     starless: bool,
+    patterns: &Many<u32>,
     below: &[Statement],
 ) -> Result<Option<ValueType>, Stop<Fault>>
     ensures ok { IfOk result (λ it.
-        entries.narrowed (Chars lengths.now starless) below.now
-        ≡ Some (unwrap_or it (Chars lengths.now starless))) }
-    ensures kept { OnOk result (entries.misnarrowed (Chars lengths.now starless) below.now ≡ []) }
+        entries.narrowed (Chars lengths.now starless patterns.now) below.now
+        ≡ Some (unwrap_or it (Chars lengths.now starless patterns.now))) }
+    ensures kept { OnOk result (entries.misnarrowed (Chars lengths.now starless patterns.now) below.now ≡ []) }
     ensures fault { IfErr result (OnBroken (λ fault.
-        rules.first (entries.misnarrowed (Chars lengths.now starless) below.now) ≡ Some fault)) }
+        rules.first (entries.misnarrowed (Chars lengths.now starless patterns.now) below.now) ≡ Some fault)) }
 {
     let counted = Counted::Lengths;
     match narrower(alloc, counted, Keyword::Length, lengths.as_slice(), below)? {
-        Some(lengths) => Ok(Some(ValueType::Chars { lengths, starless })),
+        Some(lengths) => Ok(Some(ValueType::Chars {
+            lengths,
+            starless,
+            patterns: patterns.copy()?,
+        })),
         None => Ok(None),
     }
 }
@@ -108,7 +113,11 @@ fn entry_over(
     match base {
         ValueType::Whole { among } => over_whole(alloc, among, below),
         ValueType::Decimal { digits, among } => over_decimal(alloc, *digits, among, below),
-        ValueType::Chars { lengths, starless } => over_chars(alloc, lengths, *starless, below),
+        ValueType::Chars {
+            lengths,
+            starless,
+            patterns,
+        } => over_chars(alloc, lengths, *starless, patterns, below),
         ValueType::Binary { lengths } => over_binary(alloc, lengths, below),
         ValueType::Leafref {
             target,

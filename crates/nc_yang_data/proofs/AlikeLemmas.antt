@@ -153,37 +153,38 @@ module _ (scoping : Scoping) (on : FeatureTest) where
   -- ---- plans
   abbrev tables_of : List SeenNode → List SeenChoice → Tables
   tables_of ss cs = record {
-    nodes = nodes_of (record { nodes = map draft_of ss; choices = []; types = []; modules = [] }) 0 ss;
+    nodes = nodes_of (record { nodes = map draft_of ss; choices = []; types = []; modules = []; patterns = [] }) 0 ss;
     choices = map choice_of cs;
     types = [];
     modules = modules_from on 0 scoping.texts;
+    patterns = [];
   }
 
-  drafts_are : (plan : Plan) → drafts scoping plan ≡ record { nodes = map draft_of (map (seen_node scoping) plan.nodes); choices = []; types = []; modules = [] }
+  drafts_are : (plan : Plan) → drafts scoping plan ≡ record { nodes = map draft_of (map (seen_node scoping) plan.nodes); choices = []; types = []; modules = []; patterns = [] }
   drafts_are plan =
       let nodes = map_seen (seen_node scoping) (draft_at scoping) draft_of draft_is plan.nodes in
-      λ i. record { nodes = nodes i; choices = []; types = []; modules = [] }
+      λ i. record { nodes = nodes i; choices = []; types = []; modules = []; patterns = [] }
 
   tables_are : (plan : Plan) → data_tables scoping on plan ≡ tables_of (map (seen_node scoping) plan.nodes) (map (seen_choice scoping) plan.choices)
   tables_are plan =
       let nodes = ap (λ t. nodes_from scoping t 0 plan.nodes) (drafts_are plan)
-      ∙ nodes_are (record { nodes = map draft_of (map (seen_node scoping) plan.nodes); choices = []; types = []; modules = [] }) 0 plan.nodes in
+      ∙ nodes_are (record { nodes = map draft_of (map (seen_node scoping) plan.nodes); choices = []; types = []; modules = []; patterns = [] }) 0 plan.nodes in
       let choices = map_seen (seen_choice scoping) (choice_in scoping on) choice_of choice_is plan.choices in
-      λ i. record { nodes = nodes i; choices = choices i; types = []; modules = modules_from on 0 scoping.texts }
+      λ i. record { nodes = nodes i; choices = choices i; types = []; modules = modules_from on 0 scoping.texts; patterns = [] }
 
   pub tables_alike : (p q : Plan) → AreAlike scoping p q → data_tables scoping on p ≡ data_tables scoping on q
   tables_alike p q h = tables_are p ∙ (λ i. tables_of (h.nodes i) (h.choices i)) ∙ sym (tables_are q)
 
   abbrev all_faults_of : List SeenNode → List SeenChoice → List TextFault
   all_faults_of ss cs =
-      faults_of (record { nodes = map draft_of ss; choices = []; types = []; modules = [] }) 0 ss
+      faults_of (record { nodes = map draft_of ss; choices = []; types = []; modules = []; patterns = [] }) 0 ss
       ++ ((asking_of (blame ss) (tables_of ss cs) 0 ss ++ choices_of (blame ss) (tables_of ss cs) 0 cs)
       ++ conditions_of (keyed ss) (tables_of ss cs).nodes)
 
   all_faults_are : (plan : Plan) → data_faults scoping on plan ≡ all_faults_of (map (seen_node scoping) plan.nodes) (map (seen_choice scoping) plan.choices)
   all_faults_are plan =
       let own = ap (λ t. faults_from scoping t 0 plan.nodes) (drafts_are plan)
-      ∙ faults_are (record { nodes = map draft_of (map (seen_node scoping) plan.nodes); choices = []; types = []; modules = [] }) 0 plan.nodes in
+      ∙ faults_are (record { nodes = map draft_of (map (seen_node scoping) plan.nodes); choices = []; types = []; modules = []; patterns = [] }) 0 plan.nodes in
       let by_default = ap (λ t. default_faults scoping t plan) (tables_are plan)
       ∙ defaults_are plan (tables_of (map (seen_node scoping) plan.nodes) (map (seen_choice scoping) plan.choices)) in
       let by_keys = ap (λ (t : Tables). all_conditions scoping plan t.nodes) (tables_are plan)

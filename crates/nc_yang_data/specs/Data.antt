@@ -16,7 +16,7 @@ use Rattle.nc_yang_data.specs.declared.place.Leafs.{Leafs}
 
 -- the data nodes by their statements alone
 abbrev pub drafts : Scoping → Plan → Tables
-drafts scoping plan = record { nodes = map (draft_at scoping) plan.nodes; choices = []; types = []; modules = [] }
+drafts scoping plan = record { nodes = map (draft_at scoping) plan.nodes; choices = []; types = []; modules = []; patterns = [] }
 
 -- a data node with its keys and unique leafs
 abbrev pub with_leafs : Node → Leafs → Node
@@ -39,6 +39,7 @@ data_tables scoping on plan = record {
   choices = map (choice_in scoping on) plan.choices;
   types = [];
   modules = modules_from on 0 scoping.texts;
+  patterns = [];
 }
 
 -- the rules that data nodes and choices break in their places: names, keys and unique leafs of the nodes, then what has

@@ -245,7 +245,7 @@ module _ (derived : List Located → List QName → Type 0) (on : ℕ → List �
 
 -- the schema put together
 pub some_none : (old : Tables) (kinds : List ℕ) → HasSome old kinds 0 old
-some_none old kinds = record { modules = refl; choices = refl; types = refl; counted = refl; set = λ number kind node less. absurd (omega arith); others = λ number le. refl }
+some_none old kinds = record { modules = refl; choices = refl; patterns = refl; types = refl; counted = refl; set = λ number kind node less. absurd (omega arith); others = λ number le. refl }
 
 pub some_more : (old mid new : Tables) (kinds : List ℕ) (i kind : ℕ) → HasSome old kinds i mid → slice_get kinds i ≡ Some kind → new ≡ with_kind mid i kind → HasSome old kinds (i + 1) new
 some_more old mid new kinds i kind has at made = subst (HasSome old kinds (i + 1)) (sym made) (by (slice_get mid.nodes i) refl)
@@ -257,6 +257,7 @@ some_more old mid new kinds i kind has at made = subst (HasSome old kinds (i + 1
     by None e = subst (λ z. HasSome old kinds (i + 1) (record mid { nodes = node_with mid.nodes i kind z })) (sym e) (record {
       modules = has.modules;
       choices = has.choices;
+      patterns = has.patterns;
       types = has.types;
       counted = has.counted;
       set = λ number given node less is there. elim (cases_eq number i) [
@@ -270,6 +271,7 @@ some_more old mid new kinds i kind has at made = subst (HasSome old kinds (i + 1
     by (Some here) e = subst (λ z. HasSome old kinds (i + 1) (record mid { nodes = node_with mid.nodes i kind z })) (sym e) (record {
       modules = has.modules;
       choices = has.choices;
+      patterns = has.patterns;
       types = has.types;
       counted = length-set mid.nodes i (record here { kind_of_value = kind }) ∙ has.counted;
       set = λ number given node less is there. elim (cases_eq number i) [
@@ -294,6 +296,7 @@ pub all_typed : (derived : List Located → List QName → Type 0) (b : Basis) (
 all_typed derived b mid new types kinds blank mid_is have has = record {
   modules = has.modules ∙ ap (λ (z : Tables). z.modules) mid_is;
   choices = has.choices ∙ ap (λ (z : Tables). z.choices) mid_is;
+  patterns = has.patterns ∙ ap (λ (z : Tables). z.patterns) mid_is;
   counted = has.counted ∙ ap (λ (z : Tables). length z.nodes) mid_is;
   nodes = nodes;
   entries = λ number less. subst (λ z. IsInUse derived b z number) (sym types_are) (have.used number (let same = ap length types_are in omega (arith, less, same)));

@@ -9,3 +9,4 @@ pub mod EntryLemmas
 pub mod SoundLemmas
 pub mod LeafrefLemmas
 pub mod ProperLemmas
+pub mod PatternLemmas

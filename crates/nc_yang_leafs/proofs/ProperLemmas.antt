@@ -121,7 +121,7 @@ module _ (derived : List Located → List QName → Type 0) (b : Basis) (tables 
       entry_proper number l (OneOf ls) (Members numbers) means is members = all_there (Means b.on b.scoping.texts) (IsEntry derived (leads b.scoping b.given number)) tables.types ls numbers members
       entry_proper number l (OneOf ls) (Whole among) means is members = absurd is
       entry_proper number l (OneOf ls) (Decimal digits among) means is members = absurd is
-      entry_proper number l (OneOf ls) (String among starless) means is members = absurd is
+      entry_proper number l (OneOf ls) (String among starless patterns) means is members = absurd is
       entry_proper number l (OneOf ls) Truth means is members = absurd is
       entry_proper number l (OneOf ls) (Names names) means is members = absurd is
       entry_proper number l (OneOf ls) (Set names) means is members = absurd is
@@ -134,7 +134,7 @@ module _ (derived : List Located → List QName → Type 0) (b : Basis) (tables 
       entry_proper number l (DerivedFrom bases) (Identity among) means is members = named bases among is
       entry_proper number l (DerivedFrom bases) (Whole among) means is members = absurd is
       entry_proper number l (DerivedFrom bases) (Decimal digits among) means is members = absurd is
-      entry_proper number l (DerivedFrom bases) (String among starless) means is members = absurd is
+      entry_proper number l (DerivedFrom bases) (String among starless patterns) means is members = absurd is
       entry_proper number l (DerivedFrom bases) Truth means is members = absurd is
       entry_proper number l (DerivedFrom bases) (Names names) means is members = absurd is
       entry_proper number l (DerivedFrom bases) (Set names) means is members = absurd is
@@ -148,7 +148,7 @@ module _ (derived : List Located → List QName → Type 0) (b : Basis) (tables 
           still_there (λ node. IsTrue (has_value node.kind)) (λ node kind_of_value p. p) target (leafref_is number l (Refers path required) target above need means is).valued
       entry_proper number l (Refers path required) (Whole among) means is members = absurd is
       entry_proper number l (Refers path required) (Decimal digits among) means is members = absurd is
-      entry_proper number l (Refers path required) (String among starless) means is members = absurd is
+      entry_proper number l (Refers path required) (String among starless patterns) means is members = absurd is
       entry_proper number l (Refers path required) Truth means is members = absurd is
       entry_proper number l (Refers path required) (Names names) means is members = absurd is
       entry_proper number l (Refers path required) (Set names) means is members = absurd is

@@ -1,10 +1,11 @@
 -- What a `type` statement says by its own parts is in order: digits of decimals, names of bits.
-use Rattle.std.proofs.Common.{◌≡◌, ◌≢◌, ◌≤◌, ◌&&◌, ℕ, Bool, true, false, cond, List, [], Option, Some, None, refl, subst, arith}
+use Rattle.std.proofs.Common.{◌≡◌, ◌≢◌, ◌<◌, ◌≤◌, sym, ◌&&◌, ℕ, Bool, true, false, cond, List, [], Option, Some, None, refl, subst, arith}
 use Rattle.std.specs.Prelude.{ℤ, pos, negsuc, nat_le, option_map}
-use Rattle.std.specs.List.{AllPairs}
+use Rattle.std.specs.List.{All, AllPairs}
+use Rattle.std.proofs.lemmas.List.Elements.{All-nil}
 use Rattle.nc_schema.specs.NumberTexts.{number_of}
 use Rattle.nc_schema.specs.Proper.{IsProperType}
-use Rattle.nc_schema.specs.Tables.{Tables}
+use Rattle.nc_schema.specs.Tables.{NamesPatterns, Tables}
 use Rattle.nc_schema.specs.declared.value_type.ValueType.{ValueType}
 use Rattle.nc_schema.specs.declared.value_type.ValueType.TheVariants.{Whole, Decimal, Chars as String, Boolean as Truth, Enumeration as Names, Bits as Set, Binary as Octets, Empty as Nothing, Union as Members, Identity, Leafref, Instance, NodeInstance}
 use Rattle.nc_yang_words.specs.declared.statement.Statement.{Statement}
@@ -28,6 +29,7 @@ IsSound (Set names) = AllPairs (λ name later. name ≢ later) names
 IsSound (Members members) = ⊥
 IsSound (Identity among) = ⊥
 IsSound (Leafref target above need) = ⊥
+IsSound (String among starless patterns) = patterns ≡ []
 IsSound other = Unit {0}
 
 pub sound_proper : (tables : Tables) (entry : ValueType) → IsSound entry → IsProperType tables entry
@@ -37,13 +39,29 @@ sound_proper tables (Members members) h = absurd h
 sound_proper tables (Identity among) h = absurd h
 sound_proper tables (Leafref target above need) h = absurd h
 sound_proper tables (Whole among) h = tt
-sound_proper tables (String among starless) h = tt
+sound_proper tables (String among starless patterns) h = tt
 sound_proper tables Truth h = tt
 sound_proper tables (Names names) h = tt
 sound_proper tables (Octets among) h = tt
 sound_proper tables Nothing h = tt
 sound_proper tables (Instance need) h = tt
 sound_proper tables NodeInstance h = tt
+
+-- it names no pattern
+pub sound_named : (count : ℕ) (entry : ValueType) → IsSound entry → NamesPatterns count entry
+sound_named count (String among starless patterns) h = subst (All (λ number. number < count)) (sym h) (All-nil (λ number. number < count))
+sound_named count (Decimal digits among) h = tt
+sound_named count (Set names) h = tt
+sound_named count (Members members) h = tt
+sound_named count (Identity among) h = tt
+sound_named count (Leafref target above need) h = tt
+sound_named count (Whole among) h = tt
+sound_named count Truth h = tt
+sound_named count (Names names) h = tt
+sound_named count (Octets among) h = tt
+sound_named count Nothing h = tt
+sound_named count (Instance need) h = tt
+sound_named count NodeInstance h = tt
 
 -- an entry that is made of what may be there
 made : {A : Type 0} (f : A → ValueType) → ((x : A) → IsSound (f x)) → (o : Option A) (entry : ValueType) → option_map f o ≡ Some entry → IsSound entry
@@ -86,7 +104,7 @@ own_sound holds Int16 s entry off e = made Whole (λ among. tt) (restricted (Uni
 own_sound holds Int32 s entry off e = made Whole (λ among. tt) (restricted (Units 0) Range (integers Int32) (below s)) entry e
 own_sound holds Int64 s entry off e = made Whole (λ among. tt) (restricted (Units 0) Range (integers Int64) (below s)) entry e
 own_sound holds LeafRef s entry off e = absurd (cc)
-own_sound holds Chars s entry off e = made (λ among. String among false) (λ among. tt) (restricted Lengths Length lengths (below s)) entry e
+own_sound holds Chars s entry off e = made (λ among. String among false []) (λ among. refl) (restricted Lengths Length lengths (below s)) entry e
 own_sound holds Uint8 s entry off e = made Whole (λ among. tt) (restricted (Units 0) Range (integers Uint8) (below s)) entry e
 own_sound holds Uint16 s entry off e = made Whole (λ among. tt) (restricted (Units 0) Range (integers Uint16) (below s)) entry e
 own_sound holds Uint32 s entry off e = made Whole (λ among. tt) (restricted (Units 0) Range (integers Uint32) (below s)) entry e
@@ -97,7 +115,7 @@ own_sound holds Union s entry off e = absurd (cc)
 narrowed_sound : (base entry : ValueType) (ss : List Statement) → IsSound base → narrowed base ss ≡ Some entry → IsSound entry
 narrowed_sound (Whole among) entry ss h e = made Whole (λ left. tt) (restricted (Units 0) Range among ss) entry e
 narrowed_sound (Decimal digits among) entry ss h e = made (λ left. Decimal digits left) (λ left. h) (restricted (Units digits) Range among ss) entry e
-narrowed_sound (String among starless) entry ss h e = made (λ left. String left starless) (λ left. tt) (restricted Lengths Length among ss) entry e
+narrowed_sound (String among starless patterns) entry ss h e = made (λ left. String left starless patterns) (λ left. h) (restricted Lengths Length among ss) entry e
 narrowed_sound (Octets among) entry ss h e = made Octets (λ left. tt) (restricted Lengths Length among ss) entry e
 narrowed_sound (Leafref target above need) entry ss h e = absurd h
 narrowed_sound (Instance need) entry ss h e = given (Instance (required need ss)) entry tt e

@@ -77,6 +77,7 @@ IsSameNode old new = new ≡ record old { kind_of_value = new.kind_of_value }
 pub record IsTyped (derived : List Located → List QName → Type 0) (b : Basis) (tables : Tables) : Type 0 where
   pub modules : tables.modules ≡ b.given.modules
   pub choices : tables.choices ≡ b.given.choices
+  pub patterns : tables.patterns ≡ b.given.patterns
   pub counted : length tables.nodes ≡ length b.given.nodes
   pub nodes : EachNode b.given (λ number old.
       IsSomeAnd (slice_get tables.nodes number) (λ new. IsSameNode old new × HasItsType derived b tables.types number new.kind new.kind_of_value))

@@ -1,5 +1,6 @@
 //! A schema with the types of its leafs and leaf-lists.
-ghost use Rattle.std.specs.Prelude.{◌≡◌, ◌++◌, ℕ, Bool, List, [], length, IfOk, IfErr, OnOk, MatchResult};
+ghost use Rattle.std.specs.Prelude.{◌≡◌, ◌++◌, ℕ, All, Bool, List, [], length, IfOk, IfErr, OnOk, MatchResult};
+ghost use Rattle.nc_schema.specs.Tables.{NamesPatterns};
 ghost use Rattle.nc_yang_meanings.specs.Plans.{AreMeanings};
 ghost use Rattle.nc_yang_nodes.specs.FeaturesOn.{is_on};
 ghost use Rattle.nc_yang_scopes.specs.Prefixes.{ArePrefixes};
@@ -24,8 +25,9 @@ use nc_yang_scopes::{Scopes, TextFault};
 use nc_yang_statements::Stop;
 use std::alloc::Global;
 
-// With types.
+// With types, which name no patterns that the schema has not.
 fn with_types(schema: Schema, types: Many<ValueType>) -> Result<Schema, Memory>
+    requires { All (NamesPatterns (length schema.patterns)) types }
     ensures { IfOk result (λ it. it ≡ record schema { types = schema.types ++ types }) }
 {
     let mut schema = schema;

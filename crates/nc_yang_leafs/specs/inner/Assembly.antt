@@ -15,6 +15,7 @@ with_kind tables number kind = record tables { nodes = node_with tables.nodes nu
 pub record HasSome (old : Tables) (kinds : List ℕ) (count : ℕ) (new : Tables) : Type 0 where
   pub modules : new.modules ≡ old.modules
   pub choices : new.choices ≡ old.choices
+  pub patterns : new.patterns ≡ old.patterns
   pub types : new.types ≡ old.types
   pub counted : length new.nodes ≡ length old.nodes
   pub set : (number kind : ℕ) (node : Node) → number < count → slice_get kinds number ≡ Some kind → slice_get old.nodes number ≡ Some node →

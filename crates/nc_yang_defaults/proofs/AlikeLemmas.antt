@@ -8,7 +8,7 @@ use Rattle.nc_names.specs.declared.name.QName.{QName}
 use Rattle.nc_names.specs.Ends.{trimmed}
 use Rattle.nc_schema.specs.InstancePaths.{key_nodes}
 use Rattle.nc_schema.specs.Tables.{Tables}
-use Rattle.nc_schema.specs.Values.{Givers, Gives, canonical, fits_paths, identity_text, instance_text, is_key_above, is_quotable, node_instance_text, node_text, text_in_type, text_within, type_of, type_text, value_depth}
+use Rattle.nc_schema.specs.Values.{Givers, Gives, canonical, fits_paths, identity_text, instance_text, is_key_above, is_quotable, node_instance_text, node_text, string_text, text_in_type, text_within, type_of, type_text, value_depth}
 use Rattle.nc_schema.specs.declared.node.Node.{Node}
 use Rattle.nc_schema.specs.declared.value_type.ValueType.{ValueType}
 use Rattle.nc_schema.specs.declared.value_type.ValueType.TheVariants.{Whole, Decimal, Chars, Boolean, Enumeration, Bits, Binary, Empty, Union, Identity, Leafref, Instance, NodeInstance}
@@ -30,7 +30,7 @@ use Rattle.nc_yang_defaults.proofs.SourceLemmas.{one_sources}
 
 -- a schema without types and defaults
 abbrev pub path_tables : Tables → Tables
-path_tables t = record { nodes = map (bare_by (λ n. 0)) t.nodes; choices = t.choices; types = []; modules = t.modules }
+path_tables t = record { nodes = map (bare_by (λ n. 0)) t.nodes; choices = t.choices; types = []; modules = t.modules; patterns = t.patterns }
 
 -- the type has others
 abbrev pub has_others : ValueType → Bool
@@ -72,7 +72,8 @@ module _ (t u : Tables) (alike : path_tables t ≡ path_tables u) where
       text_in_type t g type bounds text ≡ text_in_type u h type bounds text
   alone_alike g h same (Whole among) e bounds text = refl
   alone_alike g h same (Decimal digits among) e bounds text = refl
-  alone_alike g h same (Chars lengths starless) e bounds text = refl
+  alone_alike g h same (Chars lengths starless numbers) e bounds text =
+      ap (λ (z : Tables). string_text z.patterns lengths starless numbers text) alike
   alone_alike g h same Boolean e bounds text = refl
   alone_alike g h same (Enumeration names) e bounds text = refl
   alone_alike g h same (Bits names) e bounds text = refl

@@ -63,7 +63,7 @@ module _ (rate : ℕ → ℕ) where
   -- what is said of paths does not depend on types
   module _ (types : List ValueType) (t : Tables) where
     abbrev b : Tables
-    b = record { nodes = map (bare_by rate) t.nodes; choices = t.choices; types = types; modules = t.modules }
+    b = record { nodes = map (bare_by rate) t.nodes; choices = t.choices; types = types; modules = t.modules; patterns = t.patterns }
 
     at_bare : {B : Type 0} (g : Node → B) (d : B) → ((n : Node) → g (bare_by rate n) ≡ g n) → (i : ℕ) → option_map_or g (slice_get b.nodes i) d ≡ option_map_or g (slice_get t.nodes i) d
     at_bare g d same i = ap (λ o. option_map_or g o d) (get_bare t.nodes i) ∙ or_bare g d same (slice_get t.nodes i)
@@ -198,7 +198,7 @@ module _ (t : Tables) where
   in_type_same : (g h : Givers) → g ≡ h → (type : ValueType) (bounds : List Bound) (text : List ℕ) → text_in_type whole g type bounds text ≡ text_in_type t h type bounds text
   in_type_same g h same (Whole among) bounds text = refl
   in_type_same g h same (Decimal digits among) bounds text = refl
-  in_type_same g h same (Chars lengths starless) bounds text = refl
+  in_type_same g h same (Chars lengths starless numbers) bounds text = refl
   in_type_same g h same Boolean bounds text = refl
   in_type_same g h same (Enumeration names) bounds text = refl
   in_type_same g h same (Bits names) bounds text = refl

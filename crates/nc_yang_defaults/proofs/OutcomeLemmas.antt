@@ -45,7 +45,7 @@ module _ (scoping : Scoping) (plan : Plan) (typed tables : Tables) (is : IsTyped
   tables_alike : bare_tables tables ≡ bare_tables typed
   tables_alike =
       let nodes = lists_alike tables.nodes typed.nodes has.counted nodes_alike in
-      λ i. record { nodes = nodes i; choices = has.choices i; types = has.types i; modules = has.modules i }
+      λ i. record { nodes = nodes i; choices = has.choices i; types = has.types i; modules = has.modules i; patterns = has.patterns i }
 
   -- its defaults change no value
   pub canonical_kept : (number : ℕ) (text : List ℕ) (bounds : List Bound) → canonical tables number text bounds ≡ canonical typed number text bounds

@@ -19,7 +19,7 @@ abbrev pub with_values : Node → List (List ℕ) → Node
 with_values node values = record node { defaults = values }
 
 keeps_itself : (tables : Tables) → KeepsRest tables tables
-keeps_itself tables = record { counted = refl; choices = refl; types = refl; modules = refl }
+keeps_itself tables = record { counted = refl; choices = refl; types = refl; modules = refl; patterns = refl }
 
 -- without defaults nothing changes
 pub put_nothing : (tables new : Tables) (number : ℕ) (values : List (List ℕ)) → values ≡ [] → new ≡ tables → IsPut number values tables new
@@ -39,7 +39,7 @@ put_nowhere tables new number values none same = subst (IsPut number values tabl
 pub put_there : (tables new : Tables) (number : ℕ) (values : List (List ℕ)) (node : Node) (with : Node) → slice_get tables.nodes number ≡ Some node → with ≡ with_values node values →
     new ≡ record tables { nodes = slice_set tables.nodes number with } → IsPut number values tables new
 put_there tables new number values node with at with_is same = subst (IsPut number values tables) (sym same) (record {
-  rest = record { counted = set_length tables.nodes number with; choices = refl; types = refl; modules = refl };
+  rest = record { counted = set_length tables.nodes number with; choices = refl; types = refl; modules = refl; patterns = refl };
   here = λ other there fresh.
       let e : node ≡ other = let f : Some node ≡ Some other = sym at ∙ there in cc in
       set_same tables.nodes number node with at ∙ ap Some (with_is ∙ ap (λ z. with_values z values) e);
@@ -83,6 +83,7 @@ module _ (all left : List (List (List ℕ))) (values : List (List ℕ)) (old mid
           choices = p.rest.choices ∙ u.rest.choices;
           types = p.rest.types ∙ u.rest.types;
           modules = p.rest.modules ∙ u.rest.modules;
+          patterns = p.rest.patterns ∙ u.rest.patterns;
         };
         more = values ∷ u.more;
         cut = cut;
@@ -119,4 +120,5 @@ have_defaults scoping plan typed tables found is are put = record {
   choices = put.rest.choices;
   types = put.rest.types;
   modules = put.rest.modules;
+  patterns = put.rest.patterns;
 }

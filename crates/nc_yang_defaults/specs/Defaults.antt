@@ -71,3 +71,4 @@ pub record HasDefaults (scoping : Scoping) (plan : Plan) (typed tables : Tables)
   pub choices : tables.choices ≡ typed.choices
   pub types : tables.types ≡ typed.types
   pub modules : tables.modules ≡ typed.modules
+  pub patterns : tables.patterns ≡ typed.patterns

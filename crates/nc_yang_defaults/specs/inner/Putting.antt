@@ -9,6 +9,7 @@ pub record KeepsRest (old new : Tables) : Type 0 where
   pub choices : new.choices ≡ old.choices
   pub types : new.types ≡ old.types
   pub modules : new.modules ≡ old.modules
+  pub patterns : new.patterns ≡ old.patterns
 
 -- with the defaults of one data node, which had none
 pub record IsPut (number : ℕ) (values : List (List ℕ)) (old new : Tables) : Type 0 where

@@ -1,5 +1,5 @@
 -- What a `type` statement means by an entry has no other types.
-use Rattle.std.proofs.Common.{◌≡◌, ℕ, Bool, true, false, List, refl, subst}
+use Rattle.std.proofs.Common.{◌≡◌, ℕ, Bool, true, false, List, refl, subst, []}
 use Rattle.std.specs.Prelude.{Option, Some, None, option_map}
 use Rattle.nc_schema.specs.declared.value_type.Between.{Between}
 use Rattle.nc_schema.specs.declared.value_type.ValueType.{ValueType}
@@ -53,7 +53,7 @@ own_alone holds Enumeration ss = refl
 own_alone holds IdentityRef ss = tt
 own_alone holds InstanceIdentifier ss = refl
 own_alone holds LeafRef ss = tt
-own_alone holds StringType ss = by_parts (λ among. Chars among false) (λ among. refl) (restricted Lengths Length lengths ss)
+own_alone holds StringType ss = by_parts (λ among. Chars among false []) (λ among. refl) (restricted Lengths Length lengths ss)
 own_alone holds Union ss = tt
 own_alone holds one ss = by_parts Whole (λ among. refl) (restricted (Units 0) Range (integers one) ss)
 
@@ -70,7 +70,7 @@ meant_alone on one l = by_entry (own (stands on l.place.text) one (below l.state
 narrowed_alone : (entry : ValueType) (ss : List Statement) → has_others entry ≡ false → OwnAlone (narrowed entry ss)
 narrowed_alone (Whole among) ss e = by_parts Whole (λ left. refl) (restricted (Units 0) Range among ss)
 narrowed_alone (Decimal digits among) ss e = by_parts (λ left. Decimal digits left) (λ left. refl) (restricted (Units digits) Range among ss)
-narrowed_alone (Chars among starless) ss e = by_parts (λ left. Chars left starless) (λ left. refl) (restricted Lengths Length among ss)
+narrowed_alone (Chars among starless patterns) ss e = by_parts (λ left. Chars left starless patterns) (λ left. refl) (restricted Lengths Length among ss)
 narrowed_alone (Octets among) ss e = by_parts Octets (λ left. refl) (restricted Lengths Length among ss)
 narrowed_alone (LeafrefType target above need) ss e = absurd (cc)
 narrowed_alone (UnionType members) ss e = absurd (cc)

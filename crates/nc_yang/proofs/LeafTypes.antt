@@ -286,7 +286,7 @@ module _ (derived : List Located → List QName → Type 0) (b : Basis) where
       let w = now_at tables typed i y from in
       let same : x ≡ w.new = (let e : Some x ≡ Some w.new = sym at ∙ w.at in cc) in
       ap (bare_by (λ n. 0)) same ∙ ap (bare_by (λ n. 0)) w.same) in
-      λ i. record { nodes = nodes i; choices = typed.choices i; types = []; modules = typed.modules i }
+      λ i. record { nodes = nodes i; choices = typed.choices i; types = []; modules = typed.modules i; patterns = typed.patterns i }
 
   -- a node in two of them
   pub nodes_paired : (t u : Tables) → IsTyped derived b t → IsTyped derived b u → (n : ℕ) (node : Node) → slice_get u.nodes n ≡ Some node →

@@ -44,6 +44,7 @@ module _ (scoping : Scoping) (one other : Plan) (alike : AreAlike scoping one ot
     choices = h.choices;
     types = h.types;
     modules = h.modules;
+    patterns = h.patterns;
   }
 
   module _ (on : ℕ → List ℕ → Bool) (given : Tables) where
@@ -75,6 +76,7 @@ module _ (scoping : Scoping) (one other : Plan) (alike : AreAlike scoping one ot
     typed_here derived tables h = record {
       modules = h.modules;
       choices = h.choices;
+      patterns = h.patterns;
       counted = h.counted;
       nodes = λ n old there.
           some_more (λ (new : Node). IsSameNode old new × HasItsType derived on_other tables.types n new.kind new.kind_of_value)

@@ -43,14 +43,14 @@ unfoldable pub speed : Node
 speed = node (codes "speed") (Some 2) Leaf [] None
 
 abbrev pub chars : ValueType
-chars = Chars (record { least = pos 0; most = pos (2 ^ 64 - 1) } ∷ []) false
+chars = Chars (record { least = pos 0; most = pos (2 ^ 64 - 1) } ∷ []) false []
 
 abbrev pub ex : Module
 ex = record { name = codes "ex"; space = codes "urn:ex"; revision = []; features = [] }
 
 -- a schema of nothing
 abbrev pub empty : Tables
-empty = record { nodes = []; choices = []; types = []; modules = [] }
+empty = record { nodes = []; choices = []; types = []; modules = []; patterns = [] }
 
 -- without a data node
 abbrev pub begun : Tables

@@ -92,6 +92,7 @@ fn chars(alloc: Global) -> Result<ValueType, Memory>
     Ok(ValueType::Chars {
         lengths,
         starless: false,
+        patterns: Many::new(alloc),
     })
 }
 

@@ -60,6 +60,7 @@ fn put_type(rt: &impl Abort, alloc: Global, schema: &mut Schema) {
         .add_type(ValueType::Chars {
             lengths,
             starless: false,
+            patterns: Many::new(alloc),
         })
         .expect(rt, "memory");
 }

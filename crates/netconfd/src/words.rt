@@ -18,7 +18,7 @@ pub struct Stdio<'a> {
     pub user: &'a str,
     /// The words after it: the groups of the user, among which the flag may stand.
     pub others: &'a [String],
-    /// Whether it is a recovery session (RFC 8341 2.1).
+    /// Whether it is a recovery session (RFC 8341 3.3.3).
     pub recovery: bool,
 }
 

@@ -1,56 +1,52 @@
 -- What comes of a request, and its entry.
-use Rattle.std.proofs.Common.{◌≡◌, ◌≤◌, ◌⊎◌, ◌&&◌, ◌==◌, ℕ, Bool, true, false, cond, List, [], ◌∷◌, refl, sym, ap, subst, ◌∙◌, inl, inr, Option, Some, None, Result, Ok, Err, arith}
-use Rattle.std.specs.Prelude.{IfOk, OnErr}
-use Rattle.nc_names.specs.Counts.{Rose}
+use Rattle.std.proofs.Common.{◌≡◌, ◌≤◌, ◌&&◌, ℕ, Bool, true, false, cond, List, refl, sym, ap, subst, ◌∙◌, inl, inr, Option, Result, Ok, Err}
+use Rattle.std.specs.Prelude.{IfOk, IfSome, OnErr}
 use Rattle.nc_names.specs.declared.memory.Memory.{Memory}
-use Rattle.nc_names.specs.Same.{is_same_rows}
-use Rattle.nc_names.specs.declared.cause.CauseKind.TheVariants.{DiskFault}
 use Rattle.nc_names.specs.declared.path.Row.{Row}
-use Rattle.nc_model.specs.declared.entry.Entry.{Entry}
+use Rattle.nc_schema.specs.Record.{body_limit, record_size}
+use Rattle.nc_schema.specs.Tables.{Tables}
+use Rattle.nc_schema.specs.Violations.{IsValid}
 use Rattle.nc_model.specs.declared.event.Event.{Event}
 use Rattle.nc_model.specs.declared.event.Event.TheVariants.{Request as Requested}
+use Rattle.nc_model.specs.ProperEvents.{IsProperEvent}
 use Rattle.nc_model.specs.declared.event.Outcome.{Outcome}
-use Rattle.nc_model.specs.declared.event.Outcome.TheVariants.{Answered, NotLive}
+use Rattle.nc_model.specs.declared.event.Outcome.TheVariants.{NotLive}
 use Rattle.nc_protocol.specs.declared.request.Request.{Request}
 use Rattle.nc_protocol.specs.declared.verdict.Verdict.{Verdict}
-use Rattle.nc_protocol.specs.declared.verdict.Verdict.TheVariants.{Done}
 use Rattle.nc_protocol.specs.Proper.{IsProper}
-use Rattle.nc_model.specs.State.{State, candidate_in_force, expired, is_live}
-use Rattle.nc_model.specs.Step.{CountsFaults, Fits, answer_to, answered, appends_record, changed, has_failed, is_done, next, outcome_of, reaches_disk, with_candidate}
-use Rattle.nc_model.specs.Verdict.{kept_unless, verdict}
-use Rattle.nc_protocol.specs.Refusals.{refused_for}
+use Rattle.nc_model.specs.State.{State, base_of, candidate_in_force, expired, is_live}
+use Rattle.nc_model.specs.Step.{CountsFaults, answer_to, appends_record, changed, has_failed, is_done, outcome_of, reaches_disk}
+use Rattle.nc_model.specs.Verdict.{verdict}
 use Rattle.nc_machine.specs.declared.course.Change.{Change}
-use Rattle.nc_machine.specs.declared.course.Change.TheVariants.{Nothing, Candidate, Discard, Close}
 use Rattle.nc_machine.specs.declared.course.Course.TheVariants.{Answer, Commit}
 use Rattle.nc_machine.specs.inner.Courses.{course, made}
-use Rattle.nc_machine.specs.inner.Turns.{Answers, Commits, Enters, IsKept, IsNotKept, answered_by}
+use Rattle.nc_machine.specs.inner.Turns.{Answers, Commits, Enters, IsKeeping, IsKept, IsNotKept, LeavesKept, answered_by}
 use Rattle.nc_machine.proofs.Courses.{IsAnswer, IsCommit, answers, commits}
-
--- ---- what a change leaves as it is
-
-set_running : (s : State) (rows : List Row) (same : Bool) → (cond same s (record s { candidate = Some rows })).running ≡ s.running
-set_running s rows true = refl
-set_running s rows false = refl
-
-pub made_running : (s : State) (session : ℕ) (change : Change) → (made s session change).running ≡ s.running
-unfolding made
-made_running s session Nothing = refl
-made_running s session (Candidate rows) = set_running s rows (is_same_rows rows (candidate_in_force s))
-made_running s session Discard = refl
-made_running s session Close = refl
-
-set_faults : (s : State) (rows : List Row) (same : Bool) → (cond same s (record s { candidate = Some rows })).faults ≡ s.faults
-set_faults s rows true = refl
-set_faults s rows false = refl
-
-pub made_faults : (s : State) (session : ℕ) (change : Change) → (made s session change).faults ≡ s.faults
-unfolding made
-made_faults s session Nothing = refl
-made_faults s session (Candidate rows) = set_faults s rows (is_same_rows rows (candidate_in_force s))
-made_faults s session Discard = refl
-made_faults s session Close = refl
+use Rattle.nc_machine.proofs.Keeping.{by_schema, keeping_stays, made_keeps, read_keeps}
 
 -- ---- a request that is answered
+
+-- it leaves what is kept, as a reading of the clock does
+pub keeping_read : {K : Type 0} (schema : K → Option Tables) (base : K → List Row) (failures : K → ℕ) (s new : State) (keeper : K)
+    (at : ℕ) → IsKeeping schema base failures s keeper → new ≡ expired s at → IsKeeping schema base failures new keeper
+keeping_read schema base failures s new keeper at keeping is =
+    subst (λ (t : State). IsKeeping schema base failures t keeper) (sym is)
+    (keeping_stays schema base failures s (expired s at) keeper keeping (read_keeps s at))
+
+keeping_made : {K : Type 0} (schema : K → Option Tables) (base : K → List Row) (failures : K → ℕ) (s new : State) (keeper : K)
+    (session : ℕ) (change : Change) → IsKeeping schema base failures s keeper → new ≡ made s session change →
+    IsKeeping schema base failures new keeper
+keeping_made schema base failures s new keeper session change keeping is =
+    subst (λ (t : State). IsKeeping schema base failures t keeper) (sym is)
+    (keeping_stays schema base failures s (made s session change) keeper keeping (made_keeps s session change))
+
+pub keeping_answered : {K : Type 0} (schema : K → Option Tables) (base : K → List Row) (failures : K → ℕ) (s new : State) (keeper : K)
+    (session : ℕ) (change : Change) (result : Result Outcome Memory) → IsKeeping schema base failures s keeper →
+    IfOk result (λ it. new ≡ made s session change) → OnErr result (new ≡ s) → IsKeeping schema base failures new keeper
+keeping_answered schema base failures s new keeper session change (Ok outcome) keeping ok err =
+    keeping_made schema base failures s new keeper session change keeping ok
+keeping_answered schema base failures s new keeper session change (Err memory) keeping ok err =
+    subst (λ (t : State). IsKeeping schema base failures t keeper) (sym err) keeping
 
 not_reached : (live appends done : Bool) → (appends && done) ≡ false → ((live && appends) && done) ≡ false
 not_reached true appends done is = is
@@ -80,7 +76,7 @@ answered_is s new session request v c outcome proper live is told new_is =
       outcome_is = ap (answered_by s session request) (sym (answer.verdict_is failed))
           ∙ live_outcome s session request failed (sym live);
       faults = subst (λ (b : Bool). CountsFaults b failed s.faults (made s session c).faults)
-          (sym (reach_is s session request v c answer)) (made_faults s session c);
+          (sym (reach_is s session request v c answer)) (made_keeps s session c).faults_is;
       state_is = ap (λ (n : State). record n { faults = (made s session c).faults }) (sym answer.state_is);
     }))
 
@@ -148,33 +144,92 @@ pub commit_told : (s new : State) (session : ℕ) (request : Request) (result : 
 commit_told s new session request (Ok outcome) live is commits = committed_is s new session request outcome live is commits
 commit_told s new session request (Err memory) live is commits = tt
 
+committed_schema : (s new : State) (session : ℕ) (request : Request) (result : Result Outcome Memory) →
+    Commits s new session request result → new.schema ≡ s.schema
+committed_schema s new session request (Ok outcome) (inl kept) = ap (λ (t : State). t.schema) kept.state_is
+committed_schema s new session request (Ok outcome) (inr kept) = ap (λ (t : State). t.schema) kept.state_is
+committed_schema s new session request (Err memory) is = ap (λ (t : State). t.schema) is
+
+-- the keeper keeps what is running now
+pub keeping_committed : {K : Type 0} (schema : K → Option Tables) (base : K → List Row) (failures : K → ℕ) (s new : State)
+    (before after : K) (session : ℕ) (request : Request) (result : Result Outcome Memory) →
+    IsKeeping schema base failures s before → Commits s new session request result → schema after ≡ schema before →
+    base after ≡ base_of new → failures after ≡ new.faults → IsKeeping schema base failures new after
+keeping_committed schema base failures s new before after session request result keeping commits same kept faults = record {
+  schema_is = subst (λ (found : Option Tables). IfSome found (λ tables. tables ≡ new.schema)) (sym same)
+      (by_schema (schema before) s.schema new.schema (committed_schema s new session request result commits) keeping.schema_is);
+  kept = kept;
+  faults = faults;
+}
+
+-- what it makes running is valid, and its record has room
+pub commit_valid : (s : State) (session : ℕ) (request : Request) → Commit ≡ course s session request →
+    IsValid s.schema (candidate_in_force s)
+commit_valid s session request is = (commits s session request (sym is)).valid
+
+pub commit_small : (s : State) (session : ℕ) (request : Request) → Commit ≡ course s session request →
+    record_size (candidate_in_force s) ≤ body_limit
+commit_small s session request is = (commits s session request (sym is)).small
+
 pub commit_wanted : {K : Type 0} (s new : State) (before after : K) (session : ℕ) (request : Request)
     (result : Result Outcome Memory) → Commits s new session request result → OnErr result (after ≡ before) →
     OnErr result ((new ≡ s) × (after ≡ before))
 commit_wanted s new before after session request (Ok outcome) commits same = tt
 commit_wanted s new before after session request (Err memory) commits same = (commits, same)
 
--- ---- the entry of a request
+-- ---- the entry of an event
 
-pub request_enters : (old new : State) (number session : ℕ) (request : Request) (at : ℕ) (outcome : Outcome) →
+-- of one that does not reach the disk
+pub plain_enters : (old read new : State) (number : ℕ) (event : Event) (at : ℕ) (outcome : Outcome) (faults : ℕ) →
+    IsProperEvent event → reaches_disk read event ≡ false → read ≡ expired old at → faults ≡ read.faults →
+    outcome ≡ outcome_of read event (has_failed outcome) → new ≡ changed read event outcome → LeavesKept read new →
+    Enters old new number event at (record {
+      number = number;
+      at = at;
+      event = event;
+      outcome = outcome;
+      faults_before = faults;
+      faults_after = faults;
+    })
+plain_enters old read new number event at outcome faults proper unreached is count told new_is keeps = record {
+  event_is = refl;
+  at_is = refl;
+  number_is = refl;
+  fits = record {
+    proper = proper;
+    outcome = subst (λ (s : State). outcome ≡ outcome_of s event (has_failed outcome)) is told;
+    before = count ∙ (ap (λ (s : State). s.faults) is ∙ (read_keeps old at).faults_is);
+    faults = subst (λ (s : State). CountsFaults (reaches_disk s event) (has_failed outcome) faults faults) is
+        (subst (λ (b : Bool). CountsFaults b (has_failed outcome) faults faults) (sym unreached) refl);
+  };
+  state_is = ap (λ (n : ℕ). record new { faults = n }) (keeps.faults_is ∙ sym count)
+      ∙ ap (λ (s : State). record s { faults = faults }) (new_is ∙ ap (λ (s : State). changed s event outcome) is);
+}
+
+request_enters : (old new : State) (number session : ℕ) (request : Request) (at : ℕ) (outcome : Outcome) →
     IsProper request → Answers (expired old at) new session request outcome →
     Enters old new number (Requested session request) at (record {
       number = number;
       at = at;
       event = Requested session request;
       outcome = outcome;
-      faults_before = old.faults;
+      faults_before = (expired old at).faults;
       faults_after = new.faults;
     })
 request_enters old new number session request at outcome proper answers = record {
   event_is = refl;
   at_is = refl;
   number_is = refl;
-  fits = record { proper = proper; outcome = answers.outcome_is; before = refl; faults = answers.faults };
+  fits = record {
+    proper = proper;
+    outcome = answers.outcome_is;
+    before = (read_keeps old at).faults_is;
+    faults = answers.faults;
+  };
   state_is = answers.state_is;
 }
 
--- as the code makes it
+-- of a request, as the code makes it
 pub request_told : (old read new : State) (number session : ℕ) (request : Request) (at : ℕ) (outcome : Outcome)
     (faults_before faults_after : ℕ) → IsProper request → read ≡ expired old at → faults_before ≡ read.faults →
     faults_after ≡ new.faults → Answers read new session request outcome →
@@ -189,7 +244,7 @@ pub request_told : (old read new : State) (number session : ℕ) (request : Requ
 request_told old read new number session request at outcome faults_before faults_after proper is before after answers =
     let enters = request_enters old new number session request at outcome proper
     (subst (λ (s : State). Answers s new session request outcome) is answers) in
-    let first : old.faults ≡ faults_before = sym (before ∙ ap (λ (s : State). s.faults) is) in
+    let first : (expired old at).faults ≡ faults_before = sym (before ∙ ap (λ (s : State). s.faults) is) in
     subst (λ (n : ℕ). Enters old new number (Requested session request) at (record {
       number = number;
       at = at;

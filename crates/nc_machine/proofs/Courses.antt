@@ -1,13 +1,16 @@
 -- What a request comes to is its verdict, and what it changes is what the verdict says.
-use Rattle.std.proofs.Common.{◌≡◌, ◌&&◌, ℕ, Bool, true, false, not, cond, List, [], ◌∷◌, refl, sym, ap, subst, ◌∙◌, Option, Some, None, Result, Ok, Err}
+use Rattle.std.proofs.Common.{◌≡◌, ◌≤◌, ◌&&◌, ℕ, Bool, true, false, not, cond, List, [], ◌∷◌, refl, sym, ap, ◌∙◌, Option, Some, None, Result, Ok, Err}
 use Rattle.std.specs.Option.{option_or}
 use Rattle.std.specs.Prelude.{IfOk}
 use Rattle.nc_names.specs.declared.memory.Memory.{Memory}
 use Rattle.nc_names.specs.declared.cause.CauseKind.TheVariants.{DiskFault, UnknownOperation}
 use Rattle.nc_names.specs.declared.path.Row.{Row}
+use Rattle.nc_schema.specs.Record.{body_limit, record_size}
+use Rattle.nc_schema.specs.Violations.{IsValid}
 use Rattle.nc_protocol.specs.declared.asked.Asked.{Asked}
 use Rattle.nc_protocol.specs.declared.asked.Asked.TheVariants.{Get, GetConfig, EditConfig, CopyConfig, DeleteConfig, Lock, Unlock, CloseSession, KillSession, Commit as AsksCommit, DiscardChanges, CancelCommit, Validate, PartialLock, PartialUnlock}
 use Rattle.nc_protocol.specs.declared.asked.Operation.{Operation}
+use Rattle.nc_protocol.specs.declared.datastore.Datastore.TheVariants.{Candidate as CandidateStore}
 use Rattle.nc_protocol.specs.declared.request.Cause.{Cause}
 use Rattle.nc_protocol.specs.declared.request.Request.{Request}
 use Rattle.nc_protocol.specs.declared.verdict.Verdict.{Verdict}
@@ -16,15 +19,18 @@ use Rattle.nc_model.specs.Access.{exec_of}
 use Rattle.nc_protocol.specs.Edited.{cause_where}
 use Rattle.nc_protocol.specs.Proper.{IsAskedOf, IsProper, operation_of}
 use Rattle.nc_model.specs.State.{State, candidate_in_force}
-use Rattle.nc_model.specs.Step.{answered, appends_record, changed_by, is_done, rows_of_ok, with_candidate}
+use Rattle.nc_model.specs.Step.{answered, answered_unless, appends_record, committed, is_done, rows_of_ok, with_candidate}
 use Rattle.nc_protocol.specs.Asking.{plain_cause}
-use Rattle.nc_model.specs.Verdict.{asked_verdict, commit_refusal, copied, edits_made, exec_denied, is_offered, kept_unless, operation_refused, rows_set, verdict, verdict_on}
+use Rattle.nc_model.specs.Verdict.{commit_refusal, copied, edits_made, exec_denied, in_use, is_offered, kept_unless, operation_refused, rows_set, verdict, verdict_on}
 use Rattle.nc_protocol.specs.Refusals.{checked, refused_for}
+use Rattle.nc_model.proofs.GoodLemmas.{commit_is_small, commit_is_valid}
+use Rattle.nc_model.proofs.SessionLemmas.{is_false_not}
 use Rattle.nc_machine.specs.declared.course.Change.{Change}
-use Rattle.nc_machine.specs.declared.course.Change.TheVariants.{Nothing, Candidate, Discard, Close}
+use Rattle.nc_machine.specs.declared.course.Change.TheVariants.{Nothing, Discard, Close}
 use Rattle.nc_machine.specs.declared.course.Course.{Course}
 use Rattle.nc_machine.specs.declared.course.Course.TheVariants.{Answer, Commit}
-use Rattle.nc_machine.specs.inner.Courses.{asked_course, changed_to, commit_asked_course, commit_course, copy_config_course, course, course_on, edit_config_course, edit_course, get_config_course, get_course, is_not_offered, made, validate_course}
+use Rattle.nc_machine.specs.inner.Courses.{asked_course, changed_to, commit_asked_course, commit_course, commit_refused, copy_config_course, course, course_on, discard_course, done_unless, edit_config_course, edit_course, get_config_course, get_course, is_not_offered, made, validate_course}
+use Rattle.nc_machine.proofs.Checks.{commit_checked}
 
 -- what is asked for has that verdict and changes that, whatever the disk does
 pub record IsSettled (s : State) (session : ℕ) (asked : Result Asked Cause) (v : Verdict) (change : Change) : Type 0 where
@@ -42,6 +48,13 @@ changed_to_is : (s : State) (session : ℕ) (rows : Option (List Row)) → with_
 unfolding made
 changed_to_is s session None = refl
 changed_to_is s session (Some rows) = refl
+
+changes_nothing : (s : State) (session : ℕ) (c : Change) → Nothing ≡ c → s ≡ made s session c
+unfolding made
+changes_nothing s session c is = ap (made s session) is
+
+not_true : false ≡ true → ⊥
+not_true is = cc
 
 and_false : (b : Bool) → (b && false) ≡ false
 and_false true = refl
@@ -80,17 +93,35 @@ doing s session asked v change c verdicts appends does is = record {
       ∙ (does ∙ ap (made s session) (change_same Done v change c is));
 }
 
--- a commit that is refused
-refused_commit : (s : State) (session : ℕ) (asked : Result Asked Cause) (why : Option Cause) (v : Verdict) (c : Change) →
-    ((failed : Bool) → verdict_on s session asked failed ≡ checked why (kept_unless failed)) →
+-- one that is done with a change unless a check fails
+checking : (s : State) (session : ℕ) (asked : Result Asked Cause) (why : Option Cause) (v : Verdict) (change c : Change) →
+    ((failed : Bool) → verdict_on s session asked failed ≡ checked why Done) → appends_record asked ≡ false →
+    answered s session asked Done ≡ made s session change →
+    ((causes : List Cause) → answered s session asked (Refused causes) ≡ s) → done_unless why change ≡ Answer v c →
+    IsSettled s session asked v c
+unfolding made
+checking s session asked None v change c verdicts appends does stays is =
+    doing s session asked v change c verdicts appends does is
+checking s session asked (Some cause) v change c verdicts appends does stays is =
+    let same = verdict_same (Refused (cause ∷ [])) v Nothing c is in
+    record {
+      verdict_is = λ failed. verdicts failed ∙ same;
+      disk = ap (λ (b : Bool). b && is_done v) appends;
+      state_is = ap (answered s session asked) (sym same)
+          ∙ (stays (cause ∷ []) ∙ ap (made s session) (change_same (Refused (cause ∷ [])) v Nothing c is));
+    }
+
+-- a commit that is refused, whatever it would come to
+refused_commit : (s : State) (session : ℕ) (asked : Result Asked Cause) (why : Option Cause) (otherwise : Bool → Verdict) (v : Verdict)
+    (c : Change) → ((failed : Bool) → verdict_on s session asked failed ≡ checked why (otherwise failed)) →
     ((causes : List Cause) → answered s session asked (Refused causes) ≡ s) → commit_course why ≡ Answer v c →
     IsSettled s session asked v c
 unfolding made
-refused_commit s session asked None v c verdicts stays is = absurd (by is)
+refused_commit s session asked None otherwise v c verdicts stays is = absurd (by is)
   where
     by : Commit ≡ Answer v c → ⊥
     by e = cc
-refused_commit s session asked (Some cause) v c verdicts stays is =
+refused_commit s session asked (Some cause) otherwise v c verdicts stays is =
     let same = verdict_same (Refused (cause ∷ [])) v Nothing c is in
     record {
       verdict_is = λ failed. verdicts failed ∙ same;
@@ -99,147 +130,129 @@ refused_commit s session asked (Some cause) v c verdicts stays is =
           ∙ (stays (cause ∷ []) ∙ ap (made s session) (change_same (Refused (cause ∷ [])) v Nothing c is));
     }
 
-asked_settles : (s : State) (session : ℕ) (asked : Asked) (v : Verdict) (c : Change) → asked_course s session asked ≡ Answer v c →
-    IsSettled s session (Ok asked) v c
-unfolding asked_course get_course get_config_course edit_config_course edit_course copy_config_course commit_asked_course validate_course made
-asked_settles s session (Get filter) v c is =
+commit_stays : (s : State) (session : ℕ) (confirmed : Bool) (timeout : ℕ) (persist persist_id : Option (List ℕ)) (causes : List Cause) →
+    answered s session (Ok (AsksCommit confirmed timeout persist persist_id)) (Refused causes) ≡ s
+commit_stays s session true timeout persist persist_id causes = refl
+commit_stays s session false timeout persist persist_id causes = refl
+
+asked_settles : (s : State) (session : ℕ) (asked : Asked) (v : Verdict) (c : Change) → is_offered (operation_of asked) ≡ true →
+    asked_course s session asked ≡ Answer v c → IsSettled s session (Ok asked) v c
+unfolding asked_course get_course get_config_course edit_config_course edit_course copy_config_course commit_asked_course discard_course validate_course made
+asked_settles s session (Get filter) v c offered is =
     plain s session (Ok (Get filter)) _ v c (λ failed. refl) refl (λ w. refl) is
-asked_settles s session (GetConfig source filter) v c is =
+asked_settles s session (GetConfig source filter) v c offered is =
     plain s session (Ok (GetConfig source filter)) _ v c (λ failed. refl) refl (λ w. refl) is
-asked_settles s session (EditConfig target default_operation test on_error config) v c is =
+asked_settles s session (EditConfig target default_operation test on_error config) v c offered is =
     setting s session (Ok (EditConfig target default_operation test on_error config)) _ v
     (rows_set s.schema test (edits_made s session target default_operation on_error config)) c
     (λ failed. refl) refl (λ w. refl) is
-asked_settles s session (CopyConfig target source) v c is =
+asked_settles s session (CopyConfig target source) v c offered is =
     setting s session (Ok (CopyConfig target source)) _ v (rows_of_ok (copied s session target source)) c
     (λ failed. refl) refl (λ w. refl) is
-asked_settles s session (DeleteConfig target) v c is =
+asked_settles s session (DeleteConfig target) v c offered is =
     plain s session (Ok (DeleteConfig target)) _ v c (λ failed. refl) refl (λ w. refl) is
-asked_settles s session CloseSession v c is =
+asked_settles s session CloseSession v c offered is =
     doing s session (Ok CloseSession) v Close c (λ failed. refl) refl refl is
-asked_settles s session DiscardChanges v c is =
-    doing s session (Ok DiscardChanges) v Discard c (λ failed. refl) refl refl is
-asked_settles s session (AsksCommit confirmed timeout persist persist_id) v c is =
+asked_settles s session DiscardChanges v c offered is =
+    checking s session (Ok DiscardChanges) (in_use s session CandidateStore) v Discard c (λ failed. refl) refl refl
+    (λ causes. refl) is
+asked_settles s session (AsksCommit confirmed timeout persist persist_id) v c offered is =
     refused_commit s session (Ok (AsksCommit confirmed timeout persist persist_id))
-    (commit_refusal s session confirmed persist_id) v c (λ failed. refl) (λ causes. refl) is
-asked_settles s session (Validate source) v c is =
+    (commit_refusal s session confirmed persist_id) (λ failed. kept_unless (not confirmed && failed)) v c (λ failed. refl)
+    (commit_stays s session confirmed timeout persist persist_id) is
+asked_settles s session (Validate source) v c offered is =
     plain s session (Ok (Validate source)) _ v c (λ failed. refl) refl (λ w. refl) is
-asked_settles s session (Lock target) v c is =
-    plain s session (Ok (Lock target)) _ v c (λ failed. refl) refl (λ w. refl) is
-asked_settles s session (Unlock target) v c is =
-    plain s session (Ok (Unlock target)) _ v c (λ failed. refl) refl (λ w. refl) is
-asked_settles s session (KillSession number) v c is =
-    plain s session (Ok (KillSession number)) _ v c (λ failed. refl) refl (λ w. refl) is
-asked_settles s session (CancelCommit persist_id) v c is =
-    plain s session (Ok (CancelCommit persist_id)) _ v c (λ failed. refl) refl (λ w. refl) is
-asked_settles s session (PartialLock selects) v c is =
-    plain s session (Ok (PartialLock selects)) _ v c (λ failed. refl) refl (λ w. refl) is
-asked_settles s session (PartialUnlock lock) v c is =
-    plain s session (Ok (PartialUnlock lock)) _ v c (λ failed. refl) refl (λ w. refl) is
+asked_settles s session (Lock target) v c offered is = absurd (not_true offered)
+asked_settles s session (Unlock target) v c offered is = absurd (not_true offered)
+asked_settles s session (KillSession number) v c offered is = absurd (not_true offered)
+asked_settles s session (CancelCommit persist_id) v c offered is = absurd (not_true offered)
+asked_settles s session (PartialLock selects) v c offered is = absurd (not_true offered)
+asked_settles s session (PartialUnlock lock) v c offered is = absurd (not_true offered)
 
-settles : (s : State) (session : ℕ) (asked : Result Asked Cause) (v : Verdict) (c : Change) → course_on s session asked ≡ Answer v c →
+settles : (s : State) (session : ℕ) (operation : Option Operation) (asked : Result Asked Cause) (v : Verdict) (c : Change) →
+    is_not_offered operation ≡ false → IsAskedOf operation asked → course_on s session asked ≡ Answer v c →
     IsSettled s session asked v c
-settles s session (Ok asked) v c is = asked_settles s session asked v c is
-settles s session (Err cause) v c is =
+settles s session None (Ok asked) v c offered fits is = absurd fits
+settles s session (Some operation) (Ok asked) v c offered fits is =
+    asked_settles s session asked v c (ap is_offered fits ∙ is_false_not (is_offered operation) offered) is
+settles s session operation (Err cause) v c offered fits is =
     plain s session (Err cause) (Refused (cause ∷ [])) v c (λ failed. refl) refl (λ w. refl) is
-
--- an operation that is not offered changes nothing
-stays_unoffered : (s : State) (session : ℕ) (asked : Asked) (w : Verdict) → is_offered (operation_of asked) ≡ false →
-    changed_by s session asked w ≡ s
-stays_unoffered s session (Get filter) w is = cc
-stays_unoffered s session (GetConfig source filter) w is = cc
-stays_unoffered s session (EditConfig target default_operation test on_error config) w is = cc
-stays_unoffered s session (CopyConfig target source) w is = cc
-stays_unoffered s session (DeleteConfig target) w is = cc
-stays_unoffered s session CloseSession w is = cc
-stays_unoffered s session DiscardChanges w is = cc
-stays_unoffered s session (AsksCommit confirmed timeout persist persist_id) w is = cc
-stays_unoffered s session (Validate source) w is = cc
-stays_unoffered s session (Lock target) w is = refl
-stays_unoffered s session (Unlock target) w is = refl
-stays_unoffered s session (KillSession number) w is = refl
-stays_unoffered s session (CancelCommit persist_id) w is = refl
-stays_unoffered s session (PartialLock selects) w is = refl
-stays_unoffered s session (PartialUnlock lock) w is = refl
 
 -- a request has that verdict and changes that, whatever the disk does
 pub record IsAnswer (s : State) (session : ℕ) (request : Request) (v : Verdict) (change : Change) : Type 0 where
   pub verdict_is : (failed : Bool) → verdict s session request failed ≡ v
   pub disk : (appends_record request.asked && is_done v) ≡ false
-  pub state_is : answered s session request.asked v ≡ made s session change
+  pub state_is : answered_unless (operation_refused s session request.operation) s session request.asked v ≡ made s session change
 
--- the check on the operation
-abbrev with_offer : State → ℕ → Operation → Bool → Verdict → Verdict
-with_offer s session operation offered v =
-    checked (option_or (cause_where (not offered) (plain_cause UnknownOperation [])) (exec_denied (exec_of s session operation))) v
+-- an operation that is offered is not refused, since every one may be asked for
+none_refused : (s : State) (session : ℕ) (operation : Option Operation) → is_not_offered operation ≡ false →
+    operation_refused s session operation ≡ None
+none_refused s session None offered = refl
+none_refused s session (Some operation) offered =
+    ap (λ (unoffered : Bool). option_or (cause_where unoffered (plain_cause UnknownOperation []))
+    (exec_denied (exec_of s session operation))) offered
+
+some_refused : (s : State) (session : ℕ) (operation : Option Operation) → is_not_offered operation ≡ true →
+    operation_refused s session operation ≡ Some (plain_cause UnknownOperation [])
+some_refused s session None unoffered = absurd (not_true unoffered)
+some_refused s session (Some operation) unoffered =
+    ap (λ (is : Bool). option_or (cause_where is (plain_cause UnknownOperation []))
+    (exec_denied (exec_of s session operation))) unoffered
 
 -- by whether the operation is offered
-by_offer : (s : State) (session : ℕ) (request : Request) (operation : Operation) (v : Verdict) (c : Change) (offered : Bool) →
-    request.operation ≡ Some operation → is_offered operation ≡ offered → IsAskedOf (Some operation) request.asked →
-    cond (not offered) (Answer (refused_for UnknownOperation []) Nothing) (course_on s session request.asked) ≡ Answer v c →
+by_offer : (s : State) (session : ℕ) (request : Request) (v : Verdict) (c : Change) (unoffered : Bool) →
+    is_not_offered request.operation ≡ unoffered → IsAskedOf request.operation request.asked →
+    cond unoffered (Answer (refused_for UnknownOperation []) Nothing) (course_on s session request.asked) ≡ Answer v c →
     IsAnswer s session request v c
-unfolding made
-by_offer s session request operation v c true named offers proper is =
-    let settled = settles s session request.asked v c is in
+by_offer s session request v c false offers proper is =
+    let settled = settles s session request.operation request.asked v c offers proper is in
+    let free = none_refused s session request.operation offers in
     record {
       verdict_is = λ failed.
-          ap (λ (o : Option Operation). checked (operation_refused s session o) (verdict_on s session request.asked failed)) named
-          ∙ (ap (λ (b : Bool). with_offer s session operation b (verdict_on s session request.asked failed)) offers
-          ∙ settled.verdict_is failed);
+          ap (λ (why : Option Cause). checked why (verdict_on s session request.asked failed)) free ∙ settled.verdict_is failed;
       disk = settled.disk;
-      state_is = settled.state_is;
+      state_is = ap (λ (why : Option Cause). answered_unless why s session request.asked v) free ∙ settled.state_is;
     }
-by_offer s session request operation v c false named offers proper is =
+by_offer s session request v c true offers proper is =
     let same = verdict_same (refused_for UnknownOperation []) v Nothing c is in
+    let refused = some_refused s session request.operation offers in
     record {
       verdict_is = λ failed.
-          ap (λ (o : Option Operation). checked (operation_refused s session o) (verdict_on s session request.asked failed)) named
-          ∙ (ap (λ (b : Bool). with_offer s session operation b (verdict_on s session request.asked failed)) offers
-          ∙ same);
+          ap (λ (why : Option Cause). checked why (verdict_on s session request.asked failed)) refused ∙ same;
       disk = ap (λ (w : Verdict). appends_record request.asked && is_done w) (sym same) ∙ and_false (appends_record request.asked);
-      state_is = stays request.asked proper ∙ ap (made s session) (change_same (refused_for UnknownOperation []) v Nothing c is);
+      state_is = ap (λ (why : Option Cause). answered_unless why s session request.asked v) refused
+          ∙ changes_nothing s session c (change_same (refused_for UnknownOperation []) v Nothing c is);
     }
-  where
-    stays : (asked : Result Asked Cause) → IsAskedOf (Some operation) asked → answered s session asked v ≡ s
-    stays (Ok asked) fits = stays_unoffered s session asked v (ap is_offered fits ∙ offers)
-    stays (Err cause) fits = refl
-
-by_name : (s : State) (session : ℕ) (request : Request) (v : Verdict) (c : Change) (operation : Option Operation) →
-    request.operation ≡ operation → IsAskedOf operation request.asked →
-    cond (is_not_offered operation) (Answer (refused_for UnknownOperation []) Nothing) (course_on s session request.asked) ≡ Answer v c →
-    IsAnswer s session request v c
-by_name s session request v c None named proper is =
-    let settled = settles s session request.asked v c is in
-    record {
-      verdict_is = λ failed.
-          ap (λ (o : Option Operation). checked (operation_refused s session o) (verdict_on s session request.asked failed)) named
-          ∙ settled.verdict_is failed;
-      disk = settled.disk;
-      state_is = settled.state_is;
-    }
-by_name s session request v c (Some operation) named proper is =
-    by_offer s session request operation v c (is_offered operation) named refl proper is
 
 pub answers : (s : State) (session : ℕ) (request : Request) (v : Verdict) (c : Change) → IsProper request →
     course s session request ≡ Answer v c → IsAnswer s session request v c
 unfolding course
-answers s session request v c proper is = by_name s session request v c request.operation refl proper is
+answers s session request v c proper is = by_offer s session request v c (is_not_offered request.operation) refl proper is
 
 -- a request that nothing but the disk makes fail
 pub record IsCommit (s : State) (session : ℕ) (request : Request) : Type 0 where
   pub verdict_is : (failed : Bool) → verdict s session request failed ≡ kept_unless failed
   pub appends : appends_record request.asked ≡ true
-  pub done : answered s session request.asked Done ≡ record s { running = candidate_in_force s; candidate = None }
-  pub failed : answered s session request.asked (refused_for DiskFault []) ≡ s
+  pub done : answered_unless (operation_refused s session request.operation) s session request.asked Done ≡ committed s None
+  pub failed :
+      answered_unless (operation_refused s session request.operation) s session request.asked (refused_for DiskFault []) ≡ s
+  pub valid : IsValid s.schema (candidate_in_force s)
+  pub small : record_size (candidate_in_force s) ≤ body_limit
 
 record IsCommitted (s : State) (session : ℕ) (asked : Result Asked Cause) : Type 0 where
   verdict_is : (failed : Bool) → verdict_on s session asked failed ≡ kept_unless failed
   appends : appends_record asked ≡ true
-  done : answered s session asked Done ≡ record s { running = candidate_in_force s; candidate = None }
+  done : answered s session asked Done ≡ committed s None
   failed : answered s session asked (refused_for DiskFault []) ≡ s
+  valid : IsValid s.schema (candidate_in_force s)
+  small : record_size (candidate_in_force s) ≤ body_limit
 
 no_commit : (x : Verdict) (y : Change) → Answer x y ≡ Commit → ⊥
 no_commit x y is = cc
+
+none_commits : (why : Option Cause) (change : Change) → done_unless why change ≡ Commit → ⊥
+none_commits None change is = cc
+none_commits (Some cause) change is = cc
 
 -- a commit that is not refused is not confirmed
 committed_by : (s : State) (session : ℕ) (timeout : ℕ) (persist persist_id : Option (List ℕ)) (why : Option Cause) →
@@ -250,11 +263,13 @@ committed_by s session timeout persist persist_id None why_is is = record {
   appends = refl;
   done = refl;
   failed = refl;
+  valid = commit_is_valid s session false persist_id why_is;
+  small = commit_is_small s session false persist_id why_is;
 }
 committed_by s session timeout persist persist_id (Some cause) why_is is = absurd (no_commit (Refused (cause ∷ [])) Nothing is)
 
 asked_commits : (s : State) (session : ℕ) (asked : Asked) → asked_course s session asked ≡ Commit → IsCommitted s session (Ok asked)
-unfolding asked_course get_course get_config_course edit_config_course edit_course copy_config_course commit_asked_course validate_course
+unfolding asked_course get_course get_config_course edit_config_course edit_course copy_config_course commit_asked_course discard_course validate_course
 asked_commits s session (AsksCommit false timeout persist persist_id) is =
     committed_by s session timeout persist persist_id (commit_refusal s session false persist_id) refl is
 asked_commits s session (AsksCommit true timeout persist persist_id) is = absurd (no_commit _ _ is)
@@ -264,7 +279,7 @@ asked_commits s session (EditConfig target default_operation test on_error confi
 asked_commits s session (CopyConfig target source) is = absurd (no_commit _ _ is)
 asked_commits s session (DeleteConfig target) is = absurd (no_commit _ _ is)
 asked_commits s session CloseSession is = absurd (no_commit _ _ is)
-asked_commits s session DiscardChanges is = absurd (no_commit _ _ is)
+asked_commits s session DiscardChanges is = absurd (none_commits (in_use s session CandidateStore) Discard is)
 asked_commits s session (Validate source) is = absurd (no_commit _ _ is)
 asked_commits s session (Lock target) is = absurd (no_commit _ _ is)
 asked_commits s session (Unlock target) is = absurd (no_commit _ _ is)
@@ -277,48 +292,34 @@ on_commits : (s : State) (session : ℕ) (asked : Result Asked Cause) → course
 on_commits s session (Ok asked) is = asked_commits s session asked is
 on_commits s session (Err cause) is = absurd (no_commit _ _ is)
 
-commits_by_offer : (s : State) (session : ℕ) (request : Request) (operation : Operation) (offered : Bool) →
-    request.operation ≡ Some operation → is_offered operation ≡ offered →
-    cond (not offered) (Answer (refused_for UnknownOperation []) Nothing) (course_on s session request.asked) ≡ Commit →
+commits_by_offer : (s : State) (session : ℕ) (request : Request) (unoffered : Bool) → is_not_offered request.operation ≡ unoffered →
+    cond unoffered (Answer (refused_for UnknownOperation []) Nothing) (course_on s session request.asked) ≡ Commit →
     IsCommit s session request
-commits_by_offer s session request operation false named offers is = absurd (no_commit _ _ is)
-commits_by_offer s session request operation true named offers is =
-    let committed = on_commits s session request.asked is in
+commits_by_offer s session request true offers is = absurd (no_commit _ _ is)
+commits_by_offer s session request false offers is =
+    let made = on_commits s session request.asked is in
+    let free = none_refused s session request.operation offers in
     record {
       verdict_is = λ failed.
-          ap (λ (o : Option Operation). checked (operation_refused s session o) (verdict_on s session request.asked failed)) named
-          ∙ (ap (λ (b : Bool). with_offer s session operation b (verdict_on s session request.asked failed)) offers
-          ∙ committed.verdict_is failed);
-      appends = committed.appends;
-      done = committed.done;
-      failed = committed.failed;
+          ap (λ (why : Option Cause). checked why (verdict_on s session request.asked failed)) free ∙ made.verdict_is failed;
+      appends = made.appends;
+      done = ap (λ (why : Option Cause). answered_unless why s session request.asked Done) free ∙ made.done;
+      failed = ap (λ (why : Option Cause). answered_unless why s session request.asked (refused_for DiskFault [])) free
+          ∙ made.failed;
+      valid = made.valid;
+      small = made.small;
     }
-
-commits_by_name : (s : State) (session : ℕ) (request : Request) (operation : Option Operation) → request.operation ≡ operation →
-    cond (is_not_offered operation) (Answer (refused_for UnknownOperation []) Nothing) (course_on s session request.asked) ≡ Commit →
-    IsCommit s session request
-commits_by_name s session request None named is =
-    let committed = on_commits s session request.asked is in
-    record {
-      verdict_is = λ failed.
-          ap (λ (o : Option Operation). checked (operation_refused s session o) (verdict_on s session request.asked failed)) named
-          ∙ committed.verdict_is failed;
-      appends = committed.appends;
-      done = committed.done;
-      failed = committed.failed;
-    }
-commits_by_name s session request (Some operation) named is =
-    commits_by_offer s session request operation (is_offered operation) named refl is
 
 pub commits : (s : State) (session : ℕ) (request : Request) → course s session request ≡ Commit → IsCommit s session request
 unfolding course
-commits s session request is = commits_by_name s session request request.operation refl is
+commits s session request is = commits_by_offer s session request (is_not_offered request.operation) refl is
 
 -- a commit as the code makes it
 pub commit_told : (s : State) (session : ℕ) (confirmed : Bool) (persist_id : Option (List ℕ)) (refusal : Option Cause)
-    (result : Result Course Memory) → refusal ≡ commit_refusal s session confirmed persist_id →
+    (result : Result Course Memory) → refusal ≡ commit_refused s session confirmed persist_id →
     IfOk result (λ it. it ≡ commit_course refusal) →
     IfOk result (λ it. it ≡ commit_asked_course s session confirmed persist_id)
 unfolding commit_asked_course
 commit_told s session confirmed persist_id refusal (Err memory) is told = tt
-commit_told s session confirmed persist_id refusal (Ok it) is told = told ∙ ap commit_course is
+commit_told s session confirmed persist_id refusal (Ok it) is told =
+    told ∙ ap commit_course (is ∙ sym (commit_checked s session confirmed persist_id))

@@ -1,5 +1,5 @@
 -- What edits come to.
-use Rattle.std.proofs.Common.{◌≡◌, ◌++◌, Bool, true, false, List, [], ◌∷◌, refl, sym, ap, ◌∙◌, ℕ, Option, Some, None, Result, Ok, Err}
+use Rattle.std.proofs.Common.{◌≡◌, ◌++◌, Bool, true, false, List, refl, sym, ap, ◌∙◌, ℕ, Option, Some, None, Result, Ok, Err}
 use Rattle.std.specs.Option.{option_to_list}
 use Rattle.std.specs.Prelude.{cond, is_some, IfOk}
 use Rattle.nc_names.specs.declared.memory.Memory.{Memory}
@@ -8,17 +8,20 @@ use Rattle.nc_schema.specs.Tables.{Tables}
 use Rattle.nc_protocol.specs.declared.asked.TestOption.{TestOption}
 use Rattle.nc_protocol.specs.declared.asked.TestOption.TheVariants.{TestThenSet, Set, TestOnly}
 use Rattle.nc_protocol.specs.declared.asked.ErrorOption.{ErrorOption}
+use Rattle.nc_protocol.specs.declared.datastore.Datastore.{Datastore}
 use Rattle.nc_protocol.specs.declared.edit.Edit.{Edit}
 use Rattle.nc_protocol.specs.declared.request.Cause.{Cause}
 use Rattle.nc_protocol.specs.Unchecked.{every_right}
 use Rattle.nc_protocol.specs.Applied.{Applied, applied}
+use Rattle.nc_protocol.specs.Edited.{first_cause}
 use Rattle.nc_model.specs.State.{State, candidate_in_force}
-use Rattle.nc_model.specs.Verdict.{causes_of_test, made_by, rows_set}
+use Rattle.nc_model.specs.Verdict.{causes_of_test, edit_checks, made_by, rows_set}
 use Rattle.nc_protocol.specs.Refusals.{done_unless, result_unless, violation_in}
 use Rattle.nc_machine.specs.declared.course.Change.{Change}
 use Rattle.nc_machine.specs.declared.course.Course.{Course}
 use Rattle.nc_machine.specs.declared.course.Course.TheVariants.{Answer}
-use Rattle.nc_machine.specs.inner.Courses.{change_by, changed_to, edit_course, refused_course, violation_by}
+use Rattle.nc_machine.specs.inner.Courses.{change_by, changed_to, edit_course, refused_course, unedited, violation_by}
+use Rattle.nc_machine.proofs.Checks.{edits_checked}
 
 causes_are : (tables : Tables) (test : TestOption) (rows : List Row) →
     option_to_list (violation_by tables test rows) ≡ causes_of_test tables test rows
@@ -62,15 +65,18 @@ pub payload_read : (s : State) (session : ℕ) (test : TestOption) (on_error : E
 payload_read s session test on_error read edits is =
     ap (λ (r : Result (List Edit) Cause). edit_course s.schema test (made_by s session on_error r)) is
 
-pub target_refused : (tables : Tables) (test : TestOption) (why : Option Cause) (made : Result Applied Cause) (cause : Cause) →
-    Some cause ≡ why → refused_course cause ≡ edit_course tables test (result_unless why made)
+pub edits_refused : (s : State) (session : ℕ) (tables : Tables) (test : TestOption) (target : Datastore) (made : Result Applied Cause)
+    (cause : Cause) → Some cause ≡ unedited s session target →
+    refused_course cause ≡ edit_course tables test (result_unless (first_cause (edit_checks s session target)) made)
 unfolding edit_course
-target_refused tables test why made cause is =
-    ap (λ (w : Option Cause). edit_course tables test (result_unless w made)) is
+edits_refused s session tables test target made cause is =
+    ap (λ (w : Option Cause). edit_course tables test (result_unless w made)) (is ∙ sym (edits_checked s session target))
 
-pub target_taken : (tables : Tables) (test : TestOption) (why : Option Cause) (made : Result Applied Cause) →
-    None ≡ why → edit_course tables test made ≡ edit_course tables test (result_unless why made)
-target_taken tables test why made is = ap (λ (w : Option Cause). edit_course tables test (result_unless w made)) is
+pub edits_taken : (s : State) (session : ℕ) (tables : Tables) (test : TestOption) (target : Datastore) (made : Result Applied Cause) →
+    None ≡ unedited s session target →
+    edit_course tables test made ≡ edit_course tables test (result_unless (first_cause (edit_checks s session target)) made)
+edits_taken s session tables test target made is =
+    ap (λ (w : Option Cause). edit_course tables test (result_unless w made)) (is ∙ sym (edits_checked s session target))
 
 pub edit_by_is : (s : State) (test : TestOption) (on_error : ErrorOption) (tables : Tables) (before : List Row)
     (given edits : List Edit) (rows : List Row) (causes : List Cause) (result : Result Course Memory) →

@@ -1,9 +1,13 @@
 pub mod Told
+pub mod Checks
 pub mod Unchecked
+pub mod Unlocked
 pub mod Edits
 pub mod Courses
+pub mod Keeping
 pub mod Answering
 pub mod Sound
 pub mod Standing
 pub mod Replies
+pub mod Free
 pub mod Granted

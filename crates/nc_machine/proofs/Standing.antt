@@ -1,9 +1,8 @@
 -- A machine that stands for a history stands for it with one entry more.
-use Rattle.std.proofs.Common.{◌≡◌, ◌+◌, ◌<◌, ◌≤◌, ◌-◌, ◌^◌, ℕ, min, List, [], ◌∷◌, ◌++◌, length, map, refl, sym, ap, subst, ◌∙◌, arith, length-append, append_assoc, Option, Some, None}
+use Rattle.std.proofs.Common.{◌≡◌, ◌+◌, ◌<◌, ℕ, List, [], ◌∷◌, ◌++◌, length, map, refl, sym, ap, subst, ◌∙◌, arith, length-append, append_assoc, Option, Some, None}
 use Rattle.std.specs.Prelude.{IfSome}
 use Rattle.std.proofs.lemmas.List.{map-append}
 use Rattle.std.proofs.lemmas.List.Elements.{filter-append}
-use Rattle.std.specs.Io.KnownBytes.{append_known}
 use Rattle.nc_names.specs.Counts.{one_more}
 use Rattle.nc_names.specs.Limits.{most_requests}
 use Rattle.nc_model.specs.declared.entry.Entry.{Entry}
@@ -12,12 +11,13 @@ use Rattle.nc_model.specs.declared.event.Event.TheVariants.{Reading}
 use Rattle.nc_model.specs.declared.event.Outcome.TheVariants.{Noted}
 use Rattle.nc_model.specs.Desks.{Entered, Home, is_own, own_of}
 use Rattle.nc_model.specs.History.{after}
-use Rattle.nc_model.specs.State.{State}
+use Rattle.nc_model.specs.State.{State, expired}
 use Rattle.nc_model.specs.Step.{Fits, next}
 use Rattle.nc_model.proofs.HistoryLemmas.{histories_join, legal_histories_join, one_entry_is_legal}
 use Rattle.nc_outside.specs.Clocks.{TellsAnswer}
-use Rattle.nc_machine.specs.Seats.{Seat, SoloStands, TellsReadings}
+use Rattle.nc_machine.specs.Seats.{SoloStands, TellsReadings}
 use Rattle.nc_machine.specs.Serving.{IsRead, Makes, Serving, StandsFor}
+use Rattle.nc_machine.proofs.Keeping.{read_keeps}
 
 pub stands_more : {K : Type 0} (opening : State) (old new : Serving K) (history : List Entry) (event : Event) (at : ℕ) (e : Entry) →
     StandsFor opening old history → Makes old new event at e → StandsFor opening new (history ++ e ∷ [])
@@ -76,6 +76,7 @@ solo_entered old new answers answers_now given given_now from home seen mine eve
   none = λ alone. refl;
   stands = record {
     alone = stood.alone;
+    place_is = stood.place_is;
     from_is = stood.from_is;
     machine_stands = stands_more home.opening old new seen event at e stood.machine_stands makes;
     mine_is = ap (λ (m : List Entry). m ++ own_of (e ∷ [])) stood.mine_is ∙ sym (own_more seen e);
@@ -101,7 +102,8 @@ read_makes old new at read = (
     at_is = refl;
     number_is = refl;
     fits = record { proper = tt; outcome = refl; before = refl; faults = refl };
-    state_is = read.state_is;
+    state_is = read.state_is
+        ∙ ap (λ (n : ℕ). record (expired old.state at) { faults = n }) (read_keeps old.state at).faults_is;
     count_is = read.count_is;
   },
 )

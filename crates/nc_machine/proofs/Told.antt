@@ -1,5 +1,5 @@
 -- What the reading of a payload is told to be.
-use Rattle.std.proofs.Common.{◌≡◌, List, refl, sym, Result, Ok, Err}
+use Rattle.std.proofs.Common.{◌≡◌, sym, Result, Ok, Err}
 use Rattle.nc_protocol.specs.declared.request.Cause.{Cause}
 use Rattle.nc_payload.specs.declared.payload.PayloadFault.TheVariants.{Bad}
 use Rattle.nc_payload.specs.inner.Reads.{Answers}

@@ -1,6 +1,10 @@
 //! The candidate is kept, and is then running (RFC 6241 8.3.4.1).
-ghost use Rattle.std.specs.Prelude.{◌≡◌, ℕ, IfOk, OnErr};
-ghost use Rattle.nc_machine.specs.inner.Turns.{Commits};
+ghost use Rattle.std.specs.Prelude.{◌≡◌, ◌≤◌, ℕ, IfOk, OnErr};
+ghost use Rattle.nc_schema.specs.Configuration.{IsConfiguration};
+ghost use Rattle.nc_schema.specs.Record.{body_limit, record_size};
+ghost use Rattle.nc_schema.specs.Violations.{IsValid};
+ghost use Rattle.nc_model.specs.State.{base_of, candidate_in_force};
+ghost use Rattle.nc_machine.specs.inner.Turns.{Commits, IsKeeping};
 
 use crate::causes::refused;
 use crate::server::Server;
@@ -16,10 +20,13 @@ pub(crate) fn commit<K: Keeper>(
     keeper: &mut K,
     request: &Request,
 ) -> Result<Outcome, Memory>
-    requires base { K.base keeper.old ≡ server.old.running }
-    requires failures { K.failures keeper.old ≡ server.old.faults }
+    requires keeping { IsKeeping K.schema K.base K.failures server.old keeper.old }
+    requires configuration { IsConfiguration server.old.schema (candidate_in_force server.old) }
+    requires valid { IsValid server.old.schema (candidate_in_force server.old) }
+    requires small { record_size (candidate_in_force server.old) ≤ body_limit }
     ensures commits { (session : ℕ) → Commits server.old server.new session request.now result }
-    ensures kept { K.base keeper.new ≡ server.new.running }
+    ensures schema_is { K.schema keeper.new ≡ K.schema keeper.old }
+    ensures kept { K.base keeper.new ≡ base_of server.new }
     ensures faults { K.failures keeper.new ≡ server.new.faults }
     ensures memory { OnErr result (keeper.new ≡ keeper.old) }
 {
@@ -27,7 +34,7 @@ pub(crate) fn commit<K: Keeper>(
     let done = server.answered(request, Verdict::Done)?;
     let fault = refused(alloc, Cause::plain(alloc, CauseKind::DiskFault))?;
     let failed = server.answered(request, fault)?;
-    let ready = keeper.prepare(server.running(), server.in_force())?;
+    let ready = keeper.prepare(server.base(), server.in_force())?;
     match keeper.keep(ready) {
         Kept::Kept => {
             server.run_candidate();

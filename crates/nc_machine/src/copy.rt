@@ -1,7 +1,5 @@
 //! Copies into the candidate (RFC 6241 7.3).
-ghost use Rattle.std.specs.Prelude.{◌≡◌, ℕ, IfOk, None};
-ghost use Rattle.std.specs.Option.{option_or};
-ghost use Rattle.nc_protocol.specs.Edited.{cause_where};
+ghost use Rattle.std.specs.Prelude.{◌≡◌, ℕ, IfOk};
 ghost use Rattle.nc_model.specs.Verdict as meant;
 ghost use Rattle.nc_machine.specs.inner.Copies.{rows_from};
 ghost use Rattle.nc_machine.specs.inner.Courses as course;
@@ -36,9 +34,9 @@ fn same_store(alloc: Global, target: Datastore, source: &Origin) -> Result<Optio
     Ok(None)
 }
 
-// Why nothing is copied, before the source is read.
-fn uncopied(alloc: Global, target: Datastore, source: &Origin) -> Result<Option<Cause>, Memory>
-    ensures { IfOk result (λ it. it ≡ course.uncopied target source.now) }
+// Why source and target are none for a copy, whatever the state.
+fn unfit(alloc: Global, target: Datastore, source: &Origin) -> Result<Option<Cause>, Memory>
+    ensures { IfOk result (λ it. it ≡ course.unfit target source.now) }
 {
     if let Some(cause) = unsupported_target(alloc, target)? {
         return Ok(Some(cause));
@@ -59,6 +57,21 @@ fn copy_course(alloc: Global, copied: Result<Config, Cause>) -> Result<Course, M
 }
 
 impl Server {
+    // Why nothing is copied, before the source is read.
+    fn uncopied(
+        &self,
+        session: u32,
+        target: Datastore,
+        source: &Origin,
+    ) -> Result<Option<Cause>, Memory>
+        ensures { IfOk result (λ it. it ≡ course.uncopied self.now session target source.now) }
+    {
+        match unfit(self.alloc(), target, source)? {
+            Some(cause) => Ok(Some(cause)),
+            None => self.in_use(session, Datastore::Candidate),
+        }
+    }
+
     // The rows of the source.
     fn rows_from(&self, source: &Origin) -> Result<Result<Config, Cause>, Memory>
         ensures { IfOk result (λ it. it ≡ rows_from self.now source.now) }
@@ -71,10 +84,15 @@ impl Server {
 
     // What the candidate is to hold. Every row may be seen, and no change is denied.
     #[tactic(auto, using(crate::proofs::Unchecked::copied_by, crate::proofs::Unchecked::not_copied))]
-    fn copied(&self, target: Datastore, source: &Origin) -> Result<Result<Config, Cause>, Memory>
-        ensures { (session : ℕ) → IfOk result (λ it. it ≡ meant.copied self.now session target source.now) }
+    fn copied(
+        &self,
+        session: u32,
+        target: Datastore,
+        source: &Origin,
+    ) -> Result<Result<Config, Cause>, Memory>
+        ensures { IfOk result (λ it. it ≡ meant.copied self.now session target source.now) }
     {
-        match uncopied(self.alloc(), target, source)? {
+        match self.uncopied(session, target, source)? {
             Some(cause) => Ok(Err(cause)),
             None => self.rows_from(source),
         }
@@ -84,12 +102,12 @@ impl Server {
     #[tactic(auto, unfolding(crate::specs::inner::Courses::copy_config_course))]
     pub(crate) fn copy_config_course(
         &self,
+        session: u32,
         target: Datastore,
         source: &Origin,
     ) -> Result<Course, Memory>
-        ensures { (session : ℕ) →
-            IfOk result (λ it. it ≡ course.copy_config_course self.now session target source.now) }
+        ensures { IfOk result (λ it. it ≡ course.copy_config_course self.now session target source.now) }
     {
-        copy_course(self.alloc(), self.copied(target, source)?)
+        copy_course(self.alloc(), self.copied(session, target, source)?)
     }
 }

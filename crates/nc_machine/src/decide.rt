@@ -1,16 +1,13 @@
 //! What a request comes to (RFC 6241 7 and 8).
-ghost use Rattle.std.specs.Prelude.{◌≡◌, ℕ, IfOk};
+ghost use Rattle.std.specs.Prelude.{◌≡◌, IfOk};
 ghost use Rattle.nc_model.specs.Verdict as meant;
 ghost use Rattle.nc_machine.specs.inner.Courses as course;
 
 use crate::course::{Change, Course, done, refused_course};
 use crate::datastores::not_offered;
 use crate::server::Server;
-use nc_names::{CauseKind, Copies, Memory, Text};
-use nc_protocol::request_words::confirmed as confirmed_text;
-use nc_protocol::{Asked, Cause, Operation, Request};
-use nc_validate::violation_in;
-use std::alloc::Global;
+use nc_names::{CauseKind, Copies, Memory};
+use nc_protocol::{Asked, Cause, Datastore, Operation, Request};
 
 fn is_offered(operation: Operation) -> bool
     ensures { result ≡ meant.is_offered operation }
@@ -38,64 +35,43 @@ fn is_not_offered(operation: &Option<Operation>) -> bool
     }
 }
 
-fn commit_course(alloc: Global, refusal: Option<Cause>) -> Result<Course, Memory>
-    ensures { IfOk result (λ it. it ≡ course.commit_course refusal) }
-{
-    match refusal {
-        Some(cause) => refused_course(alloc, cause),
-        None => Ok(Course::Commit),
-    }
-}
-
 impl Server {
-    // Why a commit is refused, if so. No change is denied.
-    fn commit_refusal(
-        &self,
-        confirmed: bool,
-        persist_id: &Option<Text>,
-    ) -> Result<Option<Cause>, Memory>
-        ensures { (session : ℕ) →
-            IfOk result (λ it. it ≡ meant.commit_refusal self.now session confirmed persist_id.now) }
+    // What discard-changes comes to.
+    #[tactic(auto, unfolding(crate::specs::inner::Courses::discard_course))]
+    fn discard_course(&self, session: u32) -> Result<Course, Memory>
+        ensures { IfOk result (λ it. it ≡ course.discard_course self.now session) }
     {
-        if confirmed {
-            let cause = Cause::naming(self.alloc(), CauseKind::UnknownParameter, confirmed_text())?;
-            return Ok(Some(cause));
+        match self.in_use(session, Datastore::Candidate)? {
+            Some(cause) => refused_course(self.alloc(), cause),
+            None => Ok(done(Change::Discard)),
         }
-        match persist_id {
-            Some(_) => Ok(Some(Cause::plain(self.alloc(), CauseKind::BadToken))),
-            None => violation_in(self.alloc(), self.schema(), self.in_force()),
-        }
-    }
-
-    // What commit comes to.
-    fn commit_asked_course(
-        &self,
-        confirmed: bool,
-        persist_id: &Option<Text>,
-    ) -> Result<Course, Memory>
-        ensures { (session : ℕ) →
-            IfOk result (λ it. it ≡ course.commit_asked_course self.now session confirmed persist_id.now) }
-    {
-        let refusal = self.commit_refusal(confirmed, persist_id)?;
-        commit_course(self.alloc(), refusal)
     }
 
     // What an operation that is offered comes to.
     #[tactic(auto, unfolding(crate::specs::inner::Courses::asked_course))]
-    fn asked_course(&self, asked: &Asked) -> Result<Course, Memory>
-        ensures { (session : ℕ) → IfOk result (λ it. it ≡ course.asked_course self.now session asked.now) }
+    fn asked_course(&self, session: u32, asked: &Asked) -> Result<Course, Memory>
+        ensures { IfOk result (λ it. it ≡ course.asked_course self.now session asked.now) }
     {
         match asked {
-            Asked::Get { filter } => self.get_course(filter),
-            Asked::GetConfig { source, filter } => self.get_config_course(*source, filter),
+            Asked::Get { filter } => self.get_course(session, filter),
+            Asked::GetConfig { source, filter } => self.get_config_course(session, *source, filter),
             Asked::EditConfig {
                 target,
                 default_operation,
                 test,
                 on_error,
                 config,
-            } => self.edit_config_course(*target, *default_operation, *test, *on_error, config),
-            Asked::CopyConfig { target, source } => self.copy_config_course(*target, source),
+            } => self.edit_config_course(
+                session,
+                *target,
+                *default_operation,
+                *test,
+                *on_error,
+                config,
+            ),
+            Asked::CopyConfig { target, source } => {
+                self.copy_config_course(session, *target, source)
+            }
             Asked::DeleteConfig { target } => {
                 refused_course(self.alloc(), not_offered(self.alloc(), *target)?)
             }
@@ -105,8 +81,8 @@ impl Server {
                 timeout: _,
                 persist: _,
                 persist_id,
-            } => self.commit_asked_course(*confirmed, persist_id),
-            Asked::DiscardChanges => Ok(done(Change::Discard)),
+            } => self.commit_asked_course(session, *confirmed, persist_id),
+            Asked::DiscardChanges => self.discard_course(session),
             Asked::Validate { source } => self.validate_course(source),
             _ => self.unknown_course(),
         }
@@ -124,14 +100,14 @@ impl Server {
     /// What a live session's request comes to. An operation that is not offered is refused before its
     /// parameters are looked at.
     #[tactic(auto, unfolding(crate::specs::inner::Courses::course))]
-    pub(crate) fn course(&self, request: &Request) -> Result<Course, Memory>
-        ensures { (session : ℕ) → IfOk result (λ it. it ≡ course.course self.now session request.now) }
+    pub(crate) fn course(&self, session: u32, request: &Request) -> Result<Course, Memory>
+        ensures { IfOk result (λ it. it ≡ course.course self.now session request.now) }
     {
         if is_not_offered(&request.operation) {
             return self.unknown_course();
         }
         match &request.asked {
-            Ok(asked) => self.asked_course(asked),
+            Ok(asked) => self.asked_course(session, asked),
             Err(cause) => refused_course(self.alloc(), cause.copy()?),
         }
     }

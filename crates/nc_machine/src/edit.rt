@@ -135,20 +135,31 @@ impl Server {
         }
     }
 
+    // Why no edit is made, before the payload is read.
+    fn unedited(&self, session: u32, target: Datastore) -> Result<Option<Cause>, Memory>
+        ensures { IfOk result (λ it. it ≡ course.unedited self.now session target) }
+    {
+        match unsupported_target(self.alloc(), target)? {
+            Some(cause) => Ok(Some(cause)),
+            None => self.in_use(session, Datastore::Candidate),
+        }
+    }
+
     /// What edit-config comes to.
-    #[tactic(auto, unfolding(crate::specs::inner::Courses::edit_config_course), using(crate::proofs::Edits::target_refused, crate::proofs::Edits::target_taken))]
+    #[tactic(auto, unfolding(crate::specs::inner::Courses::edit_config_course), using(crate::proofs::Edits::edits_refused, crate::proofs::Edits::edits_taken))]
     pub(crate) fn edit_config_course(
         &self,
+        session: u32,
         target: Datastore,
         default_operation: Default3,
         test: TestOption,
         on_error: ErrorOption,
         config: &Elem,
     ) -> Result<Course, Memory>
-        ensures { (session : ℕ) → IfOk result (λ it. it ≡
+        ensures { IfOk result (λ it. it ≡
             course.edit_config_course self.now session target default_operation test on_error config.now) }
     {
-        match unsupported_target(self.alloc(), target)? {
+        match self.unedited(session, target)? {
             Some(cause) => refused_course(self.alloc(), cause),
             None => self.edit_payload(default_operation, test, on_error, config),
         }

@@ -3,9 +3,9 @@ ghost use Rattle.std.specs.Prelude.{◌≡◌, false, true, IfOk, OnErr};
 ghost use Rattle.nc_model.specs.declared.event.Event.TheVariants.{Start, Request as Requested, End, Reading};
 ghost use Rattle.nc_protocol.specs.Proper.{IsProper};
 ghost use Rattle.nc_model.specs.ProperEvents.{IsProperEvent};
-ghost use Rattle.nc_model.specs.State.{expired, is_live};
+ghost use Rattle.nc_model.specs.State.{IsGood, expired, is_live};
 ghost use Rattle.nc_model.specs.Step.{reaches_disk};
-ghost use Rattle.nc_machine.specs.inner.Turns.{Answers, Enters};
+ghost use Rattle.nc_machine.specs.inner.Turns.{Answers, Enters, IsKeeping, LeavesKept};
 
 use crate::commit::commit;
 use crate::course::Course;
@@ -16,7 +16,7 @@ use nc_protocol::{Peer, Request};
 use nc_tree::Keeper;
 
 // What comes of a live session's request.
-#[tactic(auto, using(crate::proofs::Answering::answered_is, crate::proofs::Answering::reaches, crate::proofs::Answering::made_running, crate::proofs::Answering::made_faults))]
+#[tactic(auto, using(crate::proofs::Answering::answered_is, crate::proofs::Answering::reaches, crate::proofs::Answering::commit_valid, crate::proofs::Answering::commit_small, nc_model::proofs::GoodLemmas::in_force_is))]
 fn live_outcome<K: Keeper>(
     server: &mut Server,
     keeper: &mut K,
@@ -25,16 +25,15 @@ fn live_outcome<K: Keeper>(
 ) -> Result<Outcome, Memory>
     requires proper { IsProper request.now }
     requires live { is_live server.old session ≡ true }
-    requires base { K.base keeper.old ≡ server.old.running }
-    requires failures { K.failures keeper.old ≡ server.old.faults }
+    requires good { IsGood server.old }
+    requires keeping { IsKeeping K.schema K.base K.failures server.old keeper.old }
     ensures answers { IfOk result (λ it. Answers server.old server.new session request.now it) }
     ensures memory { OnErr result ((server.new ≡ server.old) × (keeper.new ≡ keeper.old)) }
-    ensures kept { K.base keeper.new ≡ server.new.running }
-    ensures faults { K.failures keeper.new ≡ server.new.faults }
+    ensures keeping { IsKeeping K.schema K.base K.failures server.new keeper.new }
     ensures untouched { reaches_disk server.old (Requested session request.now) ≡ false →
         keeper.new ≡ keeper.old }
 {
-    match server.course(request)? {
+    match server.course(session, request)? {
         Course::Answer { verdict, change } => server.answer(session, request, verdict, change),
         Course::Commit => commit(server, keeper, request),
     }
@@ -49,12 +48,11 @@ fn outcome<K: Keeper>(
     request: &Request,
 ) -> Result<Outcome, Memory>
     requires proper { IsProper request.now }
-    requires base { K.base keeper.old ≡ server.old.running }
-    requires failures { K.failures keeper.old ≡ server.old.faults }
+    requires good { IsGood server.old }
+    requires keeping { IsKeeping K.schema K.base K.failures server.old keeper.old }
     ensures answers { IfOk result (λ it. Answers server.old server.new session request.now it) }
     ensures memory { OnErr result ((server.new ≡ server.old) × (keeper.new ≡ keeper.old)) }
-    ensures kept { K.base keeper.new ≡ server.new.running }
-    ensures faults { K.failures keeper.new ≡ server.new.faults }
+    ensures keeping { IsKeeping K.schema K.base K.failures server.new keeper.new }
     ensures untouched { reaches_disk server.old (Requested session request.now) ≡ false →
         keeper.new ≡ keeper.old }
 {
@@ -65,7 +63,7 @@ fn outcome<K: Keeper>(
 }
 
 /// A session's request, as the entry of that number.
-#[tactic(auto, using(crate::proofs::Answering::request_enters))]
+#[tactic(auto, using(crate::proofs::Sound::good_read, crate::proofs::Answering::keeping_read))]
 pub(crate) fn requested<K: Keeper>(
     server: &mut Server,
     keeper: &mut K,
@@ -75,13 +73,12 @@ pub(crate) fn requested<K: Keeper>(
     at: u64,
 ) -> Result<Entry, Memory>
     requires proper { IsProper request }
-    requires base { K.base keeper.old ≡ server.old.running }
-    requires failures { K.failures keeper.old ≡ server.old.faults }
+    requires good { IsGood server.old }
+    requires keeping { IsKeeping K.schema K.base K.failures server.old keeper.old }
     ensures entered { IfOk result (λ e.
         Enters server.old server.new number (Requested session request) at e) }
     ensures memory { OnErr result ((server.new ≡ expired server.old at) × (keeper.new ≡ keeper.old)) }
-    ensures kept { K.base keeper.new ≡ server.new.running }
-    ensures faults { K.failures keeper.new ≡ server.new.faults }
+    ensures keeping { IsKeeping K.schema K.base K.failures server.new keeper.new }
     ensures untouched { reaches_disk (expired server.old at) (Requested session request) ≡ false →
         keeper.new ≡ keeper.old }
 {
@@ -108,8 +105,7 @@ pub(crate) fn started(
 ) -> Result<Entry, Memory>
     ensures entered { IfOk result (λ e. Enters server.old server.new number (Start peer) at e) }
     ensures memory { OnErr result (server.new ≡ expired server.old at) }
-    ensures running { server.new.running ≡ server.old.running }
-    ensures faults { server.new.faults ≡ server.old.faults }
+    ensures kept { LeavesKept server.old server.new }
 {
     server.read_clock(at);
     let faults = server.faults();
@@ -127,8 +123,7 @@ pub(crate) fn started(
 /// The end of a session.
 pub(crate) fn ended(server: &mut Server, number: u64, session: u32, at: u64) -> Entry
     ensures entered { Enters server.old server.new number (End session) at result }
-    ensures running { server.new.running ≡ server.old.running }
-    ensures faults { server.new.faults ≡ server.old.faults }
+    ensures kept { LeavesKept server.old server.new }
 {
     server.read_clock(at);
     let faults = server.faults();
@@ -161,6 +156,7 @@ pub(crate) fn noted(server: &mut Server, number: u64, at: u64) -> Entry
 }
 
 /// An event, as the entry of that number.
+#[tactic(auto, using(crate::proofs::Keeping::keeping_stays, crate::proofs::Answering::keeping_read))]
 pub(crate) fn entered<K: Keeper>(
     server: &mut Server,
     keeper: &mut K,
@@ -169,12 +165,11 @@ pub(crate) fn entered<K: Keeper>(
     at: u64,
 ) -> Result<Entry, Memory>
     requires proper { IsProperEvent event }
-    requires base { K.base keeper.old ≡ server.old.running }
-    requires failures { K.failures keeper.old ≡ server.old.faults }
+    requires good { IsGood server.old }
+    requires keeping { IsKeeping K.schema K.base K.failures server.old keeper.old }
     ensures entered { IfOk result (λ e. Enters server.old server.new number event at e) }
     ensures memory { OnErr result ((server.new ≡ expired server.old at) × (keeper.new ≡ keeper.old)) }
-    ensures kept { K.base keeper.new ≡ server.new.running }
-    ensures faults { K.failures keeper.new ≡ server.new.faults }
+    ensures keeping { IsKeeping K.schema K.base K.failures server.new keeper.new }
     ensures untouched { reaches_disk (expired server.old at) event ≡ false → keeper.new ≡ keeper.old }
 {
     match event {

@@ -1,5 +1,5 @@
 //! What get and get-config show (RFC 6241 6, 7.1, 7.7).
-ghost use Rattle.std.specs.Prelude.{◌≡◌, ℕ, IfOk};
+ghost use Rattle.std.specs.Prelude.{◌≡◌, IfOk};
 ghost use Rattle.nc_model.specs.Verdict as meant;
 ghost use Rattle.nc_machine.specs.inner.Courses as course;
 
@@ -24,19 +24,23 @@ impl Server {
     }
 
     // What a session is shown: every row may be seen.
-    #[tactic(auto, using(crate::proofs::Unchecked::shown_is))]
-    fn shown(&self, store: Datastore, filter: &Option<Elem>) -> Result<Many<Row>, Memory>
-        ensures { (session : ℕ) → IfOk result (λ it. it ≡ meant.shown self.now session store filter.now) }
+    fn shown(
+        &self,
+        session: u32,
+        store: Datastore,
+        filter: &Option<Elem>,
+    ) -> Result<Many<Row>, Memory>
+        ensures { IfOk result (λ it. it ≡ meant.shown self.now session store filter.now) }
     {
         self.filtered(store, filter)
     }
 
     /// What get comes to.
     #[tactic(auto, unfolding(crate::specs::inner::Courses::get_course))]
-    pub(crate) fn get_course(&self, filter: &Option<Elem>) -> Result<Course, Memory>
-        ensures { (session : ℕ) → IfOk result (λ it. it ≡ course.get_course self.now session filter.now) }
+    pub(crate) fn get_course(&self, session: u32, filter: &Option<Elem>) -> Result<Course, Memory>
+        ensures { IfOk result (λ it. it ≡ course.get_course self.now session filter.now) }
     {
-        let rows = self.shown(Datastore::Running, filter)?;
+        let rows = self.shown(session, Datastore::Running, filter)?;
         Ok(unchanging(Verdict::Selected { rows }))
     }
 
@@ -44,16 +48,17 @@ impl Server {
     #[tactic(auto, unfolding(crate::specs::inner::Courses::get_config_course))]
     pub(crate) fn get_config_course(
         &self,
+        session: u32,
         source: Datastore,
         filter: &Option<Elem>,
     ) -> Result<Course, Memory>
-        ensures { (session : ℕ) →
-            IfOk result (λ it. it ≡ course.get_config_course self.now session source filter.now) }
+        ensures { IfOk result (λ it. it ≡
+            course.get_config_course self.now session source filter.now) }
     {
         if let Some(cause) = unsupported_source(self.alloc(), source)? {
             return refused_course(self.alloc(), cause);
         }
-        let rows = self.shown(source, filter)?;
+        let rows = self.shown(session, source, filter)?;
         Ok(unchanging(Verdict::Selected { rows }))
     }
 }

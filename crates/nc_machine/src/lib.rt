@@ -5,14 +5,16 @@
 //!
 //! Each entry of `handle`, `end` and `tick` fits the machine's state, has the event and the reading that
 //! were handed in and the old count as its number; the new state is the one that the entry leaves. After
-//! want of memory the machine is as after `tick`. Its state is good at all times: running is a valid
-//! configuration, and what the keeper keeps. `Solo` is the desk of one thread over a machine and a
-//! clock: each call that is not spent is one reading of the clock and one call of the machine.
+//! want of memory the machine is as after `tick`. Its state is good at all times, so that running is a
+//! valid configuration, and its keeper keeps what running is once no commit is pending. `Solo` is the desk
+//! of one thread over a machine and a clock: each call that is not spent is one reading of the clock and
+//! one call of the machine.
 #![tactic(auto)]
 
 mod answer;
 mod causes;
 mod commit;
+mod commit_checks;
 mod copy;
 mod course;
 mod datastores;
@@ -21,6 +23,7 @@ mod edit;
 mod event;
 mod get;
 mod laws;
+mod locks;
 mod machine;
 mod own;
 mod payload;

@@ -1,12 +1,12 @@
 //! The machine: one event, one entry of the history.
-ghost use Rattle.std.specs.Prelude.{◌≡◌, ◌<◌, false, length, IfErr, IfOk, OnErr};
+ghost use Rattle.std.specs.Prelude.{◌≡◌, ◌<◌, false, length, IfErr, IfOk, IfSome, OnErr};
 ghost use Rattle.nc_names.specs.Limits.{most_requests};
 ghost use Rattle.nc_schema.specs.Configuration.{IsConfiguration};
 ghost use Rattle.nc_schema.specs.Proper.{IsProperSchema};
 ghost use Rattle.nc_schema.specs.Violations.{IsValid};
 ghost use Rattle.nc_model.specs.declared.event.Event.TheVariants.{End, Reading};
 ghost use Rattle.nc_model.specs.ProperEvents.{IsProperEvent};
-ghost use Rattle.nc_model.specs.State.{IsGood, expired, opening};
+ghost use Rattle.nc_model.specs.State.{IsGood, base_of, expired, opening};
 ghost use Rattle.nc_model.specs.Step.{reaches_disk};
 ghost use Rattle.nc_machine.specs.Serving.{IsRead, IsSound, Makes};
 
@@ -23,8 +23,8 @@ use std::sync::Arc;
 /// The server with its datastores and sessions, and the keeper of its running configuration.
 ///
 /// Contracts see its state, how many entries it has made, and its keeper. It is sound at all times: its
-/// state is good, so that running is a valid configuration; running is what the keeper keeps; and the
-/// count of faults is the keeper's.
+/// state is good, so that running is a valid configuration; the keeper reads by its schema, and keeps what
+/// running is once no commit is pending; and the count of faults is the keeper's.
 #[derive(Drop)]
 pub struct Machine<K: Keeper> {
     server: Server,
@@ -39,7 +39,7 @@ impl<K: Keeper> Model for Machine<K> {
 
     ghost view = { λ m. record { state = m.server; count = m.count; keeper = m.keeper } };
 
-    ghost invariant = { λ m. IsSound K.base K.failures
+    ghost invariant = { λ m. IsSound K.schema K.base K.failures
         (record { state = m.server; count = m.count; keeper = m.keeper }) };
 }
 
@@ -60,13 +60,14 @@ impl<K: Keeper> Machine<K> {
         requires proper { IsProperSchema schema.value }
         requires running { IsConfiguration schema.value running }
         requires valid { IsValid schema.value running }
+        requires schema { IfSome (K.schema keeper) (λ tables. tables ≡ schema.value) }
         requires base { K.base keeper ≡ running }
         ensures begun { IfOk result (λ it. it ≡ record {
           state = opening schema.value running (K.failures keeper);
           count = 0;
           keeper = keeper;
         }) }
-        ensures sound { IfOk result (IsSound K.base K.failures) }
+        ensures sound { IfOk result (IsSound K.schema K.base K.failures) }
         ensures memory { IfErr result (λ it. it ≡ keeper) }
     {
         let faults = keeper.faults();
@@ -92,7 +93,7 @@ impl<K: Keeper> Machine<K> {
         requires count { self.old.count < most_requests }
         ensures entered { IfOk result (λ e. Makes self.old self.new event at e) }
         ensures memory { OnErr result (IsRead self.old self.new at) }
-        ensures sound { IsSound K.base K.failures self.new }
+        ensures sound { IsSound K.schema K.base K.failures self.new }
         ensures untouched { reaches_disk (expired self.old.state at) event ≡ false →
             self.new.keeper ≡ self.old.keeper }
     {
@@ -107,7 +108,7 @@ impl<K: Keeper> Machine<K> {
     pub fn end(&mut self, session: u32, at: u64) -> Entry
         requires { self.old.count < most_requests }
         ensures entered { Makes self.old self.new (End session) at result }
-        ensures sound { IsSound K.base K.failures self.new }
+        ensures sound { IsSound K.schema K.base K.failures self.new }
         ensures untouched { self.new.keeper ≡ self.old.keeper }
     {
         let number = self.count;
@@ -122,7 +123,7 @@ impl<K: Keeper> Machine<K> {
         requires { self.old.count < most_requests }
         ensures entered { Makes self.old self.new Reading at result }
         ensures read { IsRead self.old self.new at }
-        ensures sound { IsSound K.base K.failures self.new }
+        ensures sound { IsSound K.schema K.base K.failures self.new }
     {
         let number = self.count;
         let made = noted(&mut self.server, number, at);
@@ -133,7 +134,7 @@ impl<K: Keeper> Machine<K> {
     /// How many entries were made: at most 2^62.
     pub fn count(&self) -> u64
         ensures count { result ≡ self.now.count }
-        ensures sound { IsSound K.base K.failures self.now }
+        ensures sound { IsSound K.schema K.base K.failures self.now }
     {
         self.count
     }
@@ -163,7 +164,7 @@ impl<K: Keeper> Machine<K> {
     /// Gives the keeper back. It takes no memory.
     pub fn finish(self) -> K
         ensures keeper { result ≡ self.keeper }
-        ensures kept { K.base result ≡ self.state.running }
+        ensures kept { K.base result ≡ base_of self.state }
     {
         self.keeper
     }

@@ -1,9 +1,11 @@
 //! The datastores and sessions of the server, seen as the state of the definitions (RFC 6241 5.1, 8.1
-//! and 8.3).
+//! and 8.3). Locks and confirmed commits are not offered yet: in what is seen no session holds a lock,
+//! and no commit is pending.
 ghost use Rattle.std.specs.Prelude.{◌≡◌, None, Some, IfOk};
 ghost use Rattle.nc_model.specs.State as state;
-ghost use Rattle.nc_model.specs.Step.{with_candidate};
+ghost use Rattle.nc_model.specs.Step.{committed, with_candidate};
 ghost use Rattle.nc_model.specs.Verdict.{stored};
+ghost use Rattle.nc_machine.specs.inner.Turns.{IsUnlocked};
 
 use nc_model::Session;
 use nc_names::{Many, Memory, same_rows};
@@ -31,8 +33,8 @@ pub(crate) struct Server {
 }
 
 impl Model for Server {
-    ghost use Rattle.std.specs.Prelude.{◌≤◌, length};
-    ghost use Rattle.nc_model.specs.State.{State, most_sessions};
+    ghost use Rattle.std.specs.Prelude.{◌≤◌, [], None, length};
+    ghost use Rattle.nc_model.specs.State.{State, most_sessions, no_holders};
 
     ghost Value = { State };
 
@@ -44,6 +46,10 @@ impl Model for Server {
       now = s.latest;
       last = s.last;
       faults = s.faults;
+      holders = no_holders;
+      partial = [];
+      pending = None;
+      last_lock = 0;
     } };
 
     ghost invariant = { λ s. length s.sessions ≤ most_sessions };
@@ -84,9 +90,23 @@ impl Server {
         &self.schema
     }
 
+    /// Neither locks nor confirmed commits are offered yet, so that none stands in the way.
+    pub(crate) fn is_unlocked(&self)
+        ensures { IsUnlocked self.now }
+    {
+        let _ = &self.alloc;
+    }
+
     /// The configuration of running.
     pub(crate) fn running(&self) -> &Config
         ensures { result.now ≡ self.now.running }
+    {
+        &self.running
+    }
+
+    /// What running is once no commit is pending, which is what is kept.
+    pub(crate) fn base(&self) -> &Config
+        ensures { result.now ≡ state.base_of self.now }
     {
         &self.running
     }
@@ -141,10 +161,9 @@ impl Server {
         self.candidate = None;
     }
 
-    /// The candidate is running, and is unmodified.
+    /// The candidate is running, and is unmodified. No commit is pending.
     pub(crate) fn run_candidate(&mut self)
-        ensures { self.new ≡
-            record self.old { running = state.candidate_in_force self.old; candidate = None } }
+        ensures { self.new ≡ committed self.old None }
     {
         if let Some(rows) = self.candidate.take() {
             self.running = rows;

@@ -1,7 +1,7 @@
 -- What a request comes to, and what that changes.
-use Rattle.std.specs.Prelude.{ℕ, Bool, true, false, not, if◌then◌else◌, List, [], ◌∷◌, Option, Some, None, Result, Ok, Err}
+use Rattle.std.specs.Prelude.{ℕ, Bool, false, not, if◌then◌else◌, List, [], ◌∷◌, Option, Some, None, Result, Ok, Err}
 use Rattle.std.specs.Option.{option_or}
-use Rattle.nc_names.specs.declared.cause.CauseKind.TheVariants.{UnknownOperation, UnsupportedTarget, BadParameter}
+use Rattle.nc_names.specs.declared.cause.CauseKind.TheVariants.{UnknownOperation, UnknownParameter, UnsupportedTarget, BadParameter}
 use Rattle.nc_message.specs.declared.tree.Elem.{Elem}
 use Rattle.nc_names.specs.declared.path.Row.{Row}
 use Rattle.nc_schema.specs.Tables.{Tables}
@@ -13,7 +13,7 @@ use Rattle.nc_protocol.specs.declared.asked.Operation.{Operation}
 use Rattle.nc_protocol.specs.declared.asked.TestOption.{TestOption}
 use Rattle.nc_protocol.specs.declared.asked.TestOption.TheVariants.{TestThenSet, Set, TestOnly}
 use Rattle.nc_protocol.specs.declared.datastore.Datastore.{Datastore}
-use Rattle.nc_protocol.specs.declared.datastore.Datastore.TheVariants.{Running}
+use Rattle.nc_protocol.specs.declared.datastore.Datastore.TheVariants.{Running, Candidate as CandidateStore}
 use Rattle.nc_protocol.specs.declared.datastore.Origin.{Origin}
 use Rattle.nc_protocol.specs.declared.request.Cause.{Cause}
 use Rattle.nc_protocol.specs.declared.request.Request.{Request}
@@ -21,11 +21,12 @@ use Rattle.nc_protocol.specs.declared.verdict.Verdict.TheVariants.{Done, Selecte
 use Rattle.nc_protocol.specs.Applied.{Applied}
 use Rattle.nc_protocol.specs.Asking.{plain_cause}
 use Rattle.nc_protocol.specs.Edited.{cause_where}
-use Rattle.nc_model.specs.State.{State, session_ended}
+use Rattle.nc_model.specs.Access.{rights_of}
+use Rattle.nc_model.specs.State.{State, candidate_in_force, session_ended}
 use Rattle.nc_model.specs.Step.{rows_of_ok, with_candidate}
 use Rattle.nc_protocol.specs.Refusals as refusal
 use Rattle.nc_model.specs.Verdict as meant
-use Rattle.nc_protocol.specs.Words.{source_word}
+use Rattle.nc_protocol.specs.Words.{confirmed_word, source_word}
 use Rattle.nc_machine.specs.declared.course.Change.{Change}
 use Rattle.nc_machine.specs.declared.course.Change.TheVariants.{Nothing, Candidate, Discard, Close}
 use Rattle.nc_machine.specs.declared.course.Course.{Course}
@@ -59,11 +60,44 @@ abbrev pub same_store : Datastore → Origin → Option Cause
 same_store target source =
     cause_where (meant.is_same_store target source) (plain_cause BadParameter (source_word ∷ []))
 
--- why nothing is copied, before the source is read
-abbrev pub uncopied : Datastore → Origin → Option Cause
-uncopied target source =
+-- why they are none for a copy, whatever the state
+abbrev pub unfit : Datastore → Origin → Option Cause
+unfit target source =
     option_or (meant.unsupported meant.is_target target)
     (option_or (meant.unsupported_origin source) (same_store target source))
+
+-- why nothing is copied, before the source is read
+abbrev pub uncopied : State → ℕ → Datastore → Origin → Option Cause
+uncopied s session target source = option_or (unfit target source) (meant.in_use s session CandidateStore)
+
+-- why no edit is made, before the payload is read
+abbrev pub unedited : State → ℕ → Datastore → Option Cause
+unedited s session target =
+    option_or (meant.unsupported meant.is_target target) (meant.in_use s session CandidateStore)
+
+-- why a session may not commit, whatever the candidate holds
+abbrev pub commit_hindrance : State → ℕ → Bool → Option (List ℕ) → Option Cause
+commit_hindrance s session confirmed persist_id =
+    option_or (cause_where confirmed (plain_cause UnknownParameter (confirmed_word ∷ [])))
+    (option_or (meant.commit_admission s session persist_id)
+    (option_or (meant.in_use s session Running) (meant.in_use s session CandidateStore)))
+
+-- why it may not change what a commit changes
+abbrev pub changes_refusal : State → ℕ → Option Cause
+changes_refusal s session =
+    option_or (meant.in_use_partial s session (meant.commit_changes s))
+    (meant.changes_denied (rights_of s session) (meant.commit_changes s))
+
+-- why the candidate is not made running
+abbrev pub candidate_refusal : State → Option Cause
+candidate_refusal s =
+    option_or (refusal.violation_in s.schema (candidate_in_force s)) (meant.record_refusal s)
+
+-- why a commit is refused
+abbrev pub commit_refused : State → ℕ → Bool → Option (List ℕ) → Option Cause
+commit_refused s session confirmed persist_id =
+    option_or (commit_hindrance s session confirmed persist_id)
+    (option_or (changes_refusal s session) (candidate_refusal s))
 
 abbrev pub copy_course : Result (List Row) Cause → Course
 copy_course copied = Answer (meant.done_where copied) (changed_to (rows_of_ok copied))
@@ -71,6 +105,11 @@ copy_course copied = Answer (meant.done_where copied) (changed_to (rows_of_ok co
 abbrev pub commit_course : Option Cause → Course
 commit_course None = Commit
 commit_course (Some cause) = Answer (Refused (cause ∷ [])) Nothing
+
+-- done with that change, unless a check fails
+abbrev pub done_unless : Option Cause → Change → Course
+done_unless None change = Answer Done change
+done_unless (Some cause) change = refused_course cause
 
 -- each operation; the words are opaque, so that what is made of several of them stays short
 
@@ -93,6 +132,9 @@ unfoldable pub commit_asked_course : State → ℕ → Bool → Option (List ℕ
 commit_asked_course s session confirmed persist_id =
     commit_course (meant.commit_refusal s session confirmed persist_id)
 
+unfoldable pub discard_course : State → ℕ → Course
+discard_course s session = done_unless (meant.in_use s session CandidateStore) Discard
+
 unfoldable pub validate_course : State → Origin → Course
 validate_course s source = Answer (meant.validated s.schema (meant.rows_to_validate s source)) Nothing
 
@@ -113,7 +155,7 @@ asked_course s session (DeleteConfig target) = refused_course (unoffered_cause t
 asked_course s session CloseSession = Answer Done Close
 asked_course s session (AsksCommit confirmed timeout persist persist_id) =
     commit_asked_course s session confirmed persist_id
-asked_course s session DiscardChanges = Answer Done Discard
+asked_course s session DiscardChanges = discard_course s session
 asked_course s session (Validate source) = validate_course s source
 asked_course s session asked = unknown_course
 

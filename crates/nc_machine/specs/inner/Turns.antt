@@ -1,9 +1,11 @@
 -- What becomes of the state in one event, apart from the machine's count and its keeper.
-use Rattle.std.specs.Prelude.{◌≡◌, ◌≤◌, ◌⊎◌, ℕ, Bool, true, [], Option, None, Result, Ok, Err}
+use Rattle.std.specs.Prelude.{◌≡◌, ◌≤◌, ◌⊎◌, ℕ, Bool, true, List, [], Option, None, IfSome, Result, Ok, Err}
 use Rattle.nc_names.specs.Counts.{Rose}
 use Rattle.nc_names.specs.declared.cause.CauseKind.TheVariants.{DiskFault}
 use Rattle.nc_names.specs.declared.memory.Memory.{Memory}
 use Rattle.nc_names.specs.declared.path.Path.{Path}
+use Rattle.nc_names.specs.declared.path.Row.{Row}
+use Rattle.nc_schema.specs.Tables.{Tables}
 use Rattle.nc_model.specs.declared.entry.Entry.{Entry}
 use Rattle.nc_model.specs.declared.event.Event.{Event}
 use Rattle.nc_model.specs.declared.event.Event.TheVariants.{Request as Requested}
@@ -14,9 +16,29 @@ use Rattle.nc_protocol.specs.declared.verdict.Verdict.{Verdict}
 use Rattle.nc_protocol.specs.declared.verdict.Verdict.TheVariants.{Done}
 use Rattle.nc_model.specs.Access.{sees_of}
 use Rattle.nc_protocol.specs.Reply.{reply_of}
-use Rattle.nc_model.specs.State.{State, candidate_in_force}
-use Rattle.nc_model.specs.Step.{CountsFaults, Fits, changed, has_failed, next, outcome_of, reaches_disk}
+use Rattle.nc_model.specs.State.{State, base_of, no_holders}
+use Rattle.nc_model.specs.Step.{CountsFaults, Fits, changed, committed, has_failed, next, outcome_of, reaches_disk}
 use Rattle.nc_protocol.specs.Refusals.{refused_for}
+
+-- no lock is held, and no commit is pending
+pub record IsUnlocked (s : State) : Type 0 where
+  pub holders : s.holders ≡ no_holders
+  pub partial : s.partial ≡ []
+  pub pending : s.pending ≡ None
+
+-- a keeper keeps what the state says: it reads by the state's schema, where it has one; its base is what running is
+-- once no commit is pending; and the faults are its own
+pub record IsKeeping {K : Type 0} (schema : K → Option Tables) (base : K → List Row) (failures : K → ℕ) (s : State)
+    (keeper : K) : Type 0 where
+  pub schema_is : IfSome (schema keeper) (λ tables. tables ≡ s.schema)
+  pub kept : base keeper ≡ base_of s
+  pub faults : failures keeper ≡ s.faults
+
+-- what a keeper keeps is as before
+pub record LeavesKept (old new : State) : Type 0 where
+  pub schema_is : new.schema ≡ old.schema
+  pub base_is : base_of new ≡ base_of old
+  pub faults_is : new.faults ≡ old.faults
 
 -- an entry of that number, event and reading fits the old state and leaves the new one
 pub record Enters (old new : State) (number : ℕ) (event : Event) (at : ℕ) (e : Entry) : Type 0 where
@@ -43,7 +65,7 @@ answered_by s session request verdict = Answered verdict (reply_of s.schema (see
 pub record IsKept (old new : State) (session : ℕ) (request : Request) (outcome : Outcome) : Type 0 where
   pub outcome_is : outcome ≡ answered_by old session request Done
   pub faults : old.faults ≤ new.faults
-  pub state_is : new ≡ record old { running = candidate_in_force old; candidate = None; faults = new.faults }
+  pub state_is : new ≡ record (committed old None) { faults = new.faults }
 
 -- the disk failed, and all is as before
 pub record IsNotKept (old new : State) (session : ℕ) (request : Request) (outcome : Outcome) : Type 0 where

@@ -1,0 +1,105 @@
+//! What is looked at before a commit (RFC 6241 8.3.4.1, 8.4.5.1; RFC 7950 8.3.3).
+ghost use Rattle.std.specs.Prelude.{◌≡◌, IfOk};
+ghost use Rattle.nc_model.specs.Verdict as meant;
+ghost use Rattle.nc_machine.specs.inner.Courses as course;
+
+use crate::course::{Course, refused_course};
+use crate::server::Server;
+use nc_model::server_words::record_text;
+use nc_names::{CauseKind, Memory, Text};
+use nc_protocol::request_words::confirmed as confirmed_text;
+use nc_protocol::{Cause, Datastore};
+use nc_validate::violation_in;
+use std::alloc::Global;
+
+/// The most bytes of the record of a configuration.
+const BODY_LIMIT: u64 = 33_554_432;
+
+fn commit_course(alloc: Global, refusal: Option<Cause>) -> Result<Course, Memory>
+    ensures { IfOk result (λ it. it ≡ course.commit_course refusal) }
+{
+    match refusal {
+        Some(cause) => refused_course(alloc, cause),
+        None => Ok(Course::Commit),
+    }
+}
+
+impl Server {
+    // Why a session may not commit, whatever the candidate holds.
+    fn commit_hindrance(
+        &self,
+        session: u32,
+        confirmed: bool,
+        persist_id: &Option<Text>,
+    ) -> Result<Option<Cause>, Memory>
+        ensures { IfOk result (λ it. it ≡
+            course.commit_hindrance self.now session confirmed persist_id.now) }
+    {
+        if confirmed {
+            let cause = Cause::naming(self.alloc(), CauseKind::UnknownParameter, confirmed_text())?;
+            return Ok(Some(cause));
+        }
+        if let Some(cause) = self.commit_admission(session, persist_id)? {
+            return Ok(Some(cause));
+        }
+        if let Some(cause) = self.in_use(session, Datastore::Running)? {
+            return Ok(Some(cause));
+        }
+        self.in_use(session, Datastore::Candidate)
+    }
+
+    // Why the candidate is not kept: its record is too large.
+    #[tactic(auto, using(crate::proofs::Checks::record_fits, crate::proofs::Checks::record_is_large))]
+    fn record_refusal(&self) -> Result<Option<Cause>, Memory>
+        ensures { IfOk result (λ it. it ≡ meant.record_refusal self.now) }
+    {
+        if self.in_force().is_within(BODY_LIMIT) {
+            return Ok(None);
+        }
+        let cause = Cause::naming(self.alloc(), CauseKind::Limit, record_text())?;
+        Ok(Some(cause))
+    }
+
+    // Why the candidate is not made running: its first violation, or the size of its record.
+    fn candidate_refusal(&self) -> Result<Option<Cause>, Memory>
+        ensures { IfOk result (λ it. it ≡ course.candidate_refusal self.now) }
+    {
+        if let Some(cause) = violation_in(self.alloc(), self.schema(), self.in_force())? {
+            return Ok(Some(cause));
+        }
+        self.record_refusal()
+    }
+
+    // Why a commit is refused, if so.
+    fn commit_refusal(
+        &self,
+        session: u32,
+        confirmed: bool,
+        persist_id: &Option<Text>,
+    ) -> Result<Option<Cause>, Memory>
+        ensures { IfOk result (λ it. it ≡
+            course.commit_refused self.now session confirmed persist_id.now) }
+    {
+        if let Some(cause) = self.commit_hindrance(session, confirmed, persist_id)? {
+            return Ok(Some(cause));
+        }
+        if let Some(cause) = self.changes_refusal(session)? {
+            return Ok(Some(cause));
+        }
+        self.candidate_refusal()
+    }
+
+    /// What commit comes to.
+    pub(crate) fn commit_asked_course(
+        &self,
+        session: u32,
+        confirmed: bool,
+        persist_id: &Option<Text>,
+    ) -> Result<Course, Memory>
+        ensures { IfOk result (λ it. it ≡
+            course.commit_asked_course self.now session confirmed persist_id.now) }
+    {
+        let refusal = self.commit_refusal(session, confirmed, persist_id)?;
+        commit_course(self.alloc(), refusal)
+    }
+}

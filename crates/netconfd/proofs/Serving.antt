@@ -90,11 +90,12 @@ good_along opening seen good legal front rest is =
     ((legal_histories_join 0 opening front rest).0 (subst (λ h. IsLegal 0 opening h) is legal)).0
 
 -- a machine before its first event, and its clock
-stands_first : {K : Type 0} (seat : Seat K) (home : Home) → home.alone ≡ true → home.answers ≡ seat.from
+stands_first : {K : Type 0} (seat : Seat K) (home : Home) → home.alone ≡ true → home.place ≡ [] → home.answers ≡ seat.from
     → seat.answers ≡ home.answers → seat.given ≡ home.heard → home.answers < 2 ^ 64 → seat.machine.state ≡ home.opening
     → seat.machine.count ≡ 0 → SoloStands seat home [] []
-stands_first seat home alone from answers given few state count = record {
+stands_first seat home alone place from answers given few state count = record {
   alone = alone;
+  place_is = place;
   from_is = from;
   machine_stands = record { legal = nothing_legal home.opening; state_is = state; count_is = count };
   mine_is = refl;
@@ -215,7 +216,7 @@ pub is_served : {K : Type 0} (server : Server) (peer : Peer) (schema : Tables) (
 is_served server peer schema first last s0 s1 t0 t1 end good same state count answers from heard few given_is answers_is sure serves =
     let home = home_of server t0 in
     let call = called peer home [] [] s0 in
-    let begun = stands_first first home refl (sym from) answers heard few state count in
+    let begun = stands_first first home refl refl (sym from) answers heard few state count in
     let narrow = subst (λ s. Serves s call (SoloStands last home) (IsSpent last.machine) s1 end) same (serves home [] [] begun) in
     let wide = widened server.schema call (SoloStands last home) (HasMade home.opening t0 t1) (IsSpent last.machine)
     (λ ticket. ticket ≡ most_requests) (has_made last home t0 t1 good refl refl given_is answers_is sure) (λ ticket is. is.0) s1 end narrow in

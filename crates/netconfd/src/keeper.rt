@@ -4,7 +4,8 @@ use nc_tree::{Config, Keeper, Kept, MemKeeper};
 use std::alloc::Global;
 use std::marker::Model;
 
-/// Keeps running in memory, and never fails to. Contracts see it as what it keeps.
+/// Keeps running in memory, and never fails to. Contracts see it as what it keeps. A next start finds nothing
+/// of it, and so it promises nothing of what a crash leaves.
 #[derive(Drop)]
 pub struct SureKeeper {
     memory: MemKeeper,
@@ -39,11 +40,19 @@ impl Keeper for SureKeeper {
 
     type Ready = Config;
 
+    ghost schema = { λ k. None };
+
     ghost base = { λ k. k };
 
     ghost doubt = { λ k. None };
 
     ghost failures = { λ k. 0 };
+
+    ghost moment = { λ k. 0 };
+
+    ghost leaves = { λ k t among. Unit };
+
+    ghost continues = { λ old new. Unit };
 
     ghost readied = { λ k ready rows. ready ≡ rows };
 
@@ -59,4 +68,10 @@ impl Keeper for SureKeeper {
     fn faults(&self) -> u64 {
         0
     }
+
+    ghost fewer = { λ k t these those more leaves. leaves };
+
+    ghost goes_on = { λ k. tt };
+
+    ghost goes_further = { λ one two three first second. tt };
 }

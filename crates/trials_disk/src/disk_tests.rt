@@ -54,26 +54,55 @@ fn leaves(disk: &MemDisk, pick: u32, bytes: &[u8]) -> Result<bool, Memory>
 
 // Whether a crash now leaves these, by the picks from 0 to 4 in their order.
 fn leaves_each(disk: &MemDisk, images: [&[u8]; 5]) -> Result<bool, Memory> {
-    Ok(leaves(disk, 0, images[0])?
-        && leaves(disk, 1, images[1])?
-        && leaves(disk, 2, images[2])?
-        && leaves(disk, 3, images[3])?
-        && leaves(disk, 4, images[4])?)
+    Ok(
+        leaves(disk, 0, images[0])?
+            && leaves(disk, 1, images[1])?
+            && leaves(disk, 2, images[2])?
+            && leaves(disk, 3, images[3])?
+            && leaves(disk, 4, images[4])?,
+    )
 }
 
 #[test]
 fn a_crash_leaves_what_was_not_synced_in_part(rt: HostRuntime) -> Result<(), Fail> {
     let alloc = rt.alloc();
     let mut disk = holds(alloc, b"abcdef")?;
-    assert!(rt; leaves_each(&disk, [b"abcdef", b"abcdef", b"abcdef", b"abcdef", b"abcdef"])?);
+    assert!(rt;
+        leaves_each(
+            &disk,
+            [b"abcdef", b"abcdef", b"abcdef", b"abcdef", b"abcdef"]
+        )?
+    );
     assert_eq!(rt; write(&mut disk, 4, b"1234"), Ok(()));
     assert_eq!(rt; disk.bytes(), b"abcd1234".as_slice());
-    let torn: [&[u8]; 5] = [b"abcdef", b"abcd1234", b"abcd12", b"abcd\xff\xff\xff\xff", b"abcd\x01\x01\x01\x01"];
+    let torn: [&[u8]; 5] = [
+        b"abcdef",
+        b"abcd1234",
+        b"abcd12",
+        b"abcd\xff\xff\xff\xff",
+        b"abcd\x01\x01\x01\x01",
+    ];
     assert!(rt; leaves_each(&disk, torn)?);
     assert_eq!(rt; disk.sync(), Ok(()));
-    assert!(rt; leaves_each(&disk, [b"abcd1234", b"abcd1234", b"abcd1234", b"abcd1234", b"abcd1234"])?);
+    assert!(rt;
+        leaves_each(
+            &disk,
+            [
+                b"abcd1234",
+                b"abcd1234",
+                b"abcd1234",
+                b"abcd1234",
+                b"abcd1234"
+            ]
+        )?
+    );
     assert_eq!(rt; cut(&mut disk, 3), Ok(()));
-    assert!(rt; leaves_each(&disk, [b"abcd1234", b"abc", b"abcd1234", b"abc", b"abcd1234"])?);
+    assert!(rt;
+        leaves_each(
+            &disk,
+            [b"abcd1234", b"abc", b"abcd1234", b"abc", b"abcd1234"]
+        )?
+    );
     assert_eq!(rt; disk.starved(), 0);
     Ok(())
 }

@@ -2,7 +2,8 @@
 use nc_memdisk::MemDisk;
 use nc_names::{Bytes, Many, Memory};
 use nc_outside::{
-    Failed, Gate, Hangup, Joined, Listener, MemListener, MemSink, MemSource, OpenGate, Source, Unheard,
+    Failed, Gate, Hangup, Joined, Listener, MemListener, MemSink, MemSource, OpenGate, Source,
+    Unheard,
 };
 use std::alloc::Global;
 use std::test::Fail;
@@ -55,7 +56,10 @@ fn the_objects_may_cross_to_another_thread(rt: HostRuntime) -> Result<(), Fail> 
     let alloc = rt.alloc();
     crosses(&MemDisk::new(Bytes::new(alloc)));
     crosses(&connection(alloc, 0)?);
-    let listener: MemListener<MemSource, MemSink, Unheard> = MemListener::new(alloc, Many::new(alloc));
+    let listener: MemListener<MemSource, MemSink, Unheard> = MemListener::new(
+        alloc,
+        Many::new(alloc),
+    );
     crosses(&listener);
     is_shared(&OpenGate);
     OpenGate.enter(1);

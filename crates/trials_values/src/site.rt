@@ -1,4 +1,7 @@
 //! The schemas and the bindings of the rows.
+ghost use Rattle.std.specs.Prelude.{ℕ, IfOk};
+ghost use Rattle.nc_schema.specs.Tables.{NamesPatterns};
+
 use nc_names::{Bound, Many, Memory, Module, QName, Text};
 use nc_schema::{Between, Deny, Kind, Node, Schema, ValueType};
 use std::alloc::Global;
@@ -79,7 +82,10 @@ fn put_module(alloc: Global, schema: &mut Schema, name: &str, space: &str) -> Re
     Ok(())
 }
 
-fn put_type(schema: &mut Schema, value_type: ValueType) -> Result<(), Memory> {
+/// Puts a type that names no pattern.
+fn put_type(schema: &mut Schema, value_type: ValueType) -> Result<(), Memory>
+    requires { (count : ℕ) → NamesPatterns count value_type }
+{
     if schema.types().len() < 100 {
         schema.add_type(value_type)?;
     }
@@ -87,14 +93,22 @@ fn put_type(schema: &mut Schema, value_type: ValueType) -> Result<(), Memory> {
 }
 
 /// A string of one of some lengths up to 5, which begins with no star where `starless` is set.
-fn chars(alloc: Global, least: i128, starless: bool) -> Result<ValueType, Memory> {
+fn chars(alloc: Global, least: i128, starless: bool) -> Result<ValueType, Memory>
+    ensures { IfOk result (λ it. (count : ℕ) → NamesPatterns count it) }
+{
     let mut lengths = Many::new(alloc);
     lengths.push(Between { least, most: 5 })?;
-    Ok(ValueType::Chars { lengths, starless })
+    Ok(ValueType::Chars {
+        lengths,
+        starless,
+        patterns: Many::new(alloc),
+    })
 }
 
 /// A union of the types 2 and 3: of itself and of a boolean.
-fn union_of_itself(alloc: Global) -> Result<ValueType, Memory> {
+fn union_of_itself(alloc: Global) -> Result<ValueType, Memory>
+    ensures { IfOk result (λ it. (count : ℕ) → NamesPatterns count it) }
+{
     let mut members = Many::new(alloc);
     members.push(2)?;
     members.push(3)?;

@@ -1,0 +1,6 @@
+pub mod Branches
+pub mod Orders
+pub mod Sides
+pub mod Beneath
+pub mod Sizes
+pub mod inner

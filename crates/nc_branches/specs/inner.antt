@@ -1,0 +1,14 @@
+pub mod Shoots
+pub mod Depths
+pub mod Order
+pub mod Views
+pub mod Forks
+pub mod Alike
+pub mod Places
+pub mod Fronts
+pub mod Putting
+pub mod Ready
+pub mod Ways
+pub mod Cuts
+pub mod Children
+pub mod Gone

@@ -1,0 +1,249 @@
+//! Rows put in the place of those at and below a path, where it is known at each node on which side the
+//! path goes on.
+ghost use Rattle.std.specs.Prelude.{◌≡◌, [], ℕ, Option, true, IfOk, IfSome};
+ghost use Rattle.std.specs.List.{starts_with};
+ghost use Rattle.std.specs.Option.{option_map_or};
+ghost use Rattle.nc_names.specs.Same as same;
+ghost use Rattle.nc_branches.specs.inner.Shoots.{rows_of};
+ghost use Rattle.nc_branches.specs.Sides.{among};
+ghost use Rattle.nc_branches.specs.inner.Gone.{HasFirst};
+ghost use Rattle.nc_branches.specs.inner.Order.{AreUnder};
+ghost use Rattle.nc_branches.specs.inner.Putting.{IsNode, IsPut, Leads};
+
+use crate::aim::Aim;
+use crate::front::fronts_of;
+use crate::part::joined;
+use crate::tree::{Tree, Twig, join};
+use crate::way::Way;
+use nc_names::{Copies, Many, Memory, Row, Step, Text, same_steps};
+use nc_schema::Schema;
+use std::alloc::Global;
+
+/// Whether a row is at some steps or below them.
+fn is_at_or_below(steps: &[Step], row: &Row) -> bool
+    ensures { result ≡ same.is_at_or_below steps.now row.now.path }
+{
+    row.path.steps.as_slice().starts_with(steps)
+}
+
+/// Whether some steps go on with others.
+fn goes_on(steps: &[Step], path: &[Step]) -> bool
+    ensures { result ≡ starts_with same.is_same_step steps.now path.now }
+{
+    steps.starts_with(path)
+}
+
+impl Twig {
+    /// Whether a path leads to the node.
+    #[tactic(auto, using(crate::proofs::Leading::leads))]
+    fn is_on_way(&self, aim: &Aim, depth: usize) -> bool
+        ensures { result ≡ true → Leads aim.now depth self.now }
+    {
+        let _under = &self.below;
+        let path = self.row.get().path.steps.as_slice();
+        let steps = aim.steps();
+        if path.len() <= depth {
+            return false;
+        }
+        if path.len() - depth != 1 {
+            return false;
+        }
+        goes_on(steps, path)
+    }
+
+    /// The node with other rows at and below a path, where it is known on which side the path goes on.
+    #[cycle(put)]
+    #[tactic(auto, using(crate::proofs::Leading::put_there, crate::proofs::Leading::put_under, crate::proofs::Leading::put_on))]
+    fn put<'b, 'a>(
+        &'a self,
+        alloc: Global,
+        aim: &Aim<'b, 'a>,
+        depth: usize,
+    ) -> Result<Option<Option<Twig>>, Memory>
+        ensures { IfOk result (λ it. IfSome it (λ here. (above : Option ℕ) →
+            IsPut aim.now depth above (rows_of self.now) (option_map_or rows_of here []))) }
+    {
+        if !self.is_on_way(aim, depth) {
+            return Ok(None);
+        }
+        let Some(step) = aim.step(depth) else {
+            return Ok(None);
+        };
+        if aim.len() == depth + 1 {
+            return Ok(Some(aim.node()?));
+        }
+        match self.below.put(alloc, aim, depth + 1, Some(step.node))? {
+            None => Ok(None),
+            Some(below) => Ok(Some(Some(self.with_below(below)?))),
+        }
+    }
+}
+
+impl Tree {
+    /// Other rows at and below a path, where it is known on which side the path goes on.
+    #[cycle(put)]
+    #[tactic(auto, using(crate::proofs::Placing::put_none))]
+    pub(crate) fn put<'b, 'a>(
+        &'a self,
+        alloc: Global,
+        aim: &Aim<'b, 'a>,
+        depth: usize,
+        above: Option<u32>,
+    ) -> Result<Option<Tree>, Memory>
+        ensures { IfOk result (λ it. IfSome it (λ tree. IsPut aim.now depth above self.now.rows tree.rows)) }
+    {
+        let Some(fork) = self.fork() else {
+            return Ok(Some(aim.planted(alloc, depth)?));
+        };
+        match fork.way(aim, depth, above) {
+            Way::Unknown => Ok(None),
+            Way::Left => match fork.left.put(alloc, aim, depth, above)? {
+                None => Ok(None),
+                Some(left) => Ok(Some(join(alloc, &left, &fork.twig, &fork.right)?)),
+            },
+            Way::Here => match fork.twig.put(alloc, aim, depth)? {
+                None => Ok(None),
+                Some(here) => Ok(Some(joined(alloc, &fork.left, here, &fork.right)?)),
+            },
+            Way::Right => match fork.right.put(alloc, aim, depth, above)? {
+                None => Ok(None),
+                Some(right) => Ok(Some(join(alloc, &fork.left, &fork.twig, &right)?)),
+            },
+        }
+    }
+}
+
+/// The node at a path that has these rows, where there is one.
+fn node_of(tree: &Tree, steps: &[Step]) -> Result<Option<Twig>, Memory>
+    ensures { IfOk result (λ it. IfSome it (λ twig. IsNode steps.now tree.now.rows twig)) }
+{
+    let Some(fork) = tree.fork() else {
+        return Ok(None);
+    };
+    if !fork.left.is_empty() {
+        return Ok(None);
+    }
+    if !fork.right.is_empty() {
+        return Ok(None);
+    }
+    if !fork.twig.is_node(steps) {
+        return Ok(None);
+    }
+    Ok(Some(fork.twig.copy()?))
+}
+
+impl Twig {
+    /// Whether it is the node at a path.
+    pub(crate) fn is_node(&self, steps: &[Step]) -> bool
+        ensures path { result ≡ true → self.now.row.path.steps ≡ steps.now }
+        ensures under { AreUnder self.now.row.path.steps self.now.below.rows }
+    {
+        let _under = &self.below;
+        same_steps(self.row.get().path.steps.as_slice(), steps)
+    }
+}
+
+impl Tree {
+    /// Rows in the place of all that stand at and below a path, where it is known on which side of its
+    /// siblings each step of the path stands; else `None`. The rows are those of a tree of the node alone.
+    #[tactic(auto, using(crate::proofs::Moving::among_without))]
+    pub fn set(
+        &self,
+        alloc: Global,
+        schema: &Schema,
+        orders: &[Many<Many<Text>>],
+        steps: &[Step],
+        block: &Tree,
+    ) -> Result<Option<Tree>, Memory>
+        ensures { IfOk result (λ it. IfSome it (λ tree.
+            tree.rows ≡ among schema.now orders.now steps.now block.now.rows self.now.rows)) }
+    {
+        if let Some(tree) = self.set_once(alloc, schema, orders, steps, block)? {
+            return Ok(Some(tree));
+        }
+        let rest = self.without(alloc, steps)?;
+        if let Some(tree) = rest.set_once(alloc, schema, orders, steps, block)? {
+            return Ok(Some(tree));
+        }
+        self.set_instead(alloc, schema, orders, steps, block)
+    }
+
+    /// The same where rows of other cases go.
+    #[tactic(auto, using(crate::proofs::Moving::among_without, crate::proofs::GoneLemmas::among_left))]
+    fn set_instead(
+        &self,
+        alloc: Global,
+        schema: &Schema,
+        orders: &[Many<Many<Text>>],
+        steps: &[Step],
+        block: &Tree,
+    ) -> Result<Option<Tree>, Memory>
+        ensures { IfOk result (λ it. IfSome it (λ tree.
+            tree.rows ≡ among schema.now orders.now steps.now block.now.rows self.now.rows)) }
+    {
+        if !block.has_first(steps) {
+            return Ok(None);
+        }
+        let rest = self.without_others(alloc, schema, steps)?;
+        let rest = rest.without(alloc, steps)?;
+        match rest.set_once(alloc, schema, orders, steps, block)? {
+            None => Ok(None),
+            Some(tree) => Ok(Some(tree)),
+        }
+    }
+
+    /// Whether the first row is at some steps or below them.
+    #[tactic(auto, using(crate::proofs::GoneLemmas::first_of))]
+    fn has_first(&self, steps: &[Step]) -> bool
+        ensures { result ≡ true → HasFirst steps.now self.now.rows }
+    {
+        match self.row(0) {
+            Some(row) => is_at_or_below(steps, row),
+            None => false,
+        }
+    }
+
+    /// The same, where what stands at the path does not move among its siblings.
+    #[tactic(auto, using(crate::proofs::Leading::none_at_all))]
+    fn set_once<'a>(
+        &'a self,
+        alloc: Global,
+        schema: &Schema,
+        orders: &'a [Many<Many<Text>>],
+        steps: &'a [Step],
+        block: &Tree,
+    ) -> Result<Option<Tree>, Memory>
+        ensures { IfOk result (λ it. IfSome it (λ tree.
+            tree.rows ≡ among schema.now orders.now steps.now block.now.rows self.now.rows)) }
+    {
+        if block.is_empty() {
+            return self.set_node(alloc, schema, orders, steps, None);
+        }
+        match node_of(block, steps)? {
+            None => Ok(None),
+            Some(twig) => self.set_node(alloc, schema, orders, steps, Some(twig)),
+        }
+    }
+
+    /// The same for a node with what is below it, or for none.
+    fn set_node<'a>(
+        &'a self,
+        alloc: Global,
+        schema: &Schema,
+        orders: &'a [Many<Many<Text>>],
+        steps: &'a [Step],
+        node: Option<Twig>,
+    ) -> Result<Option<Tree>, Memory>
+        requires { AreUnder steps.now (option_map_or rows_of node []) }
+        ensures { IfOk result (λ it. IfSome it (λ tree.
+            tree.rows
+            ≡ among schema.now orders.now steps.now (option_map_or rows_of node []) self.now.rows)) }
+    {
+        let fronts = fronts_of(alloc, orders, steps)?;
+        let aim = Aim::new(schema, &fronts, steps, node);
+        match self.put(alloc, &aim, 0, None)? {
+            None => Ok(None),
+            Some(tree) => Ok(Some(tree)),
+        }
+    }
+}

@@ -1,0 +1,469 @@
+//! A tree of rows: siblings stand in a balanced tree, each with a tree of what is below it. Copies
+//! share all but what changed.
+ghost use Rattle.std.specs.Prelude.{◌≡◌, ◌++◌, [], true, length, slice_get, IfOk, IfSome, MatchOption};
+ghost use Rattle.std.specs.Option.{option_copied};
+ghost use Rattle.nc_branches.specs.Branches.{Branches, no_branches};
+ghost use Rattle.nc_branches.specs.inner.Shoots.{Shoot, rows_of};
+ghost use Rattle.nc_branches.specs.inner.Depths.{AreLong};
+ghost use Rattle.nc_branches.specs.inner.Forks.{IsForkOf, rows_of_fork};
+ghost use Rattle.nc_branches.specs.inner.Order.{AreBefore, AreAfter, AreParted, IsOnSide, depth_of, step_cmp};
+
+use nc_names::{Copies, Memory, Row, Shared, Step};
+use std::alloc::Global;
+use std::cmp::Ordering;
+use std::marker::Model;
+use std::sync::Arc;
+
+/// Rows in their order.
+#[cycle(tree)]
+#[derive(Drop)]
+pub struct Tree {
+    root: Option<Arc<Fork>>,
+}
+
+/// A data node with what is below it. Its own row is one of the rows where it stands.
+#[cycle(tree)]
+#[derive(Drop)]
+pub(crate) struct Twig {
+    pub(crate) row: Shared<Row>,
+    pub(crate) stands: bool,
+    pub(crate) below: Tree,
+}
+
+/// A data node among its siblings. Where it is ordered, the rows on its left come before its step, and
+/// those on its right after it. Nothing rests on the height but time.
+#[cycle(tree)]
+#[derive(Drop)]
+pub(crate) struct Fork {
+    pub(crate) left: Tree,
+    pub(crate) twig: Twig,
+    pub(crate) right: Tree,
+    count: u64,
+    height: u64,
+    shortest: usize,
+    pub(crate) ordered: bool,
+}
+
+impl Model for Tree {
+    ghost use Rattle.nc_branches.specs.Branches.{Branches};
+
+    ghost Value = { Branches };
+
+    ghost use Rattle.nc_branches.specs.inner.Views.{branches_of, IsSound};
+
+    ghost view = { λ t. branches_of t.root };
+
+    ghost invariant = { λ t. IsSound t.root };
+
+    ghost use Rattle.std.proofs.Common.{arith};
+
+    ghost size = { λ b. b.cells };
+
+    ghost size_decreases = { λ a h. Prim.grind arith };
+}
+
+impl Model for Twig {
+    ghost use Rattle.std.specs.Prelude.{◌+◌};
+    ghost use Rattle.nc_branches.specs.Branches.{Branches};
+    ghost use Rattle.nc_branches.specs.inner.Shoots.{Shoot};
+    ghost use Rattle.nc_branches.specs.inner.Order.{AreUnder};
+
+    ghost Value = { Shoot };
+
+    ghost view = { λ t. record { row = t.row; stands = t.stands; below = t.below } };
+
+    ghost invariant = { λ t. AreUnder t.row.path.steps t.below.rows };
+
+    ghost use Rattle.std.proofs.Common.{arith};
+
+    ghost size = { λ b. b.below.cells + 1 };
+
+    ghost size_decreases = { λ a h. Prim.grind arith };
+}
+
+impl Copies for Tree {
+    fn copy(&self) -> Result<Tree, Memory> {
+        match &self.root {
+            None => Ok(Tree { root: None }),
+            Some(fork) => Ok(Tree {
+                root: Some(Arc::try_clone(fork)?),
+            }),
+        }
+    }
+}
+
+impl Copies for Twig {
+    fn copy(&self) -> Result<Twig, Memory> {
+        Ok(Twig {
+            row: self.row.copy()?,
+            stands: self.stands,
+            below: self.below.copy()?,
+        })
+    }
+}
+
+impl Tree {
+    /// A tree without rows. It takes no memory.
+    pub fn empty() -> Tree
+        ensures { result ≡ no_branches }
+    {
+        Tree { root: None }
+    }
+
+    /// How many rows there are.
+    pub fn len(&self) -> u64
+        ensures { result ≡ length self.now.rows }
+    {
+        match &self.root {
+            None => 0,
+            Some(fork) => fork.count,
+        }
+    }
+
+    /// Whether there is no node.
+    pub(crate) fn is_empty(&self) -> bool
+        ensures { result ≡ true → self.now.rows ≡ [] }
+    {
+        match &self.root {
+            None => true,
+            Some(_) => false,
+        }
+    }
+
+    /// No row has a shorter path.
+    #[tactic(auto, using(crate::proofs::Depths::long_none))]
+    pub(crate) fn shortest(&self) -> usize
+        ensures { AreLong result self.now.rows }
+    {
+        match &self.root {
+            None => usize::MAX,
+            Some(fork) => fork.shortest,
+        }
+    }
+
+    /// How many siblings stand one above another. Nothing rests on it but time.
+    fn height(&self) -> u64 {
+        match &self.root {
+            None => 0,
+            Some(fork) => fork.height,
+        }
+    }
+
+    /// The node at the top, with what stands on its two sides.
+    pub(crate) fn fork(&self) -> Option<&Fork>
+        ensures { MatchOption result (self.now ≡ no_branches) (λ fork. IsForkOf self.now fork.now) }
+    {
+        match &self.root {
+            None => None,
+            Some(fork) => Some(fork),
+        }
+    }
+}
+
+impl Twig {
+    /// The number of steps above the node.
+    pub(crate) fn depth(&self) -> usize
+        ensures { result ≡ depth_of self.now }
+    {
+        self.row.get().path.steps.len().saturating_sub(1)
+    }
+
+    /// The number of steps to the node.
+    pub(crate) fn len_of_path(&self) -> usize {
+        self.row.get().path.steps.len()
+    }
+
+    /// The last step to the node.
+    pub(crate) fn step(&self) -> Option<&Step>
+        ensures { option_copied result ≡ slice_get self.now.row.path.steps (depth_of self.now) }
+    {
+        self.row.get().path.steps.get(self.depth())
+    }
+
+    /// How many rows the node has with what is below it.
+    pub(crate) fn len(&self) -> Option<u64>
+        ensures { IfSome result (λ n. n ≡ length (rows_of self.now)) }
+    {
+        if self.stands {
+            self.below.len().checked_add(1)
+        } else {
+            Some(self.below.len())
+        }
+    }
+}
+
+/// How a step compares with another.
+pub(crate) fn order(step: &Step, other: &Step) -> Ordering
+    ensures { result ≡ step_cmp step.now other.now }
+{
+    step.cmp(other)
+}
+
+impl Twig {
+    /// Whether the last step to the node is the one at a depth, and comes on that side of another.
+    fn is_at(&self, side: Ordering, depth: usize, step: &Step) -> bool
+        ensures { result ≡ true → IsOnSide side depth step.now self.now }
+    {
+        let _under = &self.below;
+        if self.depth() != depth {
+            return false;
+        }
+        match self.step() {
+            Some(own) => order(own, step) == side,
+            None => false,
+        }
+    }
+}
+
+impl Tree {
+    /// Whether it is seen at once that all rows come before a step at a depth.
+    #[tactic(auto, using(crate::proofs::Sides::before_none, crate::proofs::Sides::fork_before))]
+    fn is_before(&self, depth: usize, step: &Step) -> bool
+        ensures { result ≡ true → AreBefore depth step.now self.now.rows }
+    {
+        match self.fork() {
+            None => true,
+            Some(fork) => {
+                if !fork.ordered {
+                    return false;
+                }
+                if !fork.twig.is_at(Ordering::Less, depth, step) {
+                    return false;
+                }
+                fork.right.is_before(depth, step)
+            }
+        }
+    }
+
+    /// Whether it is seen at once that all rows come after a step at a depth.
+    #[tactic(auto, using(crate::proofs::Sides::after_none, crate::proofs::Sides::fork_after))]
+    fn is_after(&self, depth: usize, step: &Step) -> bool
+        ensures { result ≡ true → AreAfter depth step.now self.now.rows }
+    {
+        match self.fork() {
+            None => true,
+            Some(fork) => {
+                if !fork.ordered {
+                    return false;
+                }
+                if !fork.twig.is_at(Ordering::Greater, depth, step) {
+                    return false;
+                }
+                fork.left.is_after(depth, step)
+            }
+        }
+    }
+}
+
+/// Whether it is seen at once that siblings stand in the order of their steps.
+fn are_parted(left: &Tree, twig: &Twig, right: &Tree) -> bool
+    ensures { result ≡ true → AreParted twig.now left.now.rows right.now.rows }
+{
+    let depth = twig.depth();
+    match twig.step() {
+        Some(step) => left.is_before(depth, step) && right.is_after(depth, step),
+        None => false,
+    }
+}
+
+impl Twig {
+    /// No row of the node has a shorter path.
+    #[tactic(auto, using(crate::proofs::Depths::long_twig))]
+    fn shortest(&self) -> usize
+        ensures { AreLong result (rows_of self.now) }
+    {
+        self.below.shortest().min(self.row.get().path.steps.len())
+    }
+}
+
+/// No row of three parts has a shorter path.
+#[tactic(auto, using(crate::proofs::Depths::long_parts))]
+fn least_of(left: &Tree, twig: &Twig, right: &Tree) -> usize
+    ensures { AreLong result (left.now.rows ++ rows_of twig.now ++ right.now.rows) }
+{
+    left.shortest().min(twig.shortest()).min(right.shortest())
+}
+
+/// How many rows three parts have.
+fn count_of(left: &Tree, twig: &Twig, right: &Tree) -> Option<u64>
+    ensures { IfSome result (λ n. n ≡ length (left.now.rows ++ rows_of twig.now ++ right.now.rows)) }
+{
+    left.len()
+        .checked_add(twig.len()?)?
+        .checked_add(right.len())
+}
+
+impl Tree {
+    /// A node among its siblings.
+    pub(crate) fn of(alloc: Global, left: Tree, twig: Twig, right: Tree) -> Result<Tree, Memory>
+        ensures { IfOk result (λ it. it.rows ≡ left.rows ++ rows_of twig ++ right.rows) }
+    {
+        let Some(count) = count_of(&left, &twig, &right) else {
+            return Err(Memory);
+        };
+        let height = left.height().max(right.height()).saturating_add(1);
+        let ordered = are_parted(&left, &twig, &right);
+        let shortest = least_of(&left, &twig, &right);
+        Ok(Tree {
+            root: Some(Arc::new(
+                alloc,
+                Fork {
+                    left,
+                    twig,
+                    right,
+                    count,
+                    height,
+                    shortest,
+                    ordered,
+                },
+            )?),
+        })
+    }
+}
+
+/// A node among its siblings, where the left side may be two levels too high.
+fn lean_left(alloc: Global, left: &Tree, twig: &Twig, right: &Tree) -> Result<Tree, Memory>
+    ensures { IfOk result (λ it. it.rows ≡ left.now.rows ++ rows_of twig.now ++ right.now.rows) }
+{
+    let Some(fork) = left.fork() else {
+        return Tree::of(alloc, left.copy()?, twig.copy()?, right.copy()?);
+    };
+    if fork.left.height() < fork.right.height() {
+        return turn_right(alloc, fork, twig, right);
+    }
+    let inner = Tree::of(alloc, fork.right.copy()?, twig.copy()?, right.copy()?)?;
+    Tree::of(alloc, fork.left.copy()?, fork.twig.copy()?, inner)
+}
+
+/// The same, where what stands between is the highest.
+fn turn_right(alloc: Global, fork: &Fork, twig: &Twig, right: &Tree) -> Result<Tree, Memory>
+    ensures { IfOk result (λ it. it.rows ≡ rows_of_fork fork.now ++ rows_of twig.now ++ right.now.rows) }
+{
+    let Some(middle) = fork.right.fork() else {
+        let inner = Tree::of(alloc, Tree::empty(), twig.copy()?, right.copy()?)?;
+        return Tree::of(alloc, fork.left.copy()?, fork.twig.copy()?, inner);
+    };
+    let first = Tree::of(
+        alloc,
+        fork.left.copy()?,
+        fork.twig.copy()?,
+        middle.left.copy()?,
+    )?;
+    let last = Tree::of(alloc, middle.right.copy()?, twig.copy()?, right.copy()?)?;
+    Tree::of(alloc, first, middle.twig.copy()?, last)
+}
+
+/// A node among its siblings, where the right side may be two levels too high.
+fn lean_right(alloc: Global, left: &Tree, twig: &Twig, right: &Tree) -> Result<Tree, Memory>
+    ensures { IfOk result (λ it. it.rows ≡ left.now.rows ++ rows_of twig.now ++ right.now.rows) }
+{
+    let Some(fork) = right.fork() else {
+        return Tree::of(alloc, left.copy()?, twig.copy()?, right.copy()?);
+    };
+    if fork.right.height() < fork.left.height() {
+        return turn_left(alloc, left, twig, fork);
+    }
+    let inner = Tree::of(alloc, left.copy()?, twig.copy()?, fork.left.copy()?)?;
+    Tree::of(alloc, inner, fork.twig.copy()?, fork.right.copy()?)
+}
+
+/// The same, where what stands between is the highest.
+fn turn_left(alloc: Global, left: &Tree, twig: &Twig, fork: &Fork) -> Result<Tree, Memory>
+    ensures { IfOk result (λ it. it.rows ≡ left.now.rows ++ rows_of twig.now ++ rows_of_fork fork.now) }
+{
+    let Some(middle) = fork.left.fork() else {
+        let inner = Tree::of(alloc, left.copy()?, twig.copy()?, Tree::empty())?;
+        return Tree::of(alloc, inner, fork.twig.copy()?, fork.right.copy()?);
+    };
+    let first = Tree::of(alloc, left.copy()?, twig.copy()?, middle.left.copy()?)?;
+    let last = Tree::of(
+        alloc,
+        middle.right.copy()?,
+        fork.twig.copy()?,
+        fork.right.copy()?,
+    )?;
+    Tree::of(alloc, first, middle.twig.copy()?, last)
+}
+
+/// A node among its siblings, where one side may be two levels too high.
+pub(crate) fn balanced(
+    alloc: Global,
+    left: &Tree,
+    twig: &Twig,
+    right: &Tree,
+) -> Result<Tree, Memory>
+    ensures { IfOk result (λ it. it.rows ≡ left.now.rows ++ rows_of twig.now ++ right.now.rows) }
+{
+    if left.height() > right.height().saturating_add(1) {
+        return lean_left(alloc, left, twig, right);
+    }
+    if right.height() > left.height().saturating_add(1) {
+        return lean_right(alloc, left, twig, right);
+    }
+    Tree::of(alloc, left.copy()?, twig.copy()?, right.copy()?)
+}
+
+/// A node among its siblings, where the left side is the higher.
+fn join_left(alloc: Global, left: &Tree, twig: &Twig, right: &Tree) -> Result<Tree, Memory>
+    ensures { IfOk result (λ it. it.rows ≡ left.now.rows ++ rows_of twig.now ++ right.now.rows) }
+{
+    if left.height() <= right.height().saturating_add(1) {
+        return balanced(alloc, left, twig, right);
+    }
+    let Some(fork) = left.fork() else {
+        return balanced(alloc, left, twig, right);
+    };
+    let joined = join_left(alloc, &fork.right, twig, right)?;
+    balanced(alloc, &fork.left, &fork.twig, &joined)
+}
+
+/// A node among its siblings, where the right side is the higher.
+fn join_right(alloc: Global, left: &Tree, twig: &Twig, right: &Tree) -> Result<Tree, Memory>
+    ensures { IfOk result (λ it. it.rows ≡ left.now.rows ++ rows_of twig.now ++ right.now.rows) }
+{
+    if right.height() <= left.height().saturating_add(1) {
+        return balanced(alloc, left, twig, right);
+    }
+    let Some(fork) = right.fork() else {
+        return balanced(alloc, left, twig, right);
+    };
+    let joined = join_right(alloc, left, twig, &fork.left)?;
+    balanced(alloc, &joined, &fork.twig, &fork.right)
+}
+
+/// A node among its siblings, however high they are.
+pub(crate) fn join(alloc: Global, left: &Tree, twig: &Twig, right: &Tree) -> Result<Tree, Memory>
+    ensures { IfOk result (λ it. it.rows ≡ left.now.rows ++ rows_of twig.now ++ right.now.rows) }
+{
+    if left.height() < right.height() {
+        return join_right(alloc, left, twig, right);
+    }
+    join_left(alloc, left, twig, right)
+}
+
+/// The last node, and what stands before it.
+fn cut_last(alloc: Global, tree: &Tree) -> Result<Option<(Tree, Twig)>, Memory>
+    ensures { IfOk result (λ it. MatchOption it (tree.now.rows ≡ [])
+        (λ cut. tree.now.rows ≡ cut.0.rows ++ rows_of cut.1)) }
+{
+    let Some(fork) = tree.fork() else {
+        return Ok(None);
+    };
+    match cut_last(alloc, &fork.right)? {
+        None => Ok(Some((fork.left.copy()?, fork.twig.copy()?))),
+        Some((rest, last)) => {
+            let joined = join(alloc, &fork.left, &fork.twig, &rest)?;
+            Ok(Some((joined, last)))
+        }
+    }
+}
+
+/// Siblings after others.
+pub(crate) fn concat(alloc: Global, left: &Tree, right: &Tree) -> Result<Tree, Memory>
+    ensures { IfOk result (λ it. it.rows ≡ left.now.rows ++ right.now.rows) }
+{
+    match cut_last(alloc, left)? {
+        None => right.copy(),
+        Some((rest, last)) => join(alloc, &rest, &last, right),
+    }
+}

@@ -2,8 +2,12 @@
 -- of a denied change.
 use Rattle.std.proofs.Common.{◌≡◌, ℕ, Bool, true, false, List, [], ◌∷◌, ◌++◌, refl}
 use Rattle.std.specs.Prelude.{codes, Option, Some, None}
+use Rattle.nc_message.specs.declared.tree.Elem.{Elem}
+use Rattle.nc_message.specs.declared.tree.Part.TheVariants.{Child, Chars}
+use Rattle.nc_message.specs.declared.tree.Part.TheBlock.{hidden-the_row-Part-0, hidden-the_row-Elem-1}
+use denote.Hole.Carrier.{hidden}
 use Rattle.nc_names.specs.declared.cause.CauseKind.TheVariants.{DataDenied}
-use Rattle.nc_names.specs.declared.path.Right.TheVariants.{Read, Create, Update, Delete}
+use Rattle.nc_names.specs.declared.path.Right.TheVariants.{Read, Create, Update, Delete, Exec}
 use Rattle.nc_names.specs.declared.path.Row.{Row}
 use Rattle.nc_names.specs.declared.path.Step.{Step}
 use Rattle.nc_schema.specs.InstancePaths.{node_pattern, pattern_step}
@@ -18,12 +22,15 @@ use Rattle.nc_model.specs.Decision.{data_decision, exec_decision, notification_d
 use Rattle.nc_model.specs.Policy.{policy_of}
 use Rattle.nc_model.specs.Sight.{may_see, visible_rows}
 use Rattle.nc_model.specs.Verdict.{changes_denied}
+use Rattle.nc_protocol.proofs.Example.{element}
+use Rattle.nc_protocol.specs.Edited.{decision_names}
+use Rattle.nc_protocol.specs.Filter.{selected}
 use Rattle.nc_protocol.specs.Reply.{names_shown}
 use Rattle.nc_protocol.specs.declared.changes.Changes.{Changes}
 use Rattle.nc_protocol.specs.declared.request.Cause.{Cause}
-use Rattle.nc_protocol.specs.Words.{read_word, create_word, delete_word, exec_word, close_session_word, kill_session_word, delete_config_word, rule_word}
+use Rattle.nc_protocol.specs.Words.{read_word, create_word, delete_word, exec_word, close_session_word, kill_session_word, delete_config_word, default_word, operation_word, rule_word}
 use Rattle.nc_model.specs.Words.{star, true_word, false_word, permit_word, update_word, netconf_module}
-use Rattle.nc_protocol.specs.declared.access.By.TheVariants.{Recovery, CloseSession, DenyAll, DenyWrite, OperationDefault, Default, Rule as ByRule}
+use Rattle.nc_protocol.specs.declared.access.By.TheVariants.{Off, Recovery, CloseSession, DenyAll, DenyWrite, OperationDefault, Default, Rule as ByRule}
 use Rattle.nc_protocol.specs.declared.access.Decision.{Decision}
 use Rattle.nc_model.specs.declared.called.Called.{Called}
 use Rattle.nc_protocol.specs.declared.peer.Peer.{Peer}
@@ -374,3 +381,63 @@ rule_is_hidden = refl
 rule_is_shown : names_shown (λ path. may_see tables told wilma path.steps) refusal ≡ rule_word ∷ codes "all" ∷ codes "no-create" ∷ []
 unfolding tables built_in own of_ex in_case leaf node step entry every dummy interfaces policy for_all told wilma at_interface ruled star refusal
 rule_is_shown = refl
+
+-- ---- what is hidden
+
+-- bob may not read the mtu of an interface
+unfoldable mtu : Pattern
+mtu = record { steps = interfaces.steps ++ record { node = 25; keys = [] } ∷ [] }
+
+unfoldable hiding : Policy
+hiding = record policy {
+  groups = record { name = codes "ops"; users = codes "bob" ∷ [] } ∷ [];
+  lists =
+      record {
+        groups = codes "ops" ∷ [];
+        rules = record { list = codes "ops-acl"; name = codes "hide-mtu"; «module» = codes "*"; kind = OfData mtu; operations = record { read = true; create = false; update = false; delete = false; exec = false }; permit = false } ∷ [];
+      } ∷ [];
+}
+
+unfoldable bob : Peer
+bob = record { user = codes "bob"; groups = []; recovery = false }
+
+bob_sees : visible_rows tables hiding bob some_rows ≡ entry_rows (at_interface (codes "dummy")) 24 (codes "dummy") ++ entry_rows (at_interface (codes "eth0")) 24 (codes "eth0")
+unfolding tables built_in own of_ex in_case leaf node step entry row entry_rows every dummy interfaces policy mtu hiding bob at_interface some_rows star
+bob_sees = refl
+
+-- <filter><interfaces><interface><mtu>9000</mtu><name/></interface></interfaces></filter>
+unfoldable of_mtu : Elem
+of_mtu = element (codes "filter") (Child (element (codes "interfaces") (Child (element (codes "interface") (Child (element (codes "mtu") (Chars (codes "9000") ∷ [])) ∷ Child (element (codes "name") []) ∷ [])) ∷ [])) ∷ [])
+
+-- a filter that asks for a hidden value finds what it finds where there is none: what is hidden goes first
+filter_finds : selected tables of_mtu some_rows ≡ entry_rows (at_interface (codes "eth0")) 24 (codes "eth0") ++ row (at_interface (codes "eth0") ++ step 25 ∷ []) (codes "9000") ∷ []
+unfolding tables built_in own of_ex in_case leaf node step entry row entry_rows every dummy interfaces policy at_interface some_rows star of_mtu element hidden-the_row-Part-0 hidden-the_row-Elem-1 hidden
+filter_finds = refl
+
+bob_finds_nothing : selected tables of_mtu (visible_rows tables hiding bob some_rows) ≡ []
+unfolding tables built_in own of_ex in_case leaf node step entry row entry_rows every dummy interfaces policy mtu hiding bob at_interface some_rows star of_mtu element hidden-the_row-Part-0 hidden-the_row-Elem-1 hidden
+bob_finds_nothing = refl
+
+-- ---- groups of the transport, the switch, and what is told of an operation
+
+-- a group that the transport names counts while external groups are on, and not else
+unfoldable zoe : Peer
+zoe = record { user = codes "zoe"; groups = codes "admin" ∷ []; recovery = false }
+
+zoe_deletes : data_decision tables policy zoe (at_interface (codes "dummy")) Delete ≡ ruled true (codes "admin-acl") (codes "permit-all")
+unfolding tables built_in own of_ex in_case leaf node step entry every dummy interfaces policy zoe at_interface ruled star
+zoe_deletes = refl
+
+zoe_is_no_admin : data_decision tables (record policy { external = false }) zoe (at_interface (codes "dummy")) Delete ≡ record { permit = false; by = Default }
+unfolding tables built_in own of_ex in_case leaf node step entry every dummy interfaces policy zoe at_interface star
+zoe_is_no_admin = refl
+
+-- access control is off
+wilma_is_free : data_decision tables (record policy { on = false }) wilma (at_interface (codes "eth0")) Delete ≡ record { permit = true; by = Off }
+unfolding tables built_in own of_ex in_case leaf node step entry every dummy interfaces policy wilma at_interface star
+wilma_is_free = refl
+
+-- alice, without a group, may not kill a session, and is told that the operation is denied by itself
+alice_kills : decision_names Exec (exec_decision for_all alice (netconf (codes "kill-session"))).by ≡ default_word ∷ operation_word ∷ []
+unfolding every dummy interfaces policy for_all alice netconf star netconf_module close_session_word kill_session_word delete_config_word
+alice_kills = refl

@@ -2,7 +2,7 @@
 use Rattle.std.proofs.Common.{◌≡◌, ℕ, List, [], ◌∷◌, ◌++◌, replicate, refl}
 use Rattle.std.specs.Fmt.{decimal}
 use Rattle.std.specs.Prelude.{codes, Some, None, false, true}
-use Rattle.nc_names.specs.declared.cause.CauseKind.TheVariants.{LockHeld, LockModified, LockPending, LockPartial, NotHeld, InUseGlobal, InUsePartial, NotLiveTarget, BadSelect, NoMatch, Limit, BadParameter}
+use Rattle.nc_names.specs.declared.cause.CauseKind.TheVariants.{LockHeld, LockModified, LockPending, LockPartial, NotHeld, InUseGlobal, InUsePartial, InUsePending, NotLiveTarget, BadSelect, NoMatch, Limit, BadParameter, UnsupportedTarget}
 use Rattle.nc_names.specs.declared.name.Bound.{Bound}
 use Rattle.nc_names.specs.declared.path.Path.{Path}
 use Rattle.nc_names.specs.declared.path.Row.{Row}
@@ -10,16 +10,19 @@ use Rattle.nc_schema.specs.InstancePaths.{instance_path, pattern_step}
 use Rattle.nc_schema.specs.PathWords.{written_step, written_name, predicate, predicate_key, quoted_string}
 use Rattle.nc_schema.specs.Values.{canonical}
 use Rattle.nc_protocol.specs.Asking.{plain_cause}
-use Rattle.nc_protocol.specs.Words.{running_word, candidate_word, lock_id_word}
-use Rattle.nc_protocol.specs.declared.asked.Asked.TheVariants.{Lock, Unlock, KillSession, DiscardChanges, PartialLock, PartialUnlock}
+use Rattle.nc_protocol.specs.Words.{running_word, candidate_word, lock_id_word, source_word}
+use Rattle.nc_protocol.specs.declared.asked.Asked.TheVariants.{CopyConfig, DeleteConfig, Lock, Unlock, KillSession, DiscardChanges, PartialLock, PartialUnlock}
 use Rattle.nc_protocol.specs.declared.asked.Select.{Select}
-use Rattle.nc_protocol.specs.declared.datastore.Datastore.TheVariants.{Running, Candidate}
+use Rattle.nc_protocol.specs.declared.datastore.Datastore.TheVariants.{Running, Candidate, Startup}
+use Rattle.nc_protocol.specs.declared.datastore.Origin.TheVariants.{Store}
 use Rattle.nc_protocol.specs.declared.peer.Peer.{Peer}
 use Rattle.nc_protocol.specs.declared.verdict.Verdict.TheVariants.{Done, Locked, Refused}
 use Rattle.nc_model.specs.State.{State, NodeLock, Pending, no_holders, opening, session_ended}
-use Rattle.nc_model.specs.Step.{changed_by}
+use Rattle.nc_model.specs.Step.{changed_by, outcome_of}
 use Rattle.nc_model.specs.Verdict.{asked_verdict, commit_refusal, kill_refusal, lock_refusal, partial_lock_refusal, unlock_refusal}
 use Rattle.nc_model.specs.Words.{partial_locks_word, lock_ids_word}
+use Rattle.nc_model.specs.declared.event.Event.TheVariants.{Start}
+use Rattle.nc_model.specs.declared.event.Outcome.TheVariants.{Full}
 use Rattle.nc_model.specs.declared.session.Session.{Session}
 use Rattle.nc_protocol.proofs.Example.{node, tables, port, name, rows_of_port}
 
@@ -214,3 +217,48 @@ unlock_of_other_lock = refl
 
 partial_unlock_is_done : changed_by (partly (top ∷ [])) 2 (PartialUnlock 3) Done ≡ record modified { last_lock = 3 }
 partial_unlock_is_done = refl
+
+-- ---- the order of checks
+
+-- another session's pending commit comes before locks, and running's lock before the candidate's
+commit_while_pending : commit_refusal (record outstanding { holders = record no_holders { running = Some 2 } }) 1 false None ≡ Some (plain_cause InUsePending (decimal 2 ∷ []))
+commit_while_pending = refl
+
+both_are_locked : commit_refusal (record both { holders = record { running = Some 2; candidate = Some 2 } }) 1 false None ≡ Some (plain_cause InUseGlobal (running_word ∷ decimal 2 ∷ []))
+both_are_locked = refl
+
+-- a copy: its target, its source, the two alike, and then the lock
+copy_to_running : asked_verdict candidate_held 1 (CopyConfig Running (Store Startup)) false ≡ Refused (plain_cause UnsupportedTarget (running_word ∷ []) ∷ [])
+copy_to_running = refl
+
+copy_of_itself : asked_verdict candidate_held 1 (CopyConfig Candidate (Store Candidate)) false ≡ Refused (plain_cause BadParameter (source_word ∷ []) ∷ [])
+copy_of_itself = refl
+
+copy_in_use : asked_verdict candidate_held 1 (CopyConfig Candidate (Store Running)) false ≡ Refused (plain_cause InUseGlobal (candidate_word ∷ decimal 2 ∷ []) ∷ [])
+copy_in_use = refl
+
+nothing_is_deleted : asked_verdict both 1 (DeleteConfig Candidate) false ≡ Refused (plain_cause UnsupportedTarget (candidate_word ∷ []) ∷ [])
+nothing_is_deleted = refl
+
+-- bob has locked both ports, and in the candidate b stands in place of a: of his locks the one with the lowest lock-id is
+-- named, and at a commit the one of the port that is deleted
+abbrev exchanged : State
+exchanged = record both {
+  candidate = Some (rows_of_port (codes "b"));
+  partial = lock_of (port (codes "b") ∷ []) ∷ record { id = 4; session = 2; nodes = port (codes "a") ∷ [] } ∷ [];
+  last_lock = 4;
+}
+
+lowest_is_named : lock_refusal exchanged 1 Running ≡ Some (plain_cause LockPartial (decimal 3 ∷ decimal 2 ∷ []))
+lowest_is_named = refl
+
+deleted_goes_first : commit_refusal exchanged 1 false None ≡ Some (plain_cause InUsePartial (decimal 4 ∷ decimal 2 ∷ []))
+unfolding node tables port name rows_of_port
+deleted_goes_first = refl
+
+-- with 64 live sessions, or once the last session-id was given, none is started
+no_place : outcome_of (record both { sessions = replicate 64 one }) (Start one.peer) false ≡ Full 64 2
+no_place = refl
+
+no_session_id : outcome_of (record both { last = 4294967295 }) (Start one.peer) false ≡ Full 2 4294967295
+no_session_id = refl

@@ -1,18 +1,19 @@
 -- A confirmed commit at work: confirmed, followed up, cancelled, and reverted at its deadline and by its session's end.
 use Rattle.std.proofs.Common.{◌≡◌, ℕ, List, [], ◌∷◌, refl}
 use Rattle.std.specs.Fmt.{decimal}
-use Rattle.std.specs.Prelude.{codes, Some, None, false, true}
-use Rattle.nc_names.specs.declared.cause.CauseKind.TheVariants.{InUsePending, NoPending, BadToken, UnknownParameter}
+use Rattle.std.specs.Prelude.{codes, Some, None, Ok, false, true}
+use Rattle.nc_names.specs.declared.cause.CauseKind.TheVariants.{InUseGlobal, InUsePartial, InUsePending, NoPending, BadToken, UnknownParameter}
 use Rattle.nc_names.specs.declared.path.Row.{Row}
 use Rattle.nc_protocol.specs.Asking.{plain_cause}
-use Rattle.nc_protocol.specs.Words.{confirmed_word}
-use Rattle.nc_protocol.specs.declared.asked.Asked.TheVariants.{Commit, CancelCommit}
+use Rattle.nc_protocol.specs.Words.{confirmed_word, running_word}
+use Rattle.nc_protocol.specs.declared.asked.Asked.TheVariants.{CloseSession, Commit, CancelCommit, KillSession}
 use Rattle.nc_protocol.specs.declared.verdict.Verdict.TheVariants.{Done}
-use Rattle.nc_model.specs.State.{State, base_of, expired, session_ended}
-use Rattle.nc_model.specs.Step.{changed_by}
+use Rattle.nc_model.specs.History.{returning}
+use Rattle.nc_model.specs.State.{State, base_of, expired, no_holders, session_ended}
+use Rattle.nc_model.specs.Step.{appends_record, changed_by}
 use Rattle.nc_model.specs.Verdict.{cancel_refusal, commit_admission, commit_refusal}
 use Rattle.nc_model.proofs.LockExample.{both, modified, ports}
-use Rattle.nc_protocol.proofs.Example.{rows_of_port}
+use Rattle.nc_protocol.proofs.Example.{node, tables, port, name, rows_of_port}
 
 abbrev a : List Row
 a = rows_of_port (codes "a")
@@ -107,3 +108,40 @@ nothing_to_cancel = refl
 -- while confirmed commits are not offered, `confirmed` is no parameter
 not_offered : commit_refusal modified 1 true None ≡ Some (plain_cause UnknownParameter (confirmed_word ∷ []))
 not_offered = refl
+
+-- ---- what is written, and what comes back
+-- a confirmed commit is not written, and after a stop its base comes back
+not_written : appends_record (Ok (Commit true 1 None None)) ≡ false
+not_written = refl
+
+base_comes_back : returning confirming [] [] ≡ a ∷ []
+base_comes_back = refl
+
+-- a new text of `persist` takes the place of the old one
+token_is_replaced : changed_by persisting 2 (Commit true 2 (Some (codes "other")) (Some token)) Done
+    ≡ record both { running = ports; pending = Some (record { base = a; deadline = 2000; token = Some (codes "other"); session = 2 }) }
+token_is_replaced = refl
+
+-- at the deadline nothing is pending any more, and the right text is a wrong one
+too_late : commit_admission (expired persisting 1000) 2 (Some token) ≡ Some (plain_cause BadToken [])
+too_late = refl
+
+-- close-session and kill-session end the session of the pending commit
+closed : changed_by confirming 1 CloseSession Done ≡ session_ended both 1
+closed = refl
+
+killed : changed_by confirming 2 (KillSession 1) Done ≡ session_ended both 1
+killed = refl
+
+-- ---- what stands against a cancel-commit
+-- it takes back port b: another session's lock of running, or of that port, is in its way
+cancel_in_use : cancel_refusal (record confirming { holders = record no_holders { running = Some 2 } }) 1 None ≡ Some (plain_cause InUseGlobal (running_word ∷ decimal 2 ∷ []))
+cancel_in_use = refl
+
+cancel_is_locked : cancel_refusal (record confirming { partial = record { id = 3; session = 2; nodes = port (codes "b") ∷ [] } ∷ []; last_lock = 3 }) 1 None ≡ Some (plain_cause InUsePartial (decimal 3 ∷ decimal 2 ∷ []))
+unfolding node tables port name rows_of_port
+cancel_is_locked = refl
+
+any_session_cancels : cancel_refusal persisting 2 (Some token) ≡ None
+unfolding node tables port name rows_of_port
+any_session_cancels = refl

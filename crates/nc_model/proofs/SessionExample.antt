@@ -25,7 +25,7 @@ use Rattle.nc_model.specs.declared.event.Outcome.TheVariants.{Started, Answered}
 use Rattle.nc_protocol.specs.declared.peer.Peer.{Peer}
 use Rattle.nc_protocol.specs.declared.verdict.Verdict.{Verdict}
 use Rattle.nc_protocol.specs.declared.verdict.Verdict.TheVariants.{Done, Refused}
-use Rattle.nc_model.specs.History.{after, IsLegal}
+use Rattle.nc_model.specs.History.{after, doubts_after, IsLegal}
 use Rattle.nc_model.specs.State.{State, no_holders, opening}
 use Rattle.nc_model.specs.Step.{Fits, outcome_of}
 use Rattle.nc_protocol.specs.Reply.{reply_of}
@@ -108,6 +108,15 @@ failed_commit_changes_nothing = refl
 next_commit_is_done : after (state [] (Some both) 3 1) (entry 4 (Requested 1 commits) (answer commits Done) 1 1 ∷ []) ≡ state both None 4 1
 unfolding node tables port name element rows_of_port answer alice asks_for commits entry state both
 next_commit_is_done = refl
+
+-- a commit that the disk refused is in doubt until one is done
+in_doubt_now : doubts_after (state [] (Some both) 2 0) [] (entry 3 (Requested 1 commits) (answer commits refused) 0 1) ≡ both ∷ []
+unfolding node tables port name element rows_of_port answer alice asks_for commits entry state both refused
+in_doubt_now = refl
+
+no_doubt_left : doubts_after (state [] (Some both) 3 1) (both ∷ []) (entry 4 (Requested 1 commits) (answer commits Done) 1 1) ≡ []
+unfolding node tables port name element rows_of_port answer alice asks_for commits entry state both
+no_doubt_left = refl
 
 began : State
 began = state [] None 0 0

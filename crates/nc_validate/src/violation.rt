@@ -4,7 +4,7 @@ ghost use Rattle.nc_schema.specs.Violations.{violations};
 ghost use Rattle.nc_protocol.specs.Refusals as meant;
 
 use crate::structural::first_structural;
-use nc_names::{Many, Memory};
+use nc_names::{CauseKind, Many, Memory};
 use nc_protocol::Cause;
 use nc_refs::first_reference;
 use nc_schema::{Schema, Violation};
@@ -26,11 +26,15 @@ fn first_violation(
     }
 }
 
-// A violation as a cause.
+// A violation as a cause. A choice at the top level is about no data node.
 fn violation_cause(alloc: Global, violation: Violation) -> Cause
     ensures { result ≡ meant.violation_cause violation }
 {
-    Cause::at(violation.kind, violation.path, Many::new(alloc))
+    let names = Many::new(alloc);
+    match violation.kind {
+        CauseKind::MandatoryChoice => Cause::inside(violation.kind, violation.path.steps, names),
+        kind => Cause::at(kind, violation.path, names),
+    }
 }
 
 /// The first constraint that a configuration breaks (RFC 7950 8.1), as the cause of a refusal. `None` means that it is

@@ -17,3 +17,4 @@ pub mod NumberLemmas
 pub mod RecordLemmas
 pub mod RecordRows
 pub mod Sent
+pub mod BodyLemmas

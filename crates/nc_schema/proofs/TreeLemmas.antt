@@ -34,7 +34,7 @@ rows_rise tables rows tree system i j d less within =
     by (inr (inr after)) = absurd (tree.ordered i j d less within after)
 
 -- an element is the first or stands behind it
-contains_cases : {X : Type 0} (y : X) (ys : List X) (x : X) → Contains (y ∷ ys) x → (y ≡ x) ⊎ Contains ys x
+pub contains_cases : {X : Type 0} (y : X) (ys : List X) (x : X) → Contains (y ∷ ys) x → (y ≡ x) ⊎ Contains ys x
 contains_cases y ys x (zero, within, here) = inl here
 contains_cases y ys x (suc k, within, here) = inr (k, omega (arith, within), here)
 

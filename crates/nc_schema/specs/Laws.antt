@@ -1,5 +1,5 @@
 -- What follows from the definitions.
-use Rattle.std.specs.Prelude.{◌≡◌, ◌⊎◌, ◌↔◌, List, [], length, false}
+use Rattle.std.specs.Prelude.{◌≡◌, ◌≤◌, ◌^◌, ◌⊎◌, ◌↔◌, ℕ, List, [], length, false}
 use Rattle.std.specs.List.{All, AllPairs, Contains}
 use Rattle.nc_names.specs.declared.path.Path.{Path}
 use Rattle.nc_names.specs.declared.path.Row.{Row}
@@ -11,7 +11,7 @@ use Rattle.nc_schema.specs.Violations.{IsValid}
 use Rattle.nc_schema.specs.Paths.{NamesNodeOf}
 use Rattle.nc_schema.specs.PathTexts.{path_text_of}
 use Rattle.nc_schema.specs.Order.{IsSystemOrdered, IsBefore}
-use Rattle.nc_schema.specs.Record.{record_body, record_size}
+use Rattle.nc_schema.specs.Record.{SpellsRecord, body_limit, record_body, record_size}
 
 -- no path is before itself, and what is before a path is before all that the path is before
 pub record OrderIsStrict : Type 0 where
@@ -66,3 +66,10 @@ EmptyIsValid = (tables : Tables) → RequiresNothing tables → IsValid tables [
 -- the size of a record is the length of its body
 abbrev pub SizeIsLength : Type 0
 SizeIsLength = (rows : List Row) → record_size rows ≡ length (record_body rows)
+
+-- a body within the limit spells one configuration of a schema whose data nodes have numbers of four bytes
+abbrev pub BodySpellsOne : Type 0
+BodySpellsOne =
+    (tables : Tables) (body : List ℕ) (rows others : List Row) → IsProperSchema tables →
+    length tables.nodes ≤ 2 ^ 32 → length body ≤ body_limit →
+    SpellsRecord tables body rows → SpellsRecord tables body others → rows ≡ others

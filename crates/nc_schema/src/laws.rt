@@ -1,6 +1,6 @@
 //! What follows from the definitions in `specs/`, each as the contract of a function that does
 //! nothing. A call of one makes its law known to the caller.
-ghost use Rattle.nc_schema.specs.Laws.{OrderIsStrict, OrderIsTotal, TextNamesOnePath, EmptyIsDataTree, RowsRise, RowsAreOneList, EmptyIsValid, SizeIsLength};
+ghost use Rattle.nc_schema.specs.Laws.{OrderIsStrict, OrderIsTotal, TextNamesOnePath, EmptyIsDataTree, RowsRise, RowsAreOneList, EmptyIsValid, SizeIsLength, BodySpellsOne};
 
 /// Document order is irreflexive and transitive.
 pub fn order_is_strict()
@@ -41,4 +41,9 @@ pub fn empty_is_valid()
 /// The size of a record is the length of its body.
 pub fn record_size_is_length()
     ensures { SizeIsLength }
+{}
+
+/// A body within the limit spells at most one configuration.
+pub fn body_spells_one()
+    ensures { BodySpellsOne }
 {}

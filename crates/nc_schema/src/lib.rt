@@ -21,8 +21,8 @@ mod violation;
 mod written;
 
 pub use laws::{
-    empty_is_data_tree, empty_is_valid, order_is_strict, order_is_total, record_size_is_length,
-    rows_are_one_list, rows_rise, text_names_one_path,
+    body_spells_one, empty_is_data_tree, empty_is_valid, order_is_strict, order_is_total,
+    record_size_is_length, rows_are_one_list, rows_rise, text_names_one_path,
 };
 pub use nc_names::Module;
 pub use node::{Case, Choice, Deny, Kind, Node};

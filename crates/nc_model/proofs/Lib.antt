@@ -9,6 +9,7 @@ pub mod OwnEnd
 pub mod KindLemmas
 pub mod GoodLemmas
 pub mod LockLemmas
+pub mod LockedLemmas
 pub mod RefusedLemmas
 pub mod SurvivingLemmas
 pub mod VerdictCauses

@@ -78,7 +78,7 @@ key_has_subject : (tables : Tables) (steps entry : List Step) → above_last ste
 key_has_subject tables steps entry above e = ap (λ (b : Bool). if b then above_last steps else steps) e ∙ above
 
 -- ---- what is above a node that is seen
-seen_above : (p : List Step → Bool) (xs ys : List Step) → list_all p (beginnings (xs ++ ys)) ≡ true → list_all p (beginnings xs) ≡ true
+pub seen_above : (p : List Step → Bool) (xs ys : List Step) → list_all p (beginnings (xs ++ ys)) ≡ true → list_all p (beginnings xs) ≡ true
 seen_above p [] ys e = refl
 seen_above p (x ∷ xs) ys e =
     both_true (p (x ∷ [])) (list_all p (map (λ above. x ∷ above) (beginnings xs))) (first_true (p (x ∷ [])) (list_all p (map (λ above. x ∷ above) (beginnings (xs ++ ys)))) e)

@@ -1,6 +1,6 @@
 -- What follows from the definitions of the server.
 use Rattle.std.specs.Prelude.{◌⊎◌, ◌≡◌, ◌≢◌, ◌↔◌, ◌+◌, ℕ, Bool, true, false, List, [], ◌∷◌, ◌++◌, length, Option, Some, None, IsSomeAnd, Ok, Result, map}
-use Rattle.std.specs.List.{Contains}
+use Rattle.std.specs.List.{All, Contains}
 use Rattle.nc_names.specs.Counts.{Rose}
 use Rattle.nc_names.specs.declared.path.Right.{Right}
 use Rattle.nc_names.specs.declared.path.Row.{Row}
@@ -13,15 +13,18 @@ use Rattle.nc_schema.specs.Violations.{IsValid}
 use Rattle.nc_protocol.specs.declared.asked.Asked.{Asked}
 use Rattle.nc_protocol.specs.declared.asked.Asked.TheVariants.{CancelCommit, CloseSession, EditConfig, KillSession}
 use Rattle.nc_protocol.specs.declared.asked.ErrorOption.TheVariants.{Rollback}
+use Rattle.nc_protocol.specs.declared.asked.Select.{Select}
 use Rattle.nc_protocol.specs.declared.peer.Peer.{Peer}
 use Rattle.nc_protocol.specs.declared.request.Cause.{Cause}
 use Rattle.nc_protocol.specs.declared.request.Request.{Request}
 use Rattle.nc_protocol.specs.declared.verdict.Verdict.TheVariants.{Done, Refused}
+use Rattle.nc_model.specs.Access.{sees_of}
 use Rattle.nc_model.specs.Decision.{data_decision, exec_decision}
 use Rattle.nc_model.specs.History.{after, IsLegal, IsMineIn}
 use Rattle.nc_model.specs.Sight.{is_open, may_see, visible_rows}
 use Rattle.nc_model.specs.State.{State, IsGood, Pending, base_of, expired, is_due, opening, read_at}
 use Rattle.nc_model.specs.Step.{Fits, appends_record, has_failed, is_commit, is_done, next}
+use Rattle.nc_model.specs.Verdict.{nodes_selected}
 use Rattle.nc_model.specs.declared.called.Called.{Called}
 use Rattle.nc_model.specs.declared.entry.Entry.{Entry}
 use Rattle.nc_model.specs.declared.event.Event.{Event}
@@ -172,6 +175,12 @@ LockGoesWithChanges =
     (s : State) (e : Entry) (session : ℕ) →
     Fits s e → s.holders.candidate ≡ Some session → (next s e).holders.candidate ≢ Some session →
     (next s e).candidate ≡ None
+
+-- the nodes that a partial lock is told to lock are seen by its session (RFC 5717 2.4.1; RFC 8341 3.2.4)
+abbrev pub LockedIsSeen : Type 0
+LockedIsSeen =
+    (s : State) (session : ℕ) (selects : List Select) →
+    All (λ path. sees_of s session path ≡ true) (nodes_selected s session selects)
 
 -- what a user sees of a configuration is a configuration: keys stand with their entries, and entries and containers
 -- with what is in them (RFC 8341 3.2.4)

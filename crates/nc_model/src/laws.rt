@@ -1,6 +1,6 @@
 //! What follows from the definitions in `specs/`, each as the contract of a function that does
 //! nothing. A call of one makes its law known to the caller.
-ghost use Rattle.nc_model.specs.Laws.{HistoriesJoin, LegalHistoriesJoin, OneEntryIsLegal, MineStays, MineGrows, OpeningIsGood, GoodStays, HistoryIsDetermined, DiskFaultHasCause, CommitAloneChangesBase, RunningChangesByFew, RefusedChangesNothing, LockGoesWithChanges, VisibleIsConfiguration, NothingIsDenied, IsEndedBetween};
+ghost use Rattle.nc_model.specs.Laws.{HistoriesJoin, LegalHistoriesJoin, OneEntryIsLegal, MineStays, MineGrows, OpeningIsGood, GoodStays, HistoryIsDetermined, DiskFaultHasCause, CommitAloneChangesBase, RunningChangesByFew, RefusedChangesNothing, LockGoesWithChanges, LockedIsSeen, VisibleIsConfiguration, NothingIsDenied, IsEndedBetween};
 ghost use Rattle.nc_model.specs.VerdictLaws.{VerdictIsWhole};
 
 /// The state after a history is that after its rest, from the state after its front.
@@ -68,6 +68,11 @@ pub fn refused_changes_nothing()
 /// Where the lock of the candidate goes, the candidate is unmodified.
 pub fn lock_goes_with_changes()
     ensures { LockGoesWithChanges }
+{}
+
+/// The nodes that a partial lock is told to lock are seen by its session.
+pub fn locked_is_seen()
+    ensures { LockedIsSeen }
 {}
 
 /// What a user sees of a configuration is a configuration.

@@ -23,7 +23,7 @@ pub use event::{Event, Outcome};
 pub use laws::{
     commit_alone_changes_base, disk_fault_has_cause, good_stays, histories_join,
     history_is_determined, is_ended_between, legal_histories_join, lock_goes_with_changes,
-    mine_grows, mine_stays, nothing_is_denied, one_entry_is_legal, opening_is_good,
+    locked_is_seen, mine_grows, mine_stays, nothing_is_denied, one_entry_is_legal, opening_is_good,
     refused_changes_nothing, running_changes_by_few, verdict_is_whole, visible_is_configuration,
 };
 pub use policy::{AccessOperations, Group, Policy, Rule, RuleKind, RuleList};

@@ -1,27 +1,15 @@
-//! What an element holds: child elements and text.
-ghost use Rattle.std.specs.Prelude.{◌≡◌, ◌++◌, not, option_to_list, IfOk};
-ghost use Rattle.std.specs.List.{list_any};
+//! The child elements of an element.
+ghost use Rattle.std.specs.Prelude.{◌≡◌, ◌++◌, option_to_list, IfOk};
 ghost use Rattle.std.specs.Option.{option_copied};
-ghost use Rattle.nc_names.specs.Signs as signs;
 ghost use Rattle.nc_protocol.specs.Asking as asking;
 ghost use Rattle.nc_protocol.specs.Content as content;
 ghost use Rattle.nc_protocol.specs.Elements as elements;
 
 use nc_message::{Elem, Part};
-use nc_names::{Many, Memory, Text, is_white};
+use nc_names::{Many, Memory};
+use nc_protocol::content::{child_of, has_text};
 
-/// The child element that a part is.
-#[tactic(auto, using(nc_protocol::proofs::ContentLemmas::elem_of_child))]
-pub(crate) fn child_of(part: &Part) -> Option<&Elem>
-    ensures { option_copied result ≡ elements.elem_of part.now }
-{
-    match part {
-        Part::Child(elem) => Some(elem.get()),
-        Part::Chars(_) => None,
-    }
-}
-
-// The same, moved out of the part.
+// The child element that a part is, moved out of it.
 #[tactic(auto, using(nc_protocol::proofs::ContentLemmas::elem_of_child))]
 fn into_child(part: Part) -> Option<Elem>
     ensures { result ≡ elements.elem_of part }
@@ -66,30 +54,6 @@ pub(crate) fn only_of(elems: Many<Elem>) -> Option<Elem>
     elems.pop()
 }
 
-// Whether a part has text that is not white space.
-fn is_text(part: &Part) -> bool
-    ensures { result ≡ list_any (λ sign. not (signs.is_white sign)) (elements.text_of part.now) }
-{
-    match part {
-        Part::Child(_) => false,
-        Part::Chars(text) => text.as_str().as_bytes().iter().any(|byte| !is_white(*byte)),
-    }
-}
-
-/// Whether there is text that is not white space.
-pub(crate) fn has_text(parts: &[Part]) -> bool
-    ensures { result ≡ elements.has_text parts.now }
-{
-    parts.iter().any(|part| is_text(part))
-}
-
-/// Whether there is a child element.
-pub(crate) fn has_child(parts: &[Part]) -> bool
-    ensures { result ≡ elements.has_child parts.now }
-{
-    parts.iter().any(|part| matches!(part, Part::Child(_)))
-}
-
 // The one child element; none where there are several.
 fn only(parts: &[Part]) -> Option<&Elem>
     ensures { option_copied result ≡ asking.only (content.children parts.now) }
@@ -114,24 +78,4 @@ pub(crate) fn only_child(elem: &Elem) -> Option<&Elem>
         return None;
     }
     only(elem.parts.as_slice())
-}
-
-fn push_text(part: &Part, text: &mut Text) -> Result<(), Memory>
-    ensures { IfOk result (λ _. text.new ≡ text.old ++ elements.text_of part.now) }
-{
-    if let Part::Chars(chars) = part {
-        text.push_str(chars.as_str())?;
-    }
-    Ok(())
-}
-
-/// The text, without that of child elements.
-pub(crate) fn whole_text(parts: &Many<Part>) -> Result<Text, Memory>
-    ensures { IfOk result (λ it. it ≡ elements.whole_text parts.now) }
-{
-    let mut text = Text::new(parts.alloc());
-    for part in parts.as_slice() {
-        push_text(part, &mut text)?;
-    }
-    Ok(text)
 }

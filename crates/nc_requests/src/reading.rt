@@ -4,9 +4,10 @@ ghost use Rattle.std.specs.Option.{option_copied};
 ghost use Rattle.nc_schema.specs.NumberTexts.{number_of};
 ghost use Rattle.nc_protocol.specs.Asking as asking;
 
-use crate::content::{children, has_child, has_text, only_child, only_of, whole_text};
+use crate::content::{children, only_child, only_of};
 use nc_message::{Attr, Elem};
 use nc_names::{Copies, Memory, Text, trimmed};
+use nc_protocol::content::{has_child, has_text, whole_text};
 use nc_protocol::{
     Datastore, Default3, ErrorOption, Origin, Select, TestOption, request_words as words,
 };
@@ -19,7 +20,7 @@ pub(crate) fn whole_text_in(elem: &Elem) -> Result<Option<Text>, Memory>
     if has_child(elem.parts.as_slice()) {
         return Ok(None);
     }
-    Ok(Some(whole_text(&elem.parts)?))
+    Ok(Some(whole_text(elem.parts.alloc(), elem.parts.as_slice())?))
 }
 
 /// The same without the white space round it.

@@ -1,12 +1,14 @@
 -- What stands above a path and beside it.
-use Rattle.std.proofs.Common.{◌≡◌, ◌||◌, ◌++◌, ℕ, Bool, false, List, [], ◌∷◌, Option, Some, None, map, refl, sym, ap, ◌∙◌}
+use Rattle.std.proofs.Common.{◌≡◌, ◌||◌, ◌++◌, Bool, true, false, List, [], ◌∷◌, Option, Some, None, map, refl, sym, ap, ◌∙◌}
 use Rattle.std.proofs.lemmas.List.{append_assoc, append-nil}
+use Rattle.std.specs.Prelude.{cond, is_some}
 use Rattle.std.specs.List.{last_or, list_any}
 use Rattle.std.specs.Option.{option_map_or}
 use Rattle.nc_names.specs.declared.path.Row.{Row}
 use Rattle.nc_names.specs.declared.path.Step.{Step}
-use Rattle.nc_schema.specs.Blocks.{above_from, above_last, entries_beside}
-use Rattle.nc_schema.specs.Standing.{above_of, entries, lacks_above}
+use Rattle.nc_names.specs.Same.{is_same_path}
+use Rattle.nc_schema.specs.Blocks.{above_from, above_last, entries_beside, row_at}
+use Rattle.nc_schema.specs.Standing.{above_of, entries, has_row, lacks_above}
 use Rattle.nc_schema.specs.Tables.{Tables}
 use Rattle.nc_tree.specs.inner.Lacking.{lacks, lacks_from}
 
@@ -42,3 +44,17 @@ pub beside_is : (rows : List Row) (steps above : List Step) (step : Step) → st
 beside_is rows steps above step is =
     sym (ap (entries_beside rows) is ∙ ap (λ o. option_map_or (λ s. entries rows (above_last (above ++ step ∷ [])) s.node) o []) (last_push None above step)
     ∙ ap (λ ss. entries rows ss step.node) (above_last_is above step))
+
+pub has_is : (rows : List Row) (steps : List Step) → is_some (row_at rows steps) ≡ has_row rows steps
+has_is [] steps = refl
+has_is (row ∷ rows) steps = by (is_same_path row.path.steps steps) (has_is rows steps)
+  where
+    by : (b : Bool) → is_some (row_at rows steps) ≡ has_row rows steps → is_some (cond b (Some row) (row_at rows steps)) ≡ (b || has_row rows steps)
+    by true same = refl
+    by false same = same
+
+pub has_some : (rows : List Row) (steps : List Step) (row : Row) → row_at rows steps ≡ Some row → true ≡ has_row rows steps
+has_some rows steps row is = ap is_some (sym is) ∙ has_is rows steps
+
+pub has_none : (rows : List Row) (steps : List Step) → row_at rows steps ≡ None → false ≡ has_row rows steps
+has_none rows steps is = ap is_some (sym is) ∙ has_is rows steps

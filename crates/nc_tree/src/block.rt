@@ -1,32 +1,31 @@
 //! The rows at and below one node, and such rows among the others.
-ghost use Rattle.std.specs.Prelude.{◌≡◌, ◌∷◌, ◌++◌, [], List, IfOk, OnOk, OnErr, Some, None, not};
+ghost use Rattle.std.specs.Prelude.{◌≡◌, ◌∷◌, ◌++◌, [], List, IfOk, Some, None, map, not};
 ghost use Rattle.std.specs.List.{filter, last_or, list_any};
 ghost use Rattle.std.specs.Option.{option_copied, option_map_or};
 ghost use Rattle.nc_schema.specs.Blocks as blocks;
 ghost use Rattle.nc_schema.specs.Configuration.{key_rows};
 ghost use Rattle.nc_schema.specs.Standing as meant;
 ghost use Rattle.nc_names.specs.declared.path.Row.{Row};
-ghost use Rattle.nc_tree.specs.inner.Cuts.{IsCut};
-ghost use Rattle.nc_tree.specs.inner.Sides as sides;
+ghost use Rattle.nc_branches.specs.Sides as sides;
 
-use crate::cut::{cut_for, put_at};
 use crate::standing::{before_in, excludes, is_at_or_below, orders_of};
-use nc_names::{Copies, Many, Memory, Path, Place, Row, Step, Text};
+use nc_branches::Tree;
+use nc_names::{Copies, Many, Memory, Path, Place, Row, Shared, Step, Text};
 use nc_schema::{Kind, Node, Schema};
 use std::alloc::Global;
 
-fn is_excluded(schema: &Schema, block: &Many<Row>, steps: &Many<Step>) -> bool
+fn is_excluded(schema: &Schema, block: &Many<Shared<Row>>, steps: &Many<Step>) -> bool
     ensures { result ≡ list_any (λ added. meant.excludes schema.now added.path.steps steps.now) block.now }
 {
     block
         .as_slice()
         .iter()
-        .any(|added| excludes(schema, &added.path.steps, steps))
+        .any(|added| excludes(schema, &added.get().path.steps, steps))
 }
 
 /// Whether a row stays beside new rows at a node.
-#[tactic(auto, unfolding(crate::specs::inner::Sides::stays))]
-pub(crate) fn stays(schema: &Schema, path: &Path, block: &Many<Row>, row: &Row) -> bool
+#[tactic(auto, unfolding(nc_branches::specs::Sides::stays))]
+fn stays(schema: &Schema, path: &Path, block: &Many<Shared<Row>>, row: &Row) -> bool
     ensures { result ≡ sides.stays schema.now path.now.steps block.now row.now }
 {
     !(is_at_or_below(&path.steps, &row.path) || is_excluded(schema, block, &row.path.steps))
@@ -36,15 +35,15 @@ pub(crate) fn stays(schema: &Schema, path: &Path, block: &Many<Row>, row: &Row) 
 fn other_rows(
     alloc: Global,
     schema: &Schema,
-    rows: &Many<Row>,
+    rows: &Many<Shared<Row>>,
     path: &Path,
-    block: &Many<Row>,
-) -> Result<Many<Row>, Memory>
+    block: &Many<Shared<Row>>,
+) -> Result<Many<Shared<Row>>, Memory>
     ensures { IfOk result (λ it. it ≡ filter (sides.stays schema.now path.now.steps block.now) rows.now) }
 {
     let mut others = Many::new(alloc);
     for row in rows.as_slice() {
-        if stays(schema, path, block, row) {
+        if stays(schema, path, block, row.get()) {
             others.push(row.copy()?)?;
         }
     }
@@ -52,13 +51,8 @@ fn other_rows(
 }
 
 /// Whether a row stands before the node to which the orders are.
-#[tactic(auto, unfolding(crate::specs::inner::Sides::is_front))]
-pub(crate) fn is_in_front(
-    schema: &Schema,
-    orders: &Many<Many<Many<Text>>>,
-    path: &Path,
-    row: &Row,
-) -> bool
+#[tactic(auto, unfolding(nc_branches::specs::Sides::is_front))]
+fn is_in_front(schema: &Schema, orders: &Many<Many<Many<Text>>>, path: &Path, row: &Row) -> bool
     ensures { result ≡ sides.is_front schema.now orders.now path.now.steps row.now }
 {
     before_in(
@@ -75,9 +69,9 @@ fn joined(
     schema: &Schema,
     orders: &Many<Many<Many<Text>>>,
     path: &Path,
-    block: Many<Row>,
-    others: Many<Row>,
-) -> Result<Many<Row>, Memory>
+    block: Many<Shared<Row>>,
+    others: Many<Shared<Row>>,
+) -> Result<Many<Shared<Row>>, Memory>
     ensures { IfOk result (λ it. it ≡ filter
         (sides.is_front schema.now orders.now path.now.steps) others ++ block
         ++ filter (λ row. not (sides.is_front schema.now orders.now path.now.steps row)) others) }
@@ -85,7 +79,7 @@ fn joined(
     let mut front = Many::new(alloc);
     let mut back = Many::new(alloc);
     for row in others.into_vec() {
-        if is_in_front(schema, orders, path, &row) {
+        if is_in_front(schema, orders, path, row.get()) {
             front.push(row)?;
         } else {
             back.push(row)?;
@@ -96,65 +90,66 @@ fn joined(
     Ok(front)
 }
 
-/// The rows at and below a node give way to others, which are put in a place; all rows are copied.
-fn with_copies(
+/// The rows at and below a node give way to others, which are put in a place.
+fn with_others(
     alloc: Global,
     schema: &Schema,
     orders: &Many<Many<Many<Text>>>,
     path: &Path,
-    block: Many<Row>,
-    rows: &Many<Row>,
-) -> Result<Many<Row>, Memory>
+    block: Many<Shared<Row>>,
+    rows: &Many<Shared<Row>>,
+) -> Result<Many<Shared<Row>>, Memory>
     ensures { IfOk result (λ it. it ≡ sides.among schema.now orders.now path.now.steps block rows.now) }
 {
     let others = other_rows(alloc, schema, rows, path, &block)?;
     joined(alloc, schema, orders, path, block, others)
 }
 
-/// The same, where that is a cut: the rows are moved.
-fn with_moves(
-    schema: &Schema,
-    orders: &Many<Many<Many<Text>>>,
-    path: &Path,
-    block: Many<Row>,
-    rows: &mut Many<Row>,
-    at: usize,
-) -> Result<(), Memory>
-    requires cut { IsCut (sides.is_front schema.now orders.now path.now.steps) at
-        (filter (sides.stays schema.now path.now.steps block) rows.old) }
-    ensures ok { OnOk result (rows.new ≡ sides.among schema.now orders.now path.now.steps block rows.old) }
-    ensures err { OnErr result (rows.new ≡ rows.old) }
+/// The rows of a tree, as a list.
+pub(crate) fn copied_rows(alloc: Global, tree: &Tree) -> Result<Many<Row>, Memory>
+    ensures { IfOk result (λ it. it ≡ tree.now.rows) }
 {
-    let alloc = rows.alloc();
-    let mut items = std::mem::replace(rows, Many::new(alloc)).into_vec();
-    let room = items.reserve(block.len());
-    if room.is_err() {
-        *rows = Many::from_vec(items);
-        return Err(Memory);
-    }
-    *rows = Many::from_vec(put_at(schema, path, block, items, at));
-    Ok(())
+    let mut found = Many::new(alloc);
+    tree.push_rows(&mut found)?;
+    copied(alloc, found.as_slice())
 }
 
-/// The rows at and below a node give way to others, which are put in a place. Where memory ends nothing
-/// is changed.
+/// Copies of rows.
+pub(crate) fn copied(alloc: Global, rows: &[&Row]) -> Result<Many<Row>, Memory>
+    ensures { IfOk result (λ it. it ≡ map (λ row. row.now) rows.now) }
+{
+    let mut all = Many::new(alloc);
+    for row in rows {
+        all.push(row.copy()?)?;
+    }
+    Ok(all)
+}
+
+/// The rows of a tree, shared.
+pub(crate) fn shared_rows(alloc: Global, tree: &Tree) -> Result<Many<Shared<Row>>, Memory>
+    ensures { IfOk result (λ it. it ≡ tree.now.rows) }
+{
+    let mut rows = Many::new(alloc);
+    tree.push_shared(&mut rows)?;
+    Ok(rows)
+}
+
+/// The rows at and below a node give way to others, which are put in a place.
 pub(crate) fn put_block(
+    alloc: Global,
     schema: &Schema,
-    rows: &mut Many<Row>,
+    tree: &Tree,
     path: &Path,
     place: &Place,
-    block: Many<Row>,
-) -> Result<(), Memory>
-    ensures ok { OnOk result (rows.new ≡ blocks.with_block schema.now rows.old path.now place.now block) }
-    ensures err { OnErr result (rows.new ≡ rows.old) }
+    block: &Tree,
+) -> Result<Many<Shared<Row>>, Memory>
+    ensures { IfOk result (λ it. it
+        ≡ blocks.with_block schema.now tree.now.rows path.now place.now block.now.rows) }
 {
-    let alloc = rows.alloc();
-    let orders = orders_of(alloc, schema, rows, place, &path.steps)?;
-    if let Some(at) = cut_for(schema, &orders, path, &block, rows.as_slice()) {
-        return with_moves(schema, &orders, path, block, rows, at);
-    }
-    *rows = with_copies(alloc, schema, &orders, path, block, rows)?;
-    Ok(())
+    let orders = orders_of(alloc, schema, tree, place, &path.steps)?;
+    let rows = shared_rows(alloc, tree)?;
+    let block = shared_rows(alloc, block)?;
+    with_others(alloc, schema, &orders, path, block, &rows)
 }
 
 fn one_row(alloc: Global, path: &Path, value: &Option<Text>) -> Result<Many<Row>, Memory>

@@ -1,23 +1,25 @@
 //! A configuration, seen as the list of its rows.
-ghost use Rattle.std.specs.Prelude.{◌≡◌, [], map, length, slice_get, IfOk, OnOk, OnErr};
-ghost use Rattle.std.specs.List.{position};
+ghost use Rattle.std.specs.Prelude.{◌≡◌, ◌↔◌, [], map, length, slice_get, IfOk, IsTrue, OnOk, OnErr};
 ghost use Rattle.std.specs.Option.{option_copied};
-ghost use Rattle.nc_names.specs.Same.{is_same_path};
+ghost use Rattle.nc_names.specs.Same.{is_same_rows};
 ghost use Rattle.nc_schema.specs.Blocks.{row_at, with_block};
 ghost use Rattle.nc_schema.specs.Standing.{block_at};
-ghost use Rattle.nc_tree.specs.Rows.{with_row, without_block};
+ghost use Rattle.nc_branches.specs.Branches.{replaced, without_block};
+ghost use Rattle.nc_tree.specs.Rows.{with_row};
 
-use crate::block::{put_block, rows_of_node};
-use crate::standing::is_at_or_below;
-use nc_names::{Copies, Many, Memory, Path, Place, Row, same_steps};
+use crate::block::{copied_rows, put_block, rows_of_node, shared_rows};
+use crate::standing::orders_of;
+use nc_branches::Tree;
+use nc_names::{Copies, Many, Memory, Path, Place, Row, Shared};
 use nc_schema::Schema;
 use std::alloc::Global;
 use std::marker::Model;
 
-/// A configuration: contracts see the list of its rows.
-#[derive(Debug, Drop)]
+/// A configuration: contracts see the list of its rows. Copies share all but what changed.
+#[derive(Drop)]
 pub struct Config {
-    items: Many<Row>,
+    alloc: Global,
+    tree: Tree,
 }
 
 impl Model for Config {
@@ -26,15 +28,20 @@ impl Model for Config {
 
     ghost Value = { List Row };
 
-    ghost view = { λ c. c.items };
+    ghost view = { λ c. c.tree.rows };
 }
 
 impl Config {
-    /// The rows, as the list that keeps them.
-    pub(crate) fn list(&self) -> &Many<Row>
-        ensures { result.now ≡ self.now }
+    /// The rows, as the tree that keeps them.
+    pub(crate) fn tree(&self) -> &Tree
+        ensures { result.now.rows ≡ self.now }
     {
-        &self.items
+        &self.tree
+    }
+
+    /// The allocator with which it grows.
+    pub(crate) fn alloc(&self) -> Global {
+        self.alloc
     }
 
     /// A configuration without rows. It takes no memory until it grows.
@@ -42,36 +49,49 @@ impl Config {
         ensures { result ≡ [] }
     {
         Config {
-            items: Many::new(alloc),
+            alloc,
+            tree: Tree::empty(),
         }
     }
 
-    /// The configuration that has these rows. It takes no memory.
-    pub fn from_rows(rows: Many<Row>) -> Config
-        ensures { result ≡ rows }
+    /// The configuration that has these rows.
+    pub fn from_rows(rows: Many<Row>) -> Result<Config, Memory>
+        ensures { IfOk result (λ it. it ≡ rows) }
     {
-        Config { items: rows }
+        let alloc = rows.alloc();
+        Ok(Config {
+            alloc,
+            tree: Tree::from_rows(alloc, rows, 0)?,
+        })
     }
 
-    /// The list of the rows. It takes no memory.
-    pub fn into_rows(self) -> Many<Row>
-        ensures { result ≡ self }
+    /// The list of the rows.
+    pub fn into_rows(self) -> Result<Many<Row>, Memory>
+        ensures { IfOk result (λ it. it ≡ self) }
     {
-        self.items
+        copied_rows(self.alloc, &self.tree)
     }
 
     /// How many rows there are.
     pub fn len(&self) -> u64
         ensures { result ≡ length self.now }
     {
-        self.items.len() as u64
+        self.tree.len()
+    }
+
+    /// Whether another configuration has the same rows in the same order. It takes no memory.
+    pub fn is_same(&self, other: &Config) -> bool
+        ensures same { IsTrue result ↔ (self.now ≡ other.now) }
+        ensures word { result ≡ is_same_rows self.now other.now }
+    {
+        self.tree.is_same(&other.tree)
     }
 
     /// The row at a place, counted from 0 in document order, or `None` past the last.
     pub fn row(&self, place: u64) -> Option<&Row>
         ensures { option_copied result ≡ slice_get self.now place }
     {
-        self.items.get(place as usize)
+        self.tree.row(place)
     }
 
     /// All rows in document order.
@@ -79,40 +99,48 @@ impl Config {
         ensures { IfOk result (λ it. map (λ row. row.now) it ≡ self.now) }
     {
         let mut rows = Many::new(alloc);
-        for row in self.items.as_slice() {
-            rows.push(row)?;
-        }
+        self.tree.push_rows(&mut rows)?;
         Ok(rows)
     }
 
-    /// All rows in document order, as they are kept.
-    pub fn as_slice(&self) -> &[Row]
-        ensures { result.now ≡ self.now }
+    /// All rows in document order, shared.
+    pub fn shared(&self, alloc: Global) -> Result<Many<Shared<Row>>, Memory>
+        ensures { IfOk result (λ it. it ≡ self.now) }
     {
-        self.items.as_slice()
+        shared_rows(alloc, &self.tree)
     }
 
     /// The row at a path, where there is one.
     pub fn get(&self, path: &Path) -> Option<&Row>
         ensures { option_copied result ≡ row_at self.now path.now.steps }
     {
-        self.items.as_slice().iter().find(|row| is_at(row, path))
+        self.tree.get(path.steps.as_slice())
     }
 
     /// Puts a row: where its path stands the row gets the value, and else it goes to its place, an
     /// entry together with the rows of its keys (RFC 7950 7.7.9, 7.8.6). Rows of other cases go
     /// (RFC 7950 7.9). Where memory ends nothing is changed.
+    #[tactic(auto, using(crate::proofs::Rows::put_there, crate::proofs::Rows::put_new))]
     pub fn put(&mut self, schema: &Schema, row: Row, place: &Place) -> Result<(), Memory>
         ensures ok { OnOk result (self.new ≡ with_row schema.now self.old row place.now) }
         ensures err { OnErr result (self.new ≡ self.old) }
     {
-        let alloc = self.items.alloc();
-        if let Some(at) = place_of(self.items.as_slice(), &row.path) {
-            self.items.set(at, row);
-            return Ok(());
+        if self.has(&row.path) {
+            return self.replace(row);
         }
-        let block = rows_of_node(alloc, schema, &row.path, &row.value)?;
+        let block = rows_of_node(self.alloc, schema, &row.path, &row.value)?;
         self.set_block(schema, &row.path, place, block)
+    }
+
+    /// Puts a row in the place of the first one at its path.
+    fn replace(&mut self, row: Row) -> Result<(), Memory>
+        ensures ok { OnOk result (self.new ≡ replaced self.old row) }
+        ensures err { OnErr result (self.new ≡ self.old) }
+    {
+        let row = Shared::new(self.alloc, row)?;
+        let tree = self.tree.replaced(self.alloc, &row)?;
+        self.tree = tree;
+        Ok(())
     }
 
     /// Puts rows in the place of all that stand at or below a path. Rows of other cases go (RFC 7950
@@ -127,50 +155,110 @@ impl Config {
         ensures ok { OnOk result (self.new ≡ with_block schema.now self.old path.now place.now block) }
         ensures err { OnErr result (self.new ≡ self.old) }
     {
-        put_block(schema, &mut self.items, path, place, block)
+        let tree = with_block(self.alloc, &self.tree, schema, path, place, block)?;
+        self.tree = tree;
+        Ok(())
     }
 
-    /// Drops every row at or below a path, and answers how many there were. It takes no memory.
-    pub fn remove(&mut self, path: &Path) -> u64
-        ensures rows { self.new ≡ without_block self.old path.now.steps }
-        ensures count { result ≡ length (block_at self.old path.now.steps) }
+    /// The same with rows that are shared, which are not copied.
+    pub fn set_shared(
+        &mut self,
+        schema: &Schema,
+        path: &Path,
+        place: &Place,
+        block: &[Shared<Row>],
+    ) -> Result<(), Memory>
+        ensures ok { OnOk result (self.new ≡ with_block schema.now self.old path.now place.now block.now) }
+        ensures err { OnErr result (self.new ≡ self.old) }
     {
-        let before = self.items.len();
-        let alloc = self.items.alloc();
-        let items = std::mem::replace(&mut self.items, Many::new(alloc)).into_vec();
-        let kept = without_block(path, items);
-        let dropped = before - kept.len();
-        self.items = kept;
-        dropped as u64
+        let depth = path.steps.len().saturating_sub(1);
+        let block = Tree::from_shared(self.alloc, block, depth)?;
+        self.tree = with_tree(self.alloc, &self.tree, schema, path, place, &block)?;
+        Ok(())
+    }
+
+    /// The same with all rows of another configuration, which are shared.
+    pub fn set_part(
+        &mut self,
+        schema: &Schema,
+        path: &Path,
+        place: &Place,
+        part: &Config,
+    ) -> Result<(), Memory>
+        ensures ok { OnOk result (self.new ≡ with_block schema.now self.old path.now place.now part.now) }
+        ensures err { OnErr result (self.new ≡ self.old) }
+    {
+        self.tree = with_tree(self.alloc, &self.tree, schema, path, place, &part.tree)?;
+        Ok(())
+    }
+
+    /// The rows at a path and below it, as a configuration that shares them.
+    pub fn part(&self, path: &Path) -> Result<Config, Memory>
+        ensures { IfOk result (λ it. it ≡ block_at self.now path.now.steps) }
+    {
+        Ok(Config {
+            alloc: self.alloc,
+            tree: self.tree.part(self.alloc, path.steps.as_slice())?,
+        })
+    }
+
+    /// Drops every row at or below a path, and answers how many there were. Where memory ends nothing
+    /// is changed.
+    #[tactic(auto, using(crate::proofs::Rows::dropped))]
+    pub fn remove(&mut self, path: &Path) -> Result<u64, Memory>
+        ensures rows { OnOk result (self.new ≡ without_block self.old path.now.steps) }
+        ensures count { IfOk result (λ n. n ≡ length (block_at self.old path.now.steps)) }
+        ensures err { OnErr result (self.new ≡ self.old) }
+    {
+        let before = self.tree.len();
+        let tree = self.tree.without(self.alloc, path.steps.as_slice())?;
+        let dropped = before - tree.len();
+        self.tree = tree;
+        Ok(dropped)
     }
 }
 
-fn is_at(row: &Row, path: &Path) -> bool
-    ensures { result ≡ is_same_path row.now.path.steps path.now.steps }
+/// Other rows at and below a path: in the tree, where it is known on which side of its siblings each
+/// step of the path stands, and else in a list of all rows.
+fn with_block(
+    alloc: Global,
+    tree: &Tree,
+    schema: &Schema,
+    path: &Path,
+    place: &Place,
+    block: Many<Row>,
+) -> Result<Tree, Memory>
+    ensures { IfOk result (λ it. it.rows ≡ with_block schema.now tree.now.rows path.now place.now block) }
 {
-    same_steps(row.path.steps.as_slice(), path.steps.as_slice())
+    let block = Tree::from_rows(alloc, block, path.steps.len().saturating_sub(1))?;
+    with_tree(alloc, tree, schema, path, place, &block)
 }
 
-/// The place of the row at a path, where there is one.
-fn place_of(rows: &[Row], path: &Path) -> Option<usize>
-    ensures { result ≡ position (λ row. is_same_path row.path.steps path.now.steps) rows.now }
+/// The same with the rows of a tree.
+fn with_tree(
+    alloc: Global,
+    tree: &Tree,
+    schema: &Schema,
+    path: &Path,
+    place: &Place,
+    block: &Tree,
+) -> Result<Tree, Memory>
+    ensures { IfOk result (λ it. it.rows ≡ with_block schema.now tree.now.rows path.now place.now block.now.rows) }
 {
-    rows.iter().position(|row| is_at(row, path))
-}
-
-/// The rows that are not at or below a path.
-fn without_block(path: &Path, rows: Vec<Row>) -> Many<Row>
-    ensures { result ≡ without_block rows.items path.now.steps }
-{
-    let mut rows = rows;
-    rows.retain(|row| !is_at_or_below(&path.steps, &row.path));
-    Many::from_vec(rows)
+    let orders = orders_of(alloc, schema, tree, place, &path.steps)?;
+    let steps = path.steps.as_slice();
+    if let Some(set) = tree.set(alloc, schema, orders.as_slice(), steps, block)? {
+        return Ok(set);
+    }
+    let rows = put_block(alloc, schema, tree, path, place, block)?;
+    Tree::from_shared(alloc, rows.as_slice(), 0)
 }
 
 impl Copies for Config {
     fn copy(&self) -> Result<Config, Memory> {
         Ok(Config {
-            items: self.items.copy()?,
+            alloc: self.alloc,
+            tree: self.tree.copy()?,
         })
     }
 }

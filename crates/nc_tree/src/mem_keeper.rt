@@ -11,7 +11,7 @@ use std::marker::Model;
 
 /// Keeps the base in memory, and fails at the calls of `keep` that are listed, counted from 1. A next
 /// start finds nothing of it, and so it promises nothing of what a crash leaves.
-#[derive(Debug, Drop)]
+#[derive(Drop)]
 pub struct MemKeeper {
     base: Config,
     failing: Many<u64>,

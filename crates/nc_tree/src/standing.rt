@@ -1,18 +1,15 @@
 //! Where nodes stand among the rows of a configuration.
-ghost use Rattle.std.specs.Prelude.{◌≡◌, ◌∷◌, [], ◌==◌, ◌&&◌, ◌≤◌, if◌then◌else◌, not, ltb, length, take, drop, IfOk, OnOk, None, ◌++◌};
-ghost use Rattle.std.specs.List.{list_any};
-ghost use Rattle.std.specs.Ordering.{nat_cmp};
-ghost use Rattle.std.specs.Cmp.Lexicographic.{slice_cmp};
-ghost use Rattle.std.specs.Option.{option_copied};
+ghost use Rattle.std.specs.Prelude.{◌≡◌, ◌∷◌, ◌++◌, ◌≤◌, [], None, length, take, drop, IfOk, OnOk};
 ghost use Rattle.nc_names.specs.Same as same;
 ghost use Rattle.nc_schema.specs.Order as document;
 ghost use Rattle.nc_schema.specs.Standing as meant;
-ghost use Rattle.nc_tree.specs.inner.Orders.{before_in, first_order, order_there, orders_of};
+ghost use Rattle.nc_branches.specs.Beneath.{keys_of};
+ghost use Rattle.nc_branches.specs.Orders.{before_in, first_order, order_there, orders_of};
 
+use nc_branches::{Tree, child_before, is_by_user, is_same_step, keys_before, stands_before};
 use nc_names::{Copies, Many, Memory, Path, Place, Row, Step, Text, same_keys, tail};
-use nc_schema::{Case, Schema};
+use nc_schema::Schema;
 use std::alloc::Global;
-use std::cmp::Ordering;
 
 /// Whether a node is that of these steps, or below it.
 pub(crate) fn is_at_or_below(steps: &Many<Step>, path: &Path) -> bool
@@ -21,145 +18,34 @@ pub(crate) fn is_at_or_below(steps: &Many<Step>, path: &Path) -> bool
     path.steps.as_slice().starts_with(steps.as_slice())
 }
 
-fn is_same_step(step: &Step, other: &Step) -> bool
-    ensures { result ≡ same.is_same_step step.now other.now }
-{
-    step == other
-}
-
-/// Whether a case is of the choice of another in the list, and is not that one.
-fn differs_from(one: &Case, others: &[Case]) -> bool
-    ensures { result ≡ list_any
-        (λ other. one.now.choice == other.choice && not (one.now.case == other.case)) others.now }
-{
-    others.iter().any(|other| one.choice == other.choice && one.case != other.case)
-}
-
-fn cases_differ(cases: &[Case], others: &[Case]) -> bool
-    ensures { result ≡ meant.cases_differ cases.now others.now }
-{
-    cases.iter().any(|one| differs_from(one, others))
-}
-
-fn are_of_other_cases(schema: &Schema, number: u32, other: u32) -> bool
-    ensures { result
-        ≡ meant.cases_differ (meant.cases_of schema.now number) (meant.cases_of schema.now other) }
-{
-    cases_differ(cases_of(schema, number), cases_of(schema, other))
-}
-
-fn cases_of(schema: &Schema, number: u32) -> &[Case]
-    ensures { result.now ≡ meant.cases_of schema.now number }
-{
-    match schema.node(number) {
-        Some(node) => node.cases.as_slice(),
-        None => &[],
-    }
-}
-
-/// Whether two nodes belong to two cases of one choice.
+/// Whether two nodes belong to two cases of one choice (RFC 7950 7.9).
 pub fn excludes(schema: &Schema, steps: &Many<Step>, others: &Many<Step>) -> bool
     ensures { result ≡ meant.excludes schema.now steps.now others.now }
 {
-    let mut rest = others.as_slice();
-    for step in steps.as_slice() {
-        let Some((other, more)) = rest.split_first() else {
-            return false;
-        };
-        if !is_same_step(step, other) {
-            return are_of_other_cases(schema, step.node, other.node);
-        }
-        rest = more;
-    }
-    false
-}
-
-/// Whether a data node comes before another among the children of a parent with these keys.
-fn place_before(keys: &Many<u32>, number: u32, other: u32) -> bool
-    ensures { result ≡ ltb (document.sibling_place keys.now number) (document.sibling_place keys.now other) }
-{
-    for key in keys.as_slice() {
-        if number == *key {
-            return other != *key;
-        }
-        if other == *key {
-            return false;
-        }
-    }
-    number < other
-}
-
-fn child_before(schema: &Schema, above: Option<u32>, number: u32, other: u32) -> bool
-    ensures { result ≡ ltb (document.sibling_place (document.keys_above schema.now above) number)
-        (document.sibling_place (document.keys_above schema.now above) other) }
-{
-    match above {
-        Some(parent) => match schema.node(parent) {
-            Some(node) => place_before(&node.keys, number, other),
-            None => number < other,
-        },
-        None => number < other,
-    }
-}
-
-fn is_by_user(schema: &Schema, number: u32) -> bool
-    ensures { result ≡ meant.is_by_user schema.now number }
-{
-    match schema.node(number) {
-        Some(node) => node.by_user,
-        None => false,
-    }
-}
-
-fn keys_before(keys: &Many<Text>, others: &Many<Text>) -> bool
-    ensures { result ≡ meant.is_less (slice_cmp (slice_cmp nat_cmp) keys.now others.now) }
-{
-    keys.as_slice().cmp(others.as_slice()) == Ordering::Less
-}
-
-/// The keys in a path to an entry of that list or leaf-list, where the path is that of one.
-fn keys_in<'a>(above: &[Step], number: u32, steps: &'a Many<Step>) -> Option<&'a Many<Text>>
-    ensures { option_copied result ≡ meant.keys_in above.now number steps.now }
-{
-    let mut rest = steps.as_slice();
-    for over in above {
-        let Some((step, more)) = rest.split_first() else {
-            return None;
-        };
-        if !is_same_step(over, step) {
-            return None;
-        }
-        rest = more;
-    }
-    only_keys(rest, number)
-}
-
-fn only_keys(steps: &[Step], number: u32) -> Option<&Many<Text>>
-    ensures { option_copied result ≡ meant.keys_in [] number steps.now }
-{
-    let Some((step, more)) = steps.split_first() else {
-        return None;
-    };
-    if more.is_empty() && step.node == number {
-        return Some(&step.keys);
-    }
-    None
+    nc_branches::excludes(schema, steps.as_slice(), others.as_slice())
 }
 
 /// The entries of a list or leaf-list, in their order.
 pub(crate) fn entries(
     alloc: Global,
-    rows: &Many<Row>,
+    tree: &Tree,
     above: &[Step],
     number: u32,
 ) -> Result<Many<Many<Text>>, Memory>
-    ensures { IfOk result (λ it. it ≡ meant.entries rows.now above.now number) }
+    ensures { IfOk result (λ it. it ≡ meant.entries tree.now.rows above.now number) }
+{
+    let mut found = Many::new(alloc);
+    tree.push_entries(above, number, &mut found)?;
+    copied_keys(alloc, found.as_slice())
+}
+
+/// Copies of keys.
+fn copied_keys(alloc: Global, found: &[&Many<Text>]) -> Result<Many<Many<Text>>, Memory>
+    ensures { IfOk result (λ it. it ≡ keys_of found.now) }
 {
     let mut order = Many::new(alloc);
-    for row in rows.as_slice() {
-        if let Some(keys) = keys_in(above, number, &row.path.steps) {
-            order.push(keys.copy()?)?;
-        }
+    for keys in found {
+        order.push(keys.copy()?)?;
     }
     Ok(order)
 }
@@ -168,21 +54,6 @@ fn has_entry(keys: &Many<Text>, order: &[Many<Text>]) -> bool
     ensures { result ≡ meant.has_entry keys.now order.now }
 {
     order.iter().any(|entry| same_keys(entry, keys))
-}
-
-/// Whether one entry stands before another in that order.
-fn stands_before(order: &[Many<Text>], keys: &Many<Text>, others: &Many<Text>) -> bool
-    ensures { result ≡ meant.stands_before order.now keys.now others.now }
-{
-    for entry in order {
-        if same_keys(entry, others) {
-            return false;
-        }
-        if same_keys(entry, keys) {
-            return true;
-        }
-    }
-    false
 }
 
 /// The other entries in their order.
@@ -321,17 +192,17 @@ fn placed(
 fn order_there(
     alloc: Global,
     schema: &Schema,
-    rows: &Many<Row>,
+    tree: &Tree,
     place: &Place,
     above: &[Step],
     step: &Step,
 ) -> Result<Many<Many<Text>>, Memory>
-    ensures { IfOk result (λ it. it ≡ order_there schema.now rows.now place.now above.now step.now) }
+    ensures { IfOk result (λ it. it ≡ order_there schema.now tree.now.rows place.now above.now step.now) }
 {
     if !is_by_user(schema, step.node) {
         return Ok(Many::new(alloc));
     }
-    let order = entries(alloc, rows, above, step.node)?;
+    let order = entries(alloc, tree, above, step.node)?;
     placed(alloc, place, &step.keys, order)
 }
 
@@ -347,11 +218,11 @@ pub(crate) fn head(steps: &Many<Step>, at: usize) -> &[Step]
 pub(crate) fn orders_of(
     alloc: Global,
     schema: &Schema,
-    rows: &Many<Row>,
+    tree: &Tree,
     place: &Place,
     steps: &Many<Step>,
 ) -> Result<Many<Many<Many<Text>>>, Memory>
-    ensures { IfOk result (λ it. it ≡ orders_of schema.now rows.now place.now [] steps.now) }
+    ensures { IfOk result (λ it. it ≡ orders_of schema.now tree.now.rows place.now [] steps.now) }
 {
     let mut orders = Many::new(alloc);
     let mut at = 0;
@@ -359,9 +230,9 @@ pub(crate) fn orders_of(
         let above = head(steps, at);
         at += 1;
         let order = if at == steps.len() {
-            order_there(alloc, schema, rows, place, above, step)?
+            order_there(alloc, schema, tree, place, above, step)?
         } else {
-            order_there(alloc, schema, rows, &Place::Kept, above, step)?
+            order_there(alloc, schema, tree, &Place::Kept, above, step)?
         };
         orders.push(order)?;
     }

@@ -1,32 +1,13 @@
-use Rattle.std.proofs.Common.{◌≡◌, ◌+◌, length, not, refl, ap, sym, ◌∙◌, arith}
-use Rattle.std.proofs.lemmas.List.Filters.{length-filter_both}
-use Rattle.nc_names.specs.Same.{is_at_or_below}
-use Rattle.nc_schema.specs.Standing.{block_at}
-use Rattle.nc_tree.specs.Rows.{without_block}
+use Rattle.std.proofs.Common.{◌≡◌, length, ap, ◌∙◌, arith}
+use Rattle.nc_tree.proofs.Rows.{dropped}
+use Rattle.nc_branches.specs.Branches.{without_block}
 use Rattle.nc_tree.proofs.config.Config.remove.Goals as goal
 
 pub overflow_sub-dropped : goal.overflow_sub-dropped
 overflow_sub-dropped c =
-    let rows = c.args.self.now in
-    let steps = c.args.path.now.steps in
-    let both : length (block_at rows steps) + length (without_block rows steps) ≡ length rows =
-    length-filter_both (λ row. is_at_or_below steps row.path) (λ row. not (is_at_or_below steps row.path)) (λ row. refl) rows in
-    let items : c.into_vec-items.result.items ≡ rows = cc in
-    let kept : length c.without_block-kept.result ≡ length (without_block rows steps) =
-    ap length (c.without_block-kept.ensures ∙ ap (λ all. without_block all steps) items) in
-    let before : c.len-before.result ≡ length rows = cc in
-    let after : c.len.result ≡ length c.without_block-kept.result = cc in
-    omega (arith, both, kept, before, after)
-
-pub returns-clause-count : goal.returns-clause-count
-returns-clause-count c =
-    let rows = c.args.self.now in
-    let steps = c.args.path.now.steps in
-    let both : length (block_at rows steps) + length (without_block rows steps) ≡ length rows =
-    length-filter_both (λ row. is_at_or_below steps row.path) (λ row. not (is_at_or_below steps row.path)) (λ row. refl) rows in
-    let items : c.into_vec-items.result.items ≡ rows = cc in
-    let kept : length c.without_block-kept.result ≡ length (without_block rows steps) =
-    ap length (c.without_block-kept.ensures ∙ ap (λ all. without_block all steps) items) in
-    let before : c.len-before.result ≡ length rows = cc in
-    let after : c.len.result ≡ length c.without_block-kept.result = cc in
-    omega (arith, both, kept, before, after)
+    let both = dropped c.args.self.now c.args.path.now.steps in
+    let before : c.len-before.result ≡ length c.args.self.now = c.len-before.ensures ∙ ap length c.self.view_is in
+    let path : c.as_slice.result.now ≡ c.args.path.now.steps = c.as_slice.ensures in
+    let rest : c.in_ok-tree.tree.rows ≡ without_block c.args.self.now c.args.path.now.steps = c.in_ok-tree.ensures ∙ (λ i. without_block (c.self.view_is i) (path i)) in
+    let after : c.len.result ≡ length (without_block c.args.self.now c.args.path.now.steps) = c.len.ensures ∙ ap length rest in
+    omega (arith, both, before, after)

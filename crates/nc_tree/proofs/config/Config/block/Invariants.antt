@@ -1,6 +1,0 @@
-use Rattle.std.proofs.Common.{◌≡◌, ◌++◌, drop}
-use Rattle.nc_schema.specs.Standing.{block_at}
-use Rattle.nc_tree.proofs.config.Config.block.Given as goal
-
-abbrev pub invariant-loop-row : goal.invariant-loop-row
-invariant-loop-row l = l.block ++ block_at (drop l.row-index l.row-items) l.path.steps ≡ block_at l.self l.path.steps

@@ -1,0 +1,11 @@
+pub mod Format
+pub mod Files
+pub mod Images
+pub mod Journal
+pub mod Keeping
+pub mod Header
+pub mod Opening
+pub mod Refusing
+pub mod Beginning
+pub mod Laws
+pub mod inner

@@ -1,0 +1,4 @@
+pub mod Reading
+pub mod Headers
+pub mod Faults
+pub mod Placing

@@ -17,7 +17,7 @@ use crate::spots::{
 use crate::values::values_in_use;
 use nc_names::{Many, Memory, Step, Text};
 use nc_schema::{Node, Schema};
-use nc_tree::Config;
+use nc_tree::Listed;
 use std::alloc::Global;
 
 fn parent_of(schema: &Schema, number: u32) -> Option<u32>
@@ -36,7 +36,7 @@ fn stands_in(parent: Option<u32>, spot: &Spot) -> bool
 fn values_at<'a>(
     alloc: Global,
     children: &Children<'a>,
-    config: &'a Config,
+    config: &'a Listed,
     spot: &Spot,
     number: u32,
 ) -> Result<Many<&'a Text>, Memory>
@@ -63,7 +63,7 @@ fn values_at<'a>(
 fn add_values<'a>(
     out: &mut Many<&'a Text>,
     children: &Children<'a>,
-    config: &'a Config,
+    config: &'a Listed,
     spot: &Spot,
     leaf: u32,
     number: u32,
@@ -84,7 +84,7 @@ fn add_values<'a>(
 fn add_below<'a>(
     out: &mut Many<&'a Text>,
     children: &Children<'a>,
-    config: &'a Config,
+    config: &'a Listed,
     spot: &Spot,
     leaf: u32,
     number: u32,
@@ -114,7 +114,7 @@ fn add_below<'a>(
 fn add_child<'a>(
     out: &mut Many<&'a Text>,
     children: &Children<'a>,
-    config: &'a Config,
+    config: &'a Listed,
     spot: &Spot,
     leaf: u32,
     runs: &[Run],
@@ -137,7 +137,7 @@ fn add_child<'a>(
 fn add_parts<'a>(
     out: &mut Many<&'a Text>,
     children: &Children<'a>,
-    config: &'a Config,
+    config: &'a Listed,
     spot: &Spot,
     leaf: u32,
     runs: &[Run],
@@ -195,7 +195,7 @@ fn add_parts<'a>(
 pub fn values_below<'a>(
     alloc: Global,
     children: &Children<'a>,
-    config: &'a Config,
+    config: &'a Listed,
     spot: &Spot,
     number: u32,
 ) -> Result<Many<&'a Text>, Memory>

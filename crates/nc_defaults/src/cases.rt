@@ -12,7 +12,7 @@ use crate::here::Here;
 use crate::parts::{next_of, run_end};
 use nc_names::Step;
 use nc_schema::{Case, Schema};
-use nc_tree::Config;
+use nc_tree::Listed;
 
 /// The cases of a data node.
 pub(crate) fn cases_of(schema: &Schema, number: u32) -> &[Case]
@@ -25,7 +25,7 @@ pub(crate) fn cases_of(schema: &Schema, number: u32) -> &[Case]
 }
 
 /// The cases of the node that begins at a place of the configuration.
-fn cases_at<'a>(schema: &'a Schema, config: &Config, depth: usize, at: u64) -> &'a [Case]
+fn cases_at<'a>(schema: &'a Schema, config: &Listed, depth: usize, at: u64) -> &'a [Case]
     requires { at < length config.now }
     ensures { result.now ≡ option_map_or
         (λ step. cases_of schema.now step.node) (next_at depth config.now at) [] }
@@ -49,7 +49,7 @@ fn has_choice(cases: &[Case], choice: u32) -> bool
 }
 
 /// Whether a node of the case exists in a place.
-pub fn is_chosen(schema: &Schema, config: &Config, steps: &[Step], here: Here, case: Case) -> bool
+pub fn is_chosen(schema: &Schema, config: &Listed, steps: &[Step], here: Here, case: Case) -> bool
     requires { IsWithin config.now here }
     ensures { result ≡ places.is_chosen schema.now (place_here config.now steps.now here) case }
 {
@@ -65,7 +65,7 @@ pub fn is_chosen(schema: &Schema, config: &Config, steps: &[Step], here: Here, c
 }
 
 /// Whether a node of the choice exists in a place.
-pub fn is_made(schema: &Schema, config: &Config, steps: &[Step], here: Here, choice: u32) -> bool
+pub fn is_made(schema: &Schema, config: &Listed, steps: &[Step], here: Here, choice: u32) -> bool
     requires { IsWithin config.now here }
     ensures { result ≡ places.is_made schema.now (place_here config.now steps.now here) choice }
 {
@@ -97,7 +97,7 @@ fn is_number(number: Option<u32>, other: u32) -> bool
 
 fn is_chosen_or_default(
     schema: &Schema,
-    config: &Config,
+    config: &Listed,
     steps: &[Step],
     here: Here,
     case: Case,
@@ -115,7 +115,7 @@ fn is_chosen_or_default(
 /// Whether a node of each case exists in a place.
 pub fn all_chosen(
     schema: &Schema,
-    config: &Config,
+    config: &Listed,
     steps: &[Step],
     here: Here,
     cases: &[Case],
@@ -135,7 +135,7 @@ pub fn all_chosen(
 /// Whether a node of each case exists in a place, or the case is chosen by default.
 pub(crate) fn all_chosen_or_default(
     schema: &Schema,
-    config: &Config,
+    config: &Listed,
     steps: &[Step],
     here: Here,
     cases: &[Case],

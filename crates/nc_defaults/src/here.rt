@@ -9,7 +9,7 @@ use crate::cases::{all_chosen, all_chosen_or_default};
 use crate::parts::{count_parts, find_part};
 use nc_names::Step;
 use nc_schema::{Kind, Node, Schema};
-use nc_tree::Config;
+use nc_tree::Listed;
 
 /// A place: from which row of the configuration up to which its rows are, and what holds in it.
 #[derive(Clone, Copy, PartialEq, Eq, Debug)]
@@ -25,7 +25,7 @@ pub struct Here {
 }
 
 /// The top of a configuration.
-pub fn top(config: &Config) -> Here
+pub fn top(config: &Listed) -> Here
     ensures place { place_here config.now [] result ≡ places.top_place config.now }
     ensures within { IsWithin config.now result }
 {
@@ -50,7 +50,7 @@ fn stands_for_itself(kind: Kind) -> bool
 /// An instance of a data node as a place, from where its rows begin up to where they end.
 pub fn place_of(
     schema: &Schema,
-    config: &Config,
+    config: &Listed,
     steps: &[Step],
     here: Here,
     node: &Node,
@@ -77,7 +77,7 @@ pub fn place_of(
 
 /// The instance of a data node to which a step leads in a place, where it is a place.
 fn instance(
-    config: &Config,
+    config: &Listed,
     steps: &[Step],
     here: Here,
     kind: Kind,
@@ -99,7 +99,7 @@ fn instance(
 }
 
 fn container_at(
-    config: &Config,
+    config: &Listed,
     steps: &[Step],
     here: Here,
     presence: bool,
@@ -126,7 +126,7 @@ fn container_at(
 /// The place to which a step leads from a place.
 pub fn place_below(
     schema: &Schema,
-    config: &Config,
+    config: &Listed,
     steps: &[Step],
     here: Here,
     step: &Step,

@@ -1,6 +1,6 @@
 //! Values in use in a configuration (RFC 7950 7.6.1, 7.7.2), and its places: the top, containers and
-//! list entries, with what stands in each. It stands on `nc_schema` and on the rows of a `Config` of
-//! `nc_tree`.
+//! list entries, with what stands in each. It stands on `nc_schema` and on the rows of a
+//! configuration that `nc_tree` lists.
 //!
 //! `in_use` gives the value in use at a leaf or leaf-list entry: the one that stands, or the default
 //! where none stands and it is in use. It takes no memory. `places_from` lists a place and all below it,

@@ -8,10 +8,10 @@ ghost use Rattle.nc_defaults.specs.Within.{rows_between};
 ghost use Rattle.nc_defaults.specs.inner.Runs.{next_at};
 
 use nc_names::{Row, Step};
-use nc_tree::Config;
+use nc_tree::Listed;
 
 /// The row at a place of the configuration.
-pub fn row_of(config: &Config, at: u64) -> &Row
+pub fn row_of(config: &Listed, at: u64) -> &Row
     requires { at < length config.now }
     ensures { slice_get config.now at ≡ Some result.now }
 {
@@ -19,7 +19,7 @@ pub fn row_of(config: &Config, at: u64) -> &Row
 }
 
 /// The step of a row after so many.
-pub fn next_of(config: &Config, depth: usize, at: u64) -> Option<&Step>
+pub fn next_of(config: &Listed, depth: usize, at: u64) -> Option<&Step>
     requires { at < length config.now }
     ensures { option_copied result ≡ next_at depth config.now at }
 {
@@ -37,7 +37,7 @@ fn is_same_next(step: Option<&Step>, other: Option<&Step>) -> bool
 }
 
 /// Where the run of rows ends that have the same step after so many as the row at `from`.
-pub fn run_end(config: &Config, depth: usize, from: u64, to: u64) -> u64
+pub fn run_end(config: &Listed, depth: usize, from: u64, to: u64) -> u64
     requires order { from < to }
     requires end { to ≤ length config.now }
     ensures later { from < result }
@@ -69,7 +69,7 @@ pub fn is_of(number: u32, step: Option<&Step>) -> bool
 }
 
 /// How many instances of a data node there are in a place.
-pub fn count_parts(config: &Config, depth: usize, from: u64, to: u64, number: u32) -> u64
+pub fn count_parts(config: &Listed, depth: usize, from: u64, to: u64, number: u32) -> u64
     requires order { from ≤ to }
     requires end { to ≤ length config.now }
     ensures { result
@@ -89,7 +89,7 @@ pub fn count_parts(config: &Config, depth: usize, from: u64, to: u64, number: u3
 
 /// How many instances of a data node there are in a place, counted until there are enough: it looks no further then.
 pub fn count_up_to(
-    config: &Config,
+    config: &Listed,
     depth: usize,
     from: u64,
     to: u64,
@@ -120,7 +120,7 @@ pub fn count_up_to(
 
 /// Where the rows of the instance of a data node begin and end to which a step leads.
 pub fn find_part(
-    config: &Config,
+    config: &Listed,
     depth: usize,
     from: u64,
     to: u64,

@@ -9,7 +9,7 @@ ghost use Rattle.nc_defaults.specs.inner.Spans.{AreRuns, IsRun};
 use crate::parts::{next_of, run_end};
 use crate::spots::is_same_number;
 use nc_names::{Many, Memory, Step};
-use nc_tree::Config;
+use nc_tree::Listed;
 use std::alloc::Global;
 
 /// A run of rows that have one next step, from one row up to another.
@@ -32,7 +32,7 @@ fn node_of(step: Option<&Step>) -> Option<u32>
 /// The runs of a place.
 pub(crate) fn runs_of(
     alloc: Global,
-    config: &Config,
+    config: &Listed,
     depth: usize,
     from: u64,
     to: u64,
@@ -64,7 +64,7 @@ pub(crate) fn has_run(runs: &[Run], number: u32) -> bool
 }
 
 /// The step of its rows.
-pub(crate) fn step_of<'a>(config: &'a Config, depth: usize, run: &Run) -> Option<&'a Step>
+pub(crate) fn step_of<'a>(config: &'a Listed, depth: usize, run: &Run) -> Option<&'a Step>
     requires { IsRun depth config.now run.now }
     ensures step { option_copied result ≡ next_at depth config.now run.now.from }
     ensures order { run.now.from ≤ run.now.to }

@@ -13,7 +13,7 @@ use crate::here::{Here, place_of};
 use crate::spans::{Run, has_run, runs_of, step_of};
 use nc_names::{Copies, Many, Memory, Step};
 use nc_schema::{Kind, Node};
-use nc_tree::Config;
+use nc_tree::Listed;
 use std::alloc::Global;
 
 /// A place with the steps to it.
@@ -98,7 +98,7 @@ pub(crate) fn is_plain(kind: Kind) -> bool
 fn add_place(
     out: &mut Many<Spot>,
     children: &Children<'_>,
-    config: &Config,
+    config: &Listed,
     spot: Spot,
     number: u32,
 ) -> Result<(), Memory>
@@ -121,7 +121,7 @@ fn add_place(
 fn add_below(
     out: &mut Many<Spot>,
     children: &Children<'_>,
-    config: &Config,
+    config: &Listed,
     steps: &[Step],
     here: Here,
     number: u32,
@@ -150,7 +150,7 @@ fn add_below(
 fn add_child(
     out: &mut Many<Spot>,
     children: &Children<'_>,
-    config: &Config,
+    config: &Listed,
     steps: &[Step],
     here: Here,
     runs: &[Run],
@@ -174,7 +174,7 @@ fn add_child(
 fn add_parts(
     out: &mut Many<Spot>,
     children: &Children<'_>,
-    config: &Config,
+    config: &Listed,
     steps: &[Step],
     here: Here,
     runs: &[Run],
@@ -230,7 +230,7 @@ fn add_parts(
 pub fn places_from(
     alloc: Global,
     children: &Children<'_>,
-    config: &Config,
+    config: &Listed,
     steps: &[Step],
     here: Here,
 ) -> Result<Many<Spot>, Memory>

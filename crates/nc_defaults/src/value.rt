@@ -12,7 +12,7 @@ use crate::here::{Here, place_below, top};
 use crate::parts::{is_of, next_of, row_of, run_end};
 use nc_names::{Path, Step, Text};
 use nc_schema::Schema;
-use nc_tree::Config;
+use nc_tree::Listed;
 
 fn is_same_text(text: &Text, other: &Text) -> bool
     ensures { result ≡ is_same_text text.now other.now }
@@ -31,7 +31,7 @@ fn is_named(step: &Step, value: &Text) -> bool
 }
 
 /// The value of the row at a place of the configuration.
-pub(crate) fn value_of(config: &Config, at: u64) -> Option<&Text>
+pub(crate) fn value_of(config: &Listed, at: u64) -> Option<&Text>
     requires { at < length config.now }
     ensures { option_copied result ≡ value_at config.now at }
 {
@@ -51,7 +51,7 @@ fn named_default<'a>(schema: &'a Schema, step: &Step) -> Option<&'a Text>
 /// The default in use in a place that a step names.
 fn default_in<'a>(
     schema: &'a Schema,
-    config: &Config,
+    config: &Listed,
     steps: &[Step],
     here: Here,
     step: &Step,
@@ -70,7 +70,7 @@ fn default_in<'a>(
 /// The value in use in a place that a step names.
 fn value_in<'a>(
     schema: &'a Schema,
-    config: &'a Config,
+    config: &'a Listed,
     steps: &[Step],
     here: Here,
     step: &Step,
@@ -109,7 +109,7 @@ fn head(steps: &[Step], at: usize) -> &[Step]
 
 /// The value in use at a leaf, or at the entry of a leaf-list with that value: the one that stands, or a
 /// default where none stands and defaults are in use (RFC 7950 7.6.1, 7.7.2). It takes no memory.
-pub fn in_use<'a>(schema: &'a Schema, config: &'a Config, path: &Path) -> Option<&'a Text>
+pub fn in_use<'a>(schema: &'a Schema, config: &'a Listed, path: &Path) -> Option<&'a Text>
     ensures { option_copied result ≡ uses.value_in_use schema.now config.now path.now }
 {
     let steps = path.steps.as_slice();

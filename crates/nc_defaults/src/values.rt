@@ -9,12 +9,12 @@ use crate::parts::{is_of, next_of, run_end};
 use crate::value::value_of;
 use nc_names::{Many, Memory, Step, Text};
 use nc_schema::Schema;
-use nc_tree::Config;
+use nc_tree::Listed;
 use std::alloc::Global;
 
 fn values_there<'a>(
     alloc: Global,
-    config: &'a Config,
+    config: &'a Listed,
     steps: &[Step],
     here: Here,
     number: u32,
@@ -54,7 +54,7 @@ fn defaults_of(alloc: Global, schema: &Schema, number: u32) -> Result<Many<&Text
 pub fn values_in_use<'a>(
     alloc: Global,
     schema: &'a Schema,
-    config: &'a Config,
+    config: &'a Listed,
     steps: &[Step],
     here: Here,
     number: u32,

@@ -9,7 +9,7 @@ ghost use Rattle.nc_refs.specs.inner.Branches.{AddsFirst, AreBranches, step_orde
 use nc_defaults::{Here, has_places, next_of, place_below, place_of, run_end};
 use nc_names::{Memory, Step};
 use nc_schema::Schema;
-use nc_tree::Config;
+use nc_tree::Listed;
 use std::alloc::Global;
 use std::collections::BTreeMap;
 
@@ -41,7 +41,7 @@ impl<'a> Branches<'a> {
     /// The nodes among the rows of a place that is that deep.
     pub(crate) fn of(
         alloc: Global,
-        config: &'a Config,
+        config: &'a Listed,
         depth: usize,
         here: Here,
     ) -> Result<Branches<'a>, Memory>
@@ -75,7 +75,7 @@ impl<'a> Branches<'a> {
     pub(crate) fn below(
         &self,
         schema: &Schema,
-        config: &Config,
+        config: &Listed,
         steps: &[Step],
         here: Here,
         step: &'a Step,

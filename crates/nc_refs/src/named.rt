@@ -7,10 +7,10 @@ ghost use Rattle.nc_schema.specs.Standing.{exists};
 ghost use Rattle.nc_schema.specs.Violations as violations;
 ghost use Rattle.nc_refs.specs.inner.Named.{AllExist, names, names_along};
 
-use nc_names::{Copies, Many, Memory, Path, Row, Step, Text};
+use nc_names::{Copies, Many, Memory, Path, Row, Shared, Step, Text};
 use nc_paths::instance_path;
 use nc_schema::Schema;
-use nc_tree::Config;
+use nc_tree::Listed;
 use std::alloc::Global;
 use std::collections::BTreeSet;
 
@@ -40,13 +40,20 @@ fn with_nodes<'a>(
     Ok(nodes)
 }
 
+// The steps to a row.
+fn steps_of(row: &Shared<Row>) -> &[Step]
+    ensures { result.now ≡ row.now.path.steps }
+{
+    row.get().path.steps.as_slice()
+}
+
 /// The nodes of a configuration that exist.
-pub(crate) fn nodes_of(alloc: Global, config: &Config) -> Result<BTreeSet<&[Step]>, Memory>
+pub(crate) fn nodes_of(alloc: Global, config: &Listed) -> Result<BTreeSet<&[Step]>, Memory>
     ensures { IfOk result (AllExist config.now) }
 {
     let mut nodes = BTreeSet::new(alloc);
     for row in config.as_slice() {
-        nodes = with_nodes(nodes, row.path.steps.as_slice())?;
+        nodes = with_nodes(nodes, steps_of(row))?;
     }
     Ok(nodes)
 }
@@ -125,11 +132,11 @@ fn names_along(alloc: Global, schema: &Schema, steps: &[Step], text: &Text) -> R
 }
 
 // Whether a text is that of the path of a node that exists, by a look at each.
-fn names_any(alloc: Global, schema: &Schema, config: &Config, text: &Text) -> Result<bool, Memory>
+fn names_any(alloc: Global, schema: &Schema, config: &Listed, text: &Text) -> Result<bool, Memory>
     ensures { IfOk result (λ it. it ≡ violations.is_named_node schema.now config.now text.now) }
 {
     for row in config.as_slice() {
-        if names_along(alloc, schema, row.path.steps.as_slice(), text)? {
+        if names_along(alloc, schema, steps_of(row), text)? {
             return Ok(true);
         }
     }
@@ -141,7 +148,7 @@ fn names_any(alloc: Global, schema: &Schema, config: &Config, text: &Text) -> Re
 pub(crate) fn is_named_node(
     alloc: Global,
     schema: &Schema,
-    config: &Config,
+    config: &Listed,
     nodes: &BTreeSet<&[Step]>,
     text: &Text,
 ) -> Result<bool, Memory>

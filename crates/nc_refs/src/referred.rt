@@ -10,7 +10,7 @@ use crate::trail::Trail;
 use nc_defaults::{Children, Spot, values_below};
 use nc_names::{Copies, Many, Memory, Step, Text, same_steps};
 use nc_schema::Schema;
-use nc_tree::Config;
+use nc_tree::Listed;
 use std::alloc::Global;
 use std::collections::{BTreeMap, BTreeSet};
 
@@ -103,7 +103,7 @@ fn values_referred<'a>(
     alloc: Global,
     schema: &'a Schema,
     children: &Children<'a>,
-    config: &'a Config,
+    config: &'a Listed,
     trail: Trail<'a>,
     turning: &'a [Step],
     target: u32,
@@ -166,7 +166,7 @@ impl<'a> Known<'a> {
         self,
         alloc: Global,
         schema: &'a Schema,
-        config: &'a Config,
+        config: &'a Listed,
         leaf: u32,
         turning: &'a [Step],
         target: u32,

@@ -9,9 +9,9 @@ ghost use Rattle.nc_refs.specs.inner.Referred.{IsKnown};
 
 use crate::named::{is_named_node, nodes_of};
 use crate::referred::{Known, turning_steps};
-use nc_names::{CauseKind, Copies, Memory, Row, Step, Text};
+use nc_names::{CauseKind, Copies, Memory, Path, Row, Shared, Step, Text};
 use nc_schema::{Schema, ValueType, Violation};
-use nc_tree::{Config, last_step, node_of};
+use nc_tree::{Listed, last_step, node_of};
 use std::alloc::Global;
 use std::collections::BTreeSet;
 
@@ -32,7 +32,7 @@ fn type_there<'a>(schema: &'a Schema, steps: &[Step]) -> Option<&'a ValueType>
 // With the nodes that exist.
 fn with_nodes<'a>(
     alloc: Global,
-    config: &'a Config,
+    config: &'a Listed,
     nodes: Option<BTreeSet<&'a [Step]>>,
 ) -> Result<BTreeSet<&'a [Step]>, Memory>
     requires { IfSome nodes (AllExist config.now) }
@@ -48,7 +48,7 @@ fn with_nodes<'a>(
 fn dead_leafref<'a>(
     alloc: Global,
     schema: &'a Schema,
-    config: &'a Config,
+    config: &'a Listed,
     about: About<'a>,
     steps: &'a [Step],
     text: &'a Text,
@@ -81,7 +81,7 @@ fn broken(is: bool, kind: CauseKind) -> Option<CauseKind>
 fn dead_instance<'a>(
     alloc: Global,
     schema: &'a Schema,
-    config: &'a Config,
+    config: &'a Listed,
     about: About<'a>,
     steps: &'a [Step],
     text: &'a Text,
@@ -113,7 +113,7 @@ fn number_there(steps: &[Step]) -> u32 {
 fn value_fault<'a>(
     alloc: Global,
     schema: &'a Schema,
-    config: &'a Config,
+    config: &'a Listed,
     about: About<'a>,
     steps: &'a [Step],
     text: &'a Text,
@@ -153,14 +153,15 @@ fn value_fault<'a>(
 fn row_fault<'a>(
     alloc: Global,
     schema: &'a Schema,
-    config: &'a Config,
+    config: &'a Listed,
     about: About<'a>,
-    row: &'a Row,
+    row: &'a Shared<Row>,
 ) -> Result<(About<'a>, Option<CauseKind>), Memory>
     requires { IsAbout schema.now config.now about }
     ensures about { IfOk result (λ it. IsAbout schema.now config.now it.0) }
     ensures fault { IfOk result (λ it. fault_of row.now.path.steps it.1 ≡ violations.row_violation schema.now config.now row.now) }
 {
+    let row = row.get();
     let steps = row.path.steps.as_slice();
     let Some(text) = row.value.as_ref() else {
         return Ok((about, None));
@@ -171,13 +172,20 @@ fn row_fault<'a>(
     }
 }
 
+// The path to a row.
+fn path_of(row: &Shared<Row>) -> Result<Path, Memory>
+    ensures { IfOk result (λ it. it ≡ row.now.path) }
+{
+    row.get().path.copy()
+}
+
 /// The first violation of a configuration's references (RFC 7950 9.9.3 and 9.13.2), in the order of its rows: a leafref
 /// whose value is in use at no instance of its target, or an instance-identifier whose node does not exist, where
 /// `require-instance` is true. `None` where there is none.
 pub fn first_reference(
     alloc: Global,
     schema: &Schema,
-    config: &Config,
+    config: &Listed,
 ) -> Result<Option<Violation>, Memory>
     ensures { IfOk result (λ it. it ≡ slice_get (violations.reference_violations schema.now config.now) 0) }
 {
@@ -189,7 +197,7 @@ pub fn first_reference(
         let (next, fault) = row_fault(alloc, schema, config, about, row)?;
         about = next;
         if let Some(kind) = fault {
-            let path = row.path.copy()?;
+            let path = path_of(row)?;
             return Ok(Some(Violation { kind, path }));
         }
     }

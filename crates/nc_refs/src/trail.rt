@@ -11,7 +11,7 @@ use crate::branches::Branches;
 use nc_defaults::{Here, place_below, top};
 use nc_names::{Memory, Step};
 use nc_schema::Schema;
-use nc_tree::Config;
+use nc_tree::Listed;
 use std::alloc::Global;
 use std::collections::BTreeMap;
 
@@ -37,7 +37,7 @@ impl<'a> Trail<'a> {
     fn below(
         &self,
         schema: &Schema,
-        config: &Config,
+        config: &Listed,
         above: &'a [Step],
         here: Here,
         step: &'a Step,
@@ -60,7 +60,7 @@ impl<'a> Trail<'a> {
     fn with_branches(
         self,
         alloc: Global,
-        config: &'a Config,
+        config: &'a Listed,
         above: &'a [Step],
         here: Here,
     ) -> Result<Trail<'a>, Memory>
@@ -99,7 +99,7 @@ impl<'a> Trail<'a> {
         self,
         alloc: Global,
         schema: &Schema,
-        config: &'a Config,
+        config: &'a Listed,
         steps: &'a [Step],
         at: usize,
         here: Here,
@@ -126,7 +126,7 @@ impl<'a> Trail<'a> {
         self,
         alloc: Global,
         schema: &Schema,
-        config: &'a Config,
+        config: &'a Listed,
         steps: &'a [Step],
     ) -> Result<(Trail<'a>, Option<Here>), Memory>
         requires { IsTrail schema.now config.now self }

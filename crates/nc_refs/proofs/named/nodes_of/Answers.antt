@@ -12,4 +12,4 @@ loop-row-preserved c =
     let within = subst (λ (rs : List Row). c.loop-row.row-index < length rs) same c.loop-row-test.true in
     let is = c.row-item.is ∙ ap (λ (rs : List Row). get_or rs c.loop-row.row-index item) same in
     c.in_ok-nodes.ensures rows c.loop-row.invariant
-    (ap (exists rows) (c.as_slice.ensures ∙ ap (λ (row : Row). row.path.steps) is) ∙ row_exists rows c.loop-row.row-index item within)
+    (ap (exists rows) (c.steps_of.ensures ∙ ap (λ (row : Row). row.path.steps) is) ∙ row_exists rows c.loop-row.row-index item within)

@@ -11,13 +11,13 @@ use crate::outline::{Outline, is_choice_before};
 use nc_defaults::{Here, all_chosen, is_made};
 use nc_names::{CauseKind, Memory, Step};
 use nc_schema::{Case, Schema, Violation};
-use nc_tree::Config;
+use nc_tree::Listed;
 use std::alloc::Global;
 
 /// Whether nodes of these cases have to stand in a place.
 pub(crate) fn is_required(
     schema: &Schema,
-    config: &Config,
+    config: &Listed,
     steps: &[Step],
     here: Here,
     cases: &[Case],
@@ -29,7 +29,7 @@ pub(crate) fn is_required(
 }
 
 // Whether a choice is mandatory in a place and no node of it exists there.
-fn lacks(schema: &Schema, config: &Config, steps: &[Step], here: Here, choice: u32) -> bool
+fn lacks(schema: &Schema, config: &Listed, steps: &[Step], here: Here, choice: u32) -> bool
     requires { IsWithin config.now here }
     ensures { result ≡ choice_lacks schema.now (place_here config.now steps.now here) choice }
 {
@@ -47,7 +47,7 @@ fn lacks(schema: &Schema, config: &Config, steps: &[Step], here: Here, choice: u
 pub(crate) fn first_of_choice(
     alloc: Global,
     outline: &Outline<'_>,
-    config: &Config,
+    config: &Listed,
     steps: &[Step],
     here: Here,
     which: (u32, u32),

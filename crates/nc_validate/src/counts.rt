@@ -12,7 +12,7 @@ use crate::faults::violation_below;
 use nc_defaults::{Here, count_up_to};
 use nc_names::{CauseKind, Memory, Step};
 use nc_schema::{Kind, Node, Schema, Violation};
-use nc_tree::Config;
+use nc_tree::Listed;
 use std::alloc::Global;
 
 fn has_entries(kind: Kind) -> bool
@@ -92,7 +92,7 @@ fn past_most(least: u64, most: u64, rows: u64) -> u64
 pub(crate) fn first_of_counts(
     alloc: Global,
     schema: &Schema,
-    config: &Config,
+    config: &Listed,
     steps: &[Step],
     here: Here,
     child: (u32, &Node),

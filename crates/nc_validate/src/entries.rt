@@ -8,14 +8,14 @@ ghost use Rattle.nc_validate.specs.inner.Parts.{part_from};
 use nc_defaults::{Here, Spot, copied_step, next_of, place_of, run_end, steps_below};
 use nc_names::{Many, Memory, Step};
 use nc_schema::{Node, Schema};
-use nc_tree::Config;
+use nc_tree::Listed;
 use std::alloc::Global;
 
 // With the part whose rows are these, where it is of the data node.
 fn with_part(
     out: Many<Spot>,
     schema: &Schema,
-    config: &Config,
+    config: &Listed,
     steps: &[Step],
     here: Here,
     child: (u32, &Node),
@@ -50,7 +50,7 @@ fn with_part(
 pub(crate) fn entries(
     alloc: Global,
     schema: &Schema,
-    config: &Config,
+    config: &Listed,
     steps: &[Step],
     here: Here,
     child: (u32, &Node),

@@ -17,14 +17,14 @@ use crate::unique::first_repeated;
 use nc_defaults::{Children, Here, Spot, has_places, is_same_number, node_there, places_from, top};
 use nc_names::{Many, Memory, Step};
 use nc_schema::{Node, Schema, Violation};
-use nc_tree::Config;
+use nc_tree::Listed;
 use std::alloc::Global;
 
 // The first of the choices that begin at a data node.
 fn first_of_choices(
     alloc: Global,
     outline: &Outline<'_>,
-    config: &Config,
+    config: &Listed,
     steps: &[Step],
     here: Here,
     child: (u32, &Node),
@@ -48,7 +48,7 @@ fn first_of_choices(
 fn first_of_statements<'a>(
     alloc: Global,
     children: &Children<'a>,
-    config: &'a Config,
+    config: &'a Listed,
     entries: &[Spot],
     uniques: &[Many<u32>],
 ) -> Result<Option<Violation>, Memory>
@@ -70,7 +70,7 @@ fn first_of_statements<'a>(
 fn first_of_uniques<'a>(
     alloc: Global,
     outline: &Outline<'a>,
-    config: &'a Config,
+    config: &'a Listed,
     steps: &[Step],
     here: Here,
     child: (u32, &Node),
@@ -103,7 +103,7 @@ fn first_of_uniques<'a>(
 fn first_of_child<'a>(
     alloc: Global,
     outline: &Outline<'a>,
-    config: &'a Config,
+    config: &'a Listed,
     steps: &[Step],
     here: Here,
     child: (u32, &Node),
@@ -129,7 +129,7 @@ fn first_of_child<'a>(
 fn first_of_node<'a>(
     alloc: Global,
     outline: &Outline<'a>,
-    config: &'a Config,
+    config: &'a Listed,
     steps: &[Step],
     here: Here,
     number: u32,
@@ -152,7 +152,7 @@ fn first_of_node<'a>(
 fn first_of_nodes<'a>(
     alloc: Global,
     outline: &Outline<'a>,
-    config: &'a Config,
+    config: &'a Listed,
     steps: &[Step],
     here: Here,
 ) -> Result<Option<Violation>, Memory>
@@ -174,7 +174,7 @@ fn first_of_nodes<'a>(
 fn first_of_bare(
     alloc: Global,
     outline: &Outline<'_>,
-    config: &Config,
+    config: &Listed,
     steps: &[Step],
     here: Here,
     number: u32,
@@ -201,7 +201,7 @@ fn first_of_bare(
 fn first_of_bares(
     alloc: Global,
     outline: &Outline<'_>,
-    config: &Config,
+    config: &Listed,
     steps: &[Step],
     here: Here,
 ) -> Result<Option<Violation>, Memory>
@@ -223,7 +223,7 @@ fn first_of_bares(
 fn first_at<'a>(
     alloc: Global,
     outline: &Outline<'a>,
-    config: &'a Config,
+    config: &'a Listed,
     steps: &[Step],
     here: Here,
 ) -> Result<Option<Violation>, Memory>
@@ -244,7 +244,7 @@ fn first_at<'a>(
 fn first_of_places<'a>(
     alloc: Global,
     outline: &Outline<'a>,
-    config: &'a Config,
+    config: &'a Listed,
 ) -> Result<Option<Violation>, Memory>
     requires { IsOutline outline.now }
     ensures { IfOk result (λ it. it
@@ -265,7 +265,7 @@ fn first_of_places<'a>(
 pub fn first_structural(
     alloc: Global,
     schema: &Schema,
-    config: &Config,
+    config: &Listed,
 ) -> Result<Option<Violation>, Memory>
     ensures { IfOk result (λ it. it ≡ slice_get (violations.structural_violations schema.now config.now) 0) }
 {

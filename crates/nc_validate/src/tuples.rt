@@ -7,7 +7,7 @@ ghost use Rattle.nc_validate.specs.inner.Tuples.{all_texts, extended, texts, tup
 
 use nc_defaults::{Children, Spot, values_below};
 use nc_names::{Many, Memory, Text};
-use nc_tree::Config;
+use nc_tree::Listed;
 use std::alloc::Global;
 
 // A tuple with one value more.
@@ -67,7 +67,7 @@ fn empty_tuple<'a>(alloc: Global) -> Result<Many<Many<&'a Text>>, Memory>
 pub(crate) fn tuples_of<'a>(
     alloc: Global,
     children: &Children<'a>,
-    config: &'a Config,
+    config: &'a Listed,
     entry: &Spot,
     leafs: &[u32],
 ) -> Result<Many<Many<&'a Text>>, Memory>

@@ -12,7 +12,7 @@ use crate::tuples::tuples_of;
 use nc_defaults::{Children, Spot};
 use nc_names::{CauseKind, Many, Memory, Text};
 use nc_schema::Violation;
-use nc_tree::Config;
+use nc_tree::Listed;
 use std::alloc::Global;
 use std::collections::BTreeSet;
 
@@ -55,7 +55,7 @@ fn has_any<'a>(seen: &BTreeSet<Many<&'a Text>>, tuples: &[Many<&'a Text>]) -> bo
 pub(crate) fn first_repeated<'a>(
     alloc: Global,
     children: &Children<'a>,
-    config: &'a Config,
+    config: &'a Listed,
     entries: &[Spot],
     leafs: &[u32],
 ) -> Result<Option<Violation>, Memory>

@@ -8,7 +8,7 @@ use nc_names::{CauseKind, Many, Memory};
 use nc_protocol::Cause;
 use nc_refs::first_reference;
 use nc_schema::{Schema, Violation};
-use nc_tree::Config;
+use nc_tree::{Config, Listed};
 use std::alloc::Global;
 
 // The first violation of a configuration: structural ones come before references.
@@ -16,7 +16,7 @@ use std::alloc::Global;
 fn first_violation(
     alloc: Global,
     schema: &Schema,
-    config: &Config,
+    config: &Listed,
 ) -> Result<Option<Violation>, Memory>
     ensures { IfOk result (λ it. it ≡ slice_get (violations schema.now config.now) 0) }
 {
@@ -46,7 +46,8 @@ pub fn violation_in(
 ) -> Result<Option<Cause>, Memory>
     ensures { IfOk result (λ it. it ≡ meant.violation_in schema.now config.now) }
 {
-    match first_violation(alloc, schema, config)? {
+    let rows = Listed::of(alloc, config)?;
+    match first_violation(alloc, schema, &rows)? {
         Some(violation) => Ok(Some(violation_cause(alloc, violation))),
         None => Ok(None),
     }

@@ -1,8 +1,8 @@
 -- Which rows come with those that are selected.
-use Rattle.std.proofs.Common.{◌≡◌, ◌||◌, ◌&&◌, ◌+◌, ◌<◌, ◌≤◌, ℕ, Bool, true, false, List, [], ◌∷◌, ◌++◌, length, drop, get_or, sym, ap, ◌∙◌, arith, if◌then◌else◌}
+use Rattle.std.proofs.Common.{◌≡◌, ◌||◌, ◌&&◌, ◌+◌, ◌<◌, ◌≤◌, ℕ, Bool, true, false, List, [], ◌∷◌, ◌++◌, length, drop, get_or, map, sym, ap, subst, ◌∙◌, arith, if◌then◌else◌}
 use Rattle.std.specs.List.{filter, list_any}
 use Rattle.std.proofs.lemmas.Grind.{common_steps}
-use Rattle.std.proofs.lemmas.List.{append_assoc, append-nil}
+use Rattle.std.proofs.lemmas.List.{append_assoc, append-nil, get_or-map, length-map}
 use Rattle.nc_names.specs.Same.{is_at_or_below}
 use Rattle.nc_names.specs.declared.path.Row.{Row}
 use Rattle.nc_names.specs.declared.path.Step.{Step}
@@ -48,3 +48,13 @@ filter_end {X} test rows out index past so_far =
   where
     none : drop index rows ≡ []
     none = grind (arith, common_steps, past)
+
+-- an element of a list, in the list of what it leads to
+pub mapped_within : {X Y : Type 0} (f : X → Y) (xs : List X) (index : ℕ) → index < length xs → index < length (map f xs)
+mapped_within f xs index within = subst (λ (n : ℕ). index < n) (sym (length-map xs f)) within
+
+pub mapped_past : {X Y : Type 0} (f : X → Y) (xs : List X) (index : ℕ) → length xs ≤ index → length (map f xs) ≤ index
+mapped_past f xs index past = subst (λ (n : ℕ). n ≤ index) (sym (length-map xs f)) past
+
+pub mapped_item : {X Y : Type 0} (f : X → Y) (xs : List X) (index : ℕ) (x : X) → index < length xs → x ≡ get_or xs index x → f x ≡ get_or (map f xs) index (f x)
+mapped_item f xs index x within is = ap f is ∙ sym (get_or-map f xs index x (f x) within)

@@ -56,12 +56,12 @@ fn added<'a>(
 
 impl<'a> Index<'a> {
     /// The rows of a configuration by their instances.
-    pub(crate) fn new(alloc: Global, rows: &'a [Row]) -> Result<Index<'a>, Memory>
-        ensures { IfOk result (λ it. IsIndex it.table rows.now) }
+    pub(crate) fn new(alloc: Global, rows: &[&'a Row]) -> Result<Index<'a>, Memory>
+        ensures { IfOk result (λ it. IsIndex it.table (map (λ row. row.now) rows.now)) }
     {
         let mut table = BTreeMap::new(alloc);
         for row in rows {
-            table = added(alloc, table, row)?;
+            table = added(alloc, table, *row)?;
         }
         Ok(Index { table })
     }

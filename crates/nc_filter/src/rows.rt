@@ -121,17 +121,6 @@ pub(crate) fn listed<'a>(alloc: Global, rows: &[&'a Row]) -> Result<Many<&'a Row
     extended(Many::new(alloc), rows)
 }
 
-/// References to some rows.
-pub(crate) fn references<'a>(alloc: Global, rows: &'a [Row]) -> Result<Many<&'a Row>, Memory>
-    ensures { IfOk result (λ it. map (λ row. row.now) it ≡ rows.now) }
-{
-    let mut out = Many::new(alloc);
-    for row in rows {
-        out.push(row)?;
-    }
-    Ok(out)
-}
-
 /// Whether the path to a row ends at a depth.
 pub(crate) fn ends(depth: usize, row: &Row) -> bool
     requires { depth + 1 < 2 ^ 64 }

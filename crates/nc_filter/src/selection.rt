@@ -11,7 +11,6 @@ ghost use Rattle.nc_filter.specs.inner.Tables.{ArePlaces, IsIndex};
 use crate::element::last_step;
 use crate::index::{Index, above_last};
 use crate::places::Places;
-use crate::rows::references;
 use crate::walk::pick_within;
 use nc_message::Elem;
 use nc_names::{Copies, Many, Memory, Row, Step};
@@ -35,19 +34,18 @@ fn chosen<'a>(
     schema: &Schema,
     index: &Index<'a>,
     filter: &'a Elem,
-    rows: &'a [Row],
+    rows: &[&'a Row],
 ) -> Result<Many<&'a Row>, Memory>
-    ensures { IfOk result (λ it. IsIndex index.now.table rows.now → (test : Row → Bool) →
+    ensures { IfOk result (λ it. IsIndex index.now.table (map (λ row. row.now) rows.now) →
+        (test : Row → Bool) →
         list_any test (map (λ row. row.now) it)
-        ≡ list_any test (meant.chosen schema.now filter.now rows.now)) }
+        ≡ list_any test (meant.chosen schema.now filter.now (map (λ row. row.now) rows.now))) }
 {
-    let all = references(alloc, rows)?;
-    let here = all.as_slice();
     let mut elems = Many::new(alloc);
     elems.push(filter)?;
     let top = elems.as_slice();
     let none = Many::new(alloc);
-    let found = pick_within(alloc, schema, index, 0, top, here, none)?;
+    let found = pick_within(alloc, schema, index, 0, top, rows, none)?;
     Ok(found)
 }
 
@@ -103,14 +101,15 @@ fn kept<'a>(
     alloc: Global,
     schema: &Schema,
     places: &Places<'a>,
-    rows: &'a [Row],
+    rows: &[&'a Row],
 ) -> Result<Many<Row>, Memory>
     ensures { IfOk result (λ it. (found : List Row) → ArePlaces places.now.items found →
-        it ≡ filter (λ row. list_any (λ other. meant.comes_with schema.now other row) found) rows.now) }
+        it ≡ filter (λ row. list_any (λ other. meant.comes_with schema.now other row) found)
+        (map (λ row. row.now) rows.now)) }
 {
     let mut out = Many::new(alloc);
     for row in rows {
-        out = push_copy_if(out, is_kept(schema, places, row), row)?;
+        out = push_copy_if(out, is_kept(schema, places, *row), *row)?;
     }
     Ok(out)
 }
@@ -119,9 +118,10 @@ fn selected_rows<'a>(
     alloc: Global,
     schema: &Schema,
     filter: &'a Elem,
-    rows: &'a [Row],
+    rows: &[&'a Row],
 ) -> Result<Many<Row>, Memory>
-    ensures { IfOk result (λ it. it ≡ meant.selected schema.now filter.now rows.now) }
+    ensures { IfOk result (λ it. it
+        ≡ meant.selected schema.now filter.now (map (λ row. row.now) rows.now)) }
 {
     let index = Index::new(alloc, rows)?;
     let found = chosen(alloc, schema, &index, filter, rows)?;
@@ -140,5 +140,6 @@ pub fn select(
 ) -> Result<Many<Row>, Memory>
     ensures { IfOk result (λ it. it ≡ meant.selected schema.now filter.now config.now) }
 {
-    selected_rows(alloc, schema, filter, config.as_slice())
+    let rows = config.rows(alloc)?;
+    selected_rows(alloc, schema, filter, rows.as_slice())
 }

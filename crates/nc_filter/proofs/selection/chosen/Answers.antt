@@ -9,11 +9,11 @@ use Rattle.nc_filter.proofs.selection.chosen.Goals as goal
 
 pub returns : goal.returns
 returns c = λ index test.
-    chosen_done c.args.schema.now c.args.rows.now (map (λ row. row.now) c.in_ok-found.found) c.args.filter.now
-    (subst (λ (before : List Row). Adds before (map (λ row. row.now) c.in_ok-found.found) (λ row. list_any (within c.args.schema.now c.args.rows.now 0 row) (c.args.filter.now ∷ [])) c.args.rows.now)
+    let rows : List Row = map (λ row. row.now) c.args.rows.now in
+    let found : List Row = map (λ row. row.now) c.in_ok-found.found in
+    chosen_done c.args.schema.now rows found c.args.filter.now
+    (subst (λ (before : List Row). Adds before found (λ row. list_any (within c.args.schema.now rows 0 row) (c.args.filter.now ∷ [])) rows)
     (ap (map (λ row. row.now)) c.new-none.ensures)
-    (subst (λ (rows : List Row). Adds (map (λ row. row.now) c.new-none.result) (map (λ row. row.now) c.in_ok-found.found) (λ row. list_any (within c.args.schema.now c.args.rows.now 0 row) (c.args.filter.now ∷ [])) rows)
-    (ap (map (λ row. row.now)) c.as_slice-here.ensures ∙ c.in_ok-all.ensures)
-    (subst (λ (elems : List Elem). Adds (map (λ row. row.now) c.new-none.result) (map (λ row. row.now) c.in_ok-found.found) (λ row. list_any (within c.args.schema.now c.args.rows.now 0 row) elems) (map (λ row. row.now) c.as_slice-here.result.now))
+    (subst (λ (elems : List Elem). Adds (map (λ row. row.now) c.new-none.result) found (λ row. list_any (within c.args.schema.now rows 0 row) elems) rows)
     (ap (map (λ elem. elem.now)) (c.as_slice-top.ensures ∙ c.in_ok-push.ensures.ok ∙ ap (λ elems. elems ++ c.args.filter ∷ []) c.new-elems.ensures))
-    (c.in_ok-found.ensures c.args.rows.now index)))) test
+    (c.in_ok-found.ensures rows index))) test

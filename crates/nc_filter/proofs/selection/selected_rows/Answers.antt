@@ -7,6 +7,6 @@ use Rattle.nc_filter.proofs.selection.selected_rows.Goals as goal
 
 pub returns : goal.returns
 returns c =
-    c.in_ok-out.ensures (chosen c.args.schema.now c.args.filter.now c.args.rows.now)
+    c.in_ok-out.ensures (chosen c.args.schema.now c.args.filter.now (map (λ row. row.now) c.args.rows.now))
     (λ key. c.in_ok-places.ensures key ∙ ap (λ rows. list_any (λ row. is_at_or_below key.now row.path) (map (λ row. row.now) rows)) c.as_slice.ensures
     ∙ c.in_ok-found.ensures c.in_ok-index.ensures (λ row. is_at_or_below key.now row.path))

@@ -1,7 +1,7 @@
-use Rattle.std.proofs.Common.{take}
+use Rattle.std.proofs.Common.{map, take}
 use Rattle.nc_filter.specs.inner.Tables.{IsIndex}
 use Rattle.nc_filter.proofs.index.Index.new.Given as goal
 
 abbrev pub invariant-loop-row : goal.invariant-loop-row
 invariant-loop-row l =
-    IsIndex l.table (take l.row-index l.rows)
+    IsIndex l.table (map (λ row. row.now) (take l.row-index l.rows))

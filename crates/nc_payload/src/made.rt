@@ -122,7 +122,7 @@ pub(crate) fn config_merged(
     ensures { IfOk result (λ it. it ≡ meant.rows_merged schema.now merges.now) }
 {
     match in_order(alloc, schema, merges)? {
-        Some(rows) => Ok(Config::from_rows(rows)),
+        Some(rows) => Config::from_rows(rows),
         None => one_by_one(alloc, schema, merges),
     }
 }
@@ -156,5 +156,8 @@ pub(crate) fn rows_merged(
 ) -> Result<Many<Row>, Memory>
     ensures { IfOk result (λ it. it ≡ meant.rows_merged schema.now merges.now) }
 {
-    Ok(config_merged(alloc, schema, merges)?.into_rows())
+    match in_order(alloc, schema, merges)? {
+        Some(rows) => Ok(rows),
+        None => one_by_one(alloc, schema, merges)?.into_rows(),
+    }
 }

@@ -5,6 +5,7 @@
 //! with `6` leaf port, `7` list rule, ordered by the user, key `8` id, `9` leaf-list search, `10` leaf dhcp, `11` leaf
 //! address.
 mod changes_tests;
+mod parts_tests;
 mod tree_tests;
 
 use nc_names::{Boxed, Many, Path, Place, QName, Row, Step, Text};
@@ -135,4 +136,14 @@ fn config(rt: &impl Abort, alloc: Global, schema: &Schema, lines: &str) -> Confi
         }
     }
     config
+}
+
+// Looks whether a configuration has these rows.
+fn has(rt: &impl Abort, alloc: Global, config: &Config, wanted: &str) {
+    let found = config
+        .block(&Path {
+            steps: Many::new(alloc),
+        })
+        .expect(rt, "memory");
+    assert!(rt; found == rows(rt, alloc, wanted), "{wanted}");
 }

@@ -1,25 +1,17 @@
 //! Rows of a configuration as they are replaced, removed, counted and compared; values at paths that have none; which
 //! data nodes stand in which; a keeper that fails.
-use super::{config, path, row, rows, schema};
+use super::{config, has, path, rows, schema};
 use nc_defaults::{Children, in_use};
 use nc_names::{Copies, Many, Place};
 use nc_schema::Schema;
-use nc_tree::{Config, Doubt, Keeper, Kept, MemKeeper, rows_of_node};
+use nc_tree::{Config, Doubt, Keeper, Kept, Listed, MemKeeper, rows_of_node};
 use std::alloc::Global;
 use std::process::Abort;
 
 // Looks whether so many rows are removed.
 fn removes(rt: &impl Abort, alloc: Global, config: &mut Config, at: &str, wanted: u64) {
-    let found = config.remove(&path(rt, alloc, at));
+    let found = config.remove(&path(rt, alloc, at)).expect(rt, "memory");
     assert!(rt; found == wanted, "{at}: {found}");
-}
-
-// Looks whether a configuration has these rows.
-fn has(rt: &impl Abort, alloc: Global, config: &Config, wanted: &str) {
-    assert!(rt;
-        config.as_slice() == rows(rt, alloc, wanted).as_slice(),
-        "{wanted}"
-    );
 }
 
 #[test]
@@ -77,7 +69,7 @@ fn rows_are_counted(rt: HostRuntime) {
         assert!(rt; found == *wanted, "{at}");
     }
     assert!(rt; config.len() == 8);
-    assert!(rt; config.into_rows().len() == 8);
+    assert!(rt; config.into_rows().expect(&rt, "memory").len() == 8);
 }
 
 const ORDERS: &[(&str, &str, bool)] = &[
@@ -119,9 +111,10 @@ fn values_are_those_of_their_paths(rt: HostRuntime) {
     let alloc = rt.alloc();
     let schema = schema(&rt, alloc);
     let config = config(&rt, alloc, schema.get(), "3:ntp,tcp");
+    let listed = Listed::of(alloc, &config).expect(&rt, "memory");
     for (asked, wanted) in VALUES {
         let at = path(&rt, alloc, asked);
-        let found = match in_use(schema.get(), &config, &at) {
+        let found = match in_use(schema.get(), &listed, &at) {
             Some(value) => value.as_str(),
             None => "",
         };

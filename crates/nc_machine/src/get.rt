@@ -18,7 +18,7 @@ impl Server {
             meant.filtered self.now.schema filter.now (meant.stored self.now store)) }
     {
         match filter {
-            None => Ok(self.stored(store).copy()?.into_rows()),
+            None => self.stored(store).copy()?.into_rows(),
             Some(filter) => select(self.alloc(), self.schema(), filter, self.stored(store)),
         }
     }

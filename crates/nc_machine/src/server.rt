@@ -8,7 +8,7 @@ ghost use Rattle.nc_model.specs.Verdict.{stored};
 ghost use Rattle.nc_machine.specs.inner.Turns.{IsUnlocked};
 
 use nc_model::Session;
-use nc_names::{Many, Memory, same_rows};
+use nc_names::{Many, Memory};
 use nc_protocol::Datastore;
 use nc_schema::Schema;
 use nc_tree::Config;
@@ -149,7 +149,7 @@ impl Server {
     pub(crate) fn set_candidate(&mut self, rows: Config)
         ensures { self.new ≡ with_candidate self.old (Some rows) }
     {
-        if !same_rows(rows.as_slice(), self.in_force().as_slice()) {
+        if !rows.is_same(self.in_force()) {
             self.candidate = Some(rows);
         }
     }

@@ -57,7 +57,10 @@ fn begin(rt: &impl Abort, alloc: Global, failing: Many<u64>) -> Machine<MemKeepe
     sample_is_proper();
     let keeper = MemKeeper::new(Config::empty(alloc), failing);
     let schema = shared_schema(rt, alloc);
-    Machine::begin(alloc, schema, Config::empty(alloc), keeper).expect(rt, "memory")
+    match Machine::begin(alloc, schema, Config::empty(alloc), keeper) {
+        Ok(machine) => machine,
+        Err(_) => panic!(rt; "memory"),
+    }
 }
 
 // One more event may be handed in.

@@ -1,0 +1,107 @@
+-- The index stays beside the list: with a lock more, and without some.
+use Rattle.std.proofs.Common.{◌≡◌, ◌+◌, ◌&&◌, ◌||◌, ◌++◌, ◌<◌, ◌≤◌, ℕ, Bool, true, false, cond, List, [], ◌∷◌, get_or, refl, sym, ap, ◌∙◌, arith}
+use Rattle.std.specs.List.{filter, list_any}
+use Rattle.std.specs.List.Sorted.{IsPermutation, IsSorted}
+use Rattle.std.specs.Ordering.{is_lt, ordering_then}
+use Rattle.std.specs.declared.cmp.Ordering.{Ordering}
+use Rattle.std.specs.declared.cmp.Ordering.TheVariants.{Less, Equal, Greater}
+use Rattle.std.proofs.lemmas.List.Elements.{All-filter, All-push, All-weaker}
+use Rattle.std.proofs.lemmas.List.Folds.{list_any-append}
+use Rattle.std.proofs.lemmas.List.Kept.{AllPairs-filter, IsSortedBy-filter}
+use Rattle.std.proofs.lemmas.List.Quantifiers.{all_pairs_push}
+use Rattle.std.proofs.lemmas.List.Sorted.{list_any-IsPermutation, ranks_by}
+use Rattle.nc_names.specs.declared.path.Path.{Path}
+use Rattle.nc_model.specs.State.{NodeLock}
+use Rattle.nc_partial.specs.contracts.entry.EntryOrd.TheImpl.{ghosts}
+use Rattle.nc_partial.specs.declared.entry.Entry.{Entry}
+use Rattle.nc_partial.specs.inner.Entries.{Adds, IsAscending, all_entries, entries_of, entry_of, steps_cmp}
+use Rattle.nc_partial.specs.inner.Indexed.{IsIndexed}
+use Rattle.nc_partial.proofs.FoundLemmas.{any_flat, any_map}
+use Rattle.nc_partial.proofs.OrderLemmas.{steps_total}
+
+-- ---- none
+pub none_indexed : IsIndexed [] 0 []
+none_indexed = record {
+  rise = λ i j d less within. absurd (omega (arith, within));
+  given = λ k d within. absurd (omega (arith, within));
+  order = λ k d low within. absurd (omega (arith, within));
+  holds = λ test. refl;
+}
+
+-- ---- a lock more
+-- what is sorted by steps, lock-id and session is sorted by steps
+pub sorted_by_steps : (entries : List Entry) → IsSorted ghosts.cmp entries → IsAscending entries
+sorted_by_steps entries sorted k d low within = by (steps_cmp (get_or entries (k + 1) d).steps (get_or entries k d).steps) _ (sorted k d low within)
+  where
+    by : (o p : Ordering) → is_lt (ordering_then o p) ≡ false → is_lt o ≡ false
+    by Less p e = e
+    by Equal p e = refl
+    by Greater p e = refl
+
+pub adds_from_sort : (old more new : List Entry) → IsPermutation (old ++ more) new → Adds more old new
+adds_from_sort old more new moved test = sym (list_any-IsPermutation test (old ++ more) new moved) ∙ list_any-append test old more
+
+or_false : (a : Bool) → (a || false) ≡ a
+or_false true = refl
+or_false false = refl
+
+one_more : (test : Entry → Bool) (locks : List NodeLock) (lock : NodeLock) → (list_any test (all_entries locks) || list_any test (entries_of lock)) ≡ list_any test (all_entries (locks ++ lock ∷ []))
+one_more test locks lock =
+    (λ i. any_flat test entries_of locks i || sym (or_false (list_any test (entries_of lock))) i)
+    ∙ sym (list_any-append (λ one. list_any test (entries_of one)) locks (lock ∷ []))
+    ∙ sym (any_flat test entries_of (locks ++ lock ∷ []))
+
+pub added_indexed : (locks : List NodeLock) (last : ℕ) (index new : List Entry) (lock : NodeLock) → IsIndexed locks last index → last < lock.id →
+    IsAscending new → Adds (entries_of lock) index new → IsIndexed (locks ++ lock ∷ []) lock.id new
+added_indexed locks last index new lock indexed above order adds = record {
+  rise = all_pairs_push (λ one later. one.id < later.id) locks lock indexed.rise
+      (λ k d within. let low : (get_or locks k d).id ≤ last = indexed.given k d within in omega (arith, low, above));
+  given = All-push (λ one. one.id ≤ lock.id) locks lock
+      (All-weaker (λ one. one.id ≤ last) (λ one. one.id ≤ lock.id) (λ one low. omega (arith, low, above)) locks indexed.given) (omega arith);
+  order = order;
+  holds = λ test. adds test ∙ ap (λ b. b || list_any test (entries_of lock)) (indexed.holds test) ∙ one_more test locks lock;
+}
+
+-- ---- without some
+any_filter : {X : Type 0} (test keep : X → Bool) (xs : List X) → list_any test (filter keep xs) ≡ list_any (λ x. keep x && test x) xs
+any_filter test keep [] = refl
+any_filter test keep (x ∷ xs) = by (keep x) (any_filter test keep xs)
+  where
+    by : (b : Bool) → list_any test (filter keep xs) ≡ list_any (λ y. keep y && test y) xs →
+        list_any test (cond b (x ∷ filter keep xs) (filter keep xs)) ≡ ((b && test x) || list_any (λ y. keep y && test y) xs)
+    by true more = ap (λ b. test x || b) more
+    by false more = more
+
+none_any : {X : Type 0} (xs : List X) → list_any (λ x. false) xs ≡ false
+none_any [] = refl
+none_any (x ∷ xs) = none_any xs
+
+module _ (keeps : NodeLock → Bool) (keep : Entry → Bool) (same : (lock : NodeLock) (node : Path) → keep (entry_of lock node) ≡ keeps lock) where
+  of_lock : (test : Entry → Bool) (lock : NodeLock) (b : Bool) → keeps lock ≡ b → list_any (λ e. keep e && test e) (entries_of lock) ≡ (b && list_any test (entries_of lock))
+  of_lock test lock b e =
+      any_map (λ entry. keep entry && test entry) (entry_of lock) lock.nodes
+      ∙ ap (λ f. list_any f lock.nodes) (λ i node. (same lock node ∙ e) i && test (entry_of lock node))
+      ∙ by b
+    where
+      by : (b : Bool) → list_any (λ node. b && test (entry_of lock node)) lock.nodes ≡ (b && list_any test (entries_of lock))
+      by true = sym (any_map test (entry_of lock) lock.nodes)
+      by false = none_any lock.nodes
+
+  of_kept : (test : Entry → Bool) (locks : List NodeLock) → list_any (λ e. keep e && test e) (all_entries locks) ≡ list_any test (all_entries (filter keeps locks))
+  of_kept test [] = refl
+  of_kept test (lock ∷ locks) =
+      list_any-append (λ e. keep e && test e) (entries_of lock) (all_entries locks) ∙ by (keeps lock) refl (of_kept test locks)
+    where
+      by : (b : Bool) → keeps lock ≡ b → list_any (λ e. keep e && test e) (all_entries locks) ≡ list_any test (all_entries (filter keeps locks)) →
+          (list_any (λ e. keep e && test e) (entries_of lock) || list_any (λ e. keep e && test e) (all_entries locks))
+          ≡ list_any test (all_entries (cond b (lock ∷ filter keeps locks) (filter keeps locks)))
+      by true e more = (λ i. of_lock test lock true e i || more i) ∙ sym (list_any-append test (entries_of lock) (all_entries (filter keeps locks)))
+      by false e more = (λ i. of_lock test lock false e i || more i)
+
+  pub kept_indexed : (locks : List NodeLock) (last : ℕ) (index : List Entry) → IsIndexed locks last index → IsIndexed (filter keeps locks) last (filter keep index)
+  kept_indexed locks last index indexed = record {
+    rise = AllPairs-filter (λ one later. one.id < later.id) keeps locks indexed.rise;
+    given = All-filter keeps (λ lock. lock.id ≤ last) locks indexed.given;
+    order = IsSortedBy-filter (λ (e : Entry) (f : Entry). is_lt (steps_cmp e.steps f.steps)) (ranks_by steps_total (λ (e : Entry). e.steps)) keep index indexed.order;
+    holds = λ test. any_filter test keep index ∙ indexed.holds (λ e. keep e && test e) ∙ of_kept test locks;
+  }

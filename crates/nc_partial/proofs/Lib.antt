@@ -1,0 +1,6 @@
+pub mod FoundLemmas
+pub mod GivenLemmas
+pub mod IndexLemmas
+pub mod LowestLemmas
+pub mod OrderLemmas
+pub mod SearchLemmas

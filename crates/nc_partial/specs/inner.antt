@@ -1,0 +1,4 @@
+pub mod Entries
+pub mod Given
+pub mod Indexed
+pub mod Lowest

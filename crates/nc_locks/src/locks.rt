@@ -75,8 +75,8 @@ impl Locks {
         }
     }
 
-    /// Grants a session the lock of a datastore, and answers whether it did: not where a session holds it, also
-    /// the same one (RFC 6241 7.5).
+    /// Grants a session the lock of a datastore, and answers whether it did: not where a session holds it,
+    /// also the same one (RFC 6241 7.5).
     pub fn grant(&mut self, which: Datastore, session: u32) -> bool
         ensures told { result ≡ not (is_some (holder_of self.old which)) }
         ensures held { self.new ≡ (if is_some (holder_of self.old which) then self.old

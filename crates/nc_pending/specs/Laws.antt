@@ -10,8 +10,8 @@ FollowedAsStated =
     (s : State) (pending : Pending) (session timeout : ℕ) (persist : Option (List ℕ)) → s.pending ≡ Some pending →
     pending_by s session timeout persist ≡ followed pending (s.now + milliseconds timeout) persist session
 
--- a reading of the clock is past the deadline where the state has the commit reverted, and the base is running then (RFC
--- 6241 8.4.1)
+-- a reading of the clock is past the deadline where the state has the commit reverted, and the base is running then
+-- (RFC 6241 8.4.1)
 pub record IsReversion (s : State) (pending : Pending) : Type 0 where
   pub due : is_due s ≡ nat_le pending.deadline s.now
   pub base : (reverted s).running ≡ pending.base

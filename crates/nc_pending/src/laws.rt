@@ -6,14 +6,14 @@ pub fn followed_as_stated()
     ensures { FollowedAsStated }
 {}
 
-/// What is told of a reading of the clock is whether the server's state reverts the pending commit then, and what
-/// is given back is running afterwards.
+/// What is told of a reading of the clock is whether the server's state reverts the pending commit then, and
+/// what is given back is running afterwards.
 pub fn reverted_as_stated()
     ensures { RevertedAsStated }
 {}
 
-/// What is told of the end of a session is whether the server's state reverts the pending commit then, and what is
-/// left of it is what stays pending.
+/// What is told of the end of a session is whether the server's state reverts the pending commit then, and
+/// what is left of it is what stays pending.
 pub fn ended_as_stated()
     ensures { EndedAsStated }
 {}

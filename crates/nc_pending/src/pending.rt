@@ -62,8 +62,8 @@ fn is_same(token: &Text, text: &Text) -> bool
 }
 
 impl Pending {
-    /// A first confirmed commit: `base` is running before it, to which it is reverted at a reading of the clock
-    /// of at least `deadline`; `token` is its `persist` text.
+    /// A first confirmed commit: `base` is running before it, to which it is reverted at a reading of the
+    /// clock of at least `deadline`; `token` is its `persist` text.
     pub fn begin(base: Config, deadline: u64, token: Option<Text>, session: u32) -> Pending
         ensures { result ≡ record { base = base; deadline = deadline; token = token; session = session } }
     {
@@ -75,8 +75,8 @@ impl Pending {
         }
     }
 
-    /// Whether a session may follow, confirm or cancel it with that `persist-id`: one that persists takes its own
-    /// text alone, from any session; another one its own session alone, and no text (RFC 6241 8.4.1).
+    /// Whether a session may follow, confirm or cancel it with that `persist-id`: one that persists takes its
+    /// own text alone, from any session; another one its own session alone, and no text (RFC 6241 8.4.1).
     ///
     /// # Errors
     ///
@@ -112,8 +112,8 @@ impl Pending {
         }
     }
 
-    /// A follow-up: it gets a new deadline, and that session; its `persist` text stays unless there is another
-    /// (RFC 6241 8.4.1, 8.4.5.1).
+    /// A follow-up: it gets a new deadline, and that session; its `persist` text stays unless there is
+    /// another (RFC 6241 8.4.1, 8.4.5.1).
     pub fn follow(&mut self, deadline: u64, token: Option<Text>, session: u32)
         ensures { self.new ≡ pending.followed self.old deadline token session }
     {
@@ -131,8 +131,8 @@ impl Pending {
         self.deadline <= now
     }
 
-    /// What the end of a session does to it: answers whether it is to be reverted; where it persists and was that
-    /// session's, none is the one that may confirm it without its text (RFC 6241 8.4.1).
+    /// What the end of a session does to it: answers whether it is to be reverted; where it persists and was
+    /// that session's, none is the one that may confirm it without its text (RFC 6241 8.4.1).
     pub fn ended_by(&mut self, session: u32) -> bool
         ensures told { result ≡ pending.is_reverted_by self.old session }
         ensures left { self.new ≡ pending.left_of self.old session }

@@ -1,4 +1,4 @@
-//! Answers of the crates for plain texts, messages, frames and module texts to rows of text. Each line of the
+//! Answers of the crates for plain texts, messages, frames, module texts and patterns to rows of text. Each line of the
 //! input is a row, a kind and a text, and is printed with what is answered; empty lines and those that begin
 //! with `#` are printed as they are. Nothing stands on this crate.
 //!
@@ -10,19 +10,34 @@ mod frames;
 mod given;
 mod messages;
 mod modules;
+mod patterns;
 mod shown;
 mod words;
 
 use nc_names::Memory;
+use patterns::Types;
 use std::alloc::Global;
 use std::io::{self, ErrorKind};
 
-/// What is answered to a row.
-fn answer(alloc: Global, line: &str) -> Result<String, Memory> {
+/// What is answered to a row. In a pattern a backslash is one of its own.
+fn answer(alloc: Global, types: &mut Types, line: &str) -> Result<String, Memory> {
     let (kind, rest) = line.split_once(" ").unwrap_or((line, ""));
-    let given = given::spelled(alloc, rest.as_bytes())?;
-    let bytes = given.as_slice();
     match kind {
+        "pattern" => types.begin(rest),
+        "and" => types.add(rest),
+        _ => answer_to(
+            alloc,
+            types,
+            kind,
+            given::spelled(alloc, rest.as_bytes())?.as_slice(),
+        ),
+    }
+}
+
+/// What is answered to a row of a kind whose text stands for these bytes.
+fn answer_to(alloc: Global, types: &Types, kind: &str, bytes: &[u8]) -> Result<String, Memory> {
+    match kind {
+        "admits" => types.admits(bytes),
         "decimal" => words::decimal(alloc, bytes),
         "identifier" => words::identifier(alloc, bytes),
         "message" => messages::read(alloc, bytes),
@@ -39,12 +54,13 @@ fn answer(alloc: Global, line: &str) -> Result<String, Memory> {
 }
 
 fn main(rt: HostRuntime) -> io::Result<()> {
+    let mut types = Types::new(rt.alloc());
     for line in rt.lines(rt.alloc()) {
         let line = line?;
         if line.is_empty() || line.as_str().starts_with('#') {
             println!(rt; "{line}")?;
         } else {
-            let answer = answer(rt.alloc(), line.as_str()).map_err(|_| io::Error::from(
+            let answer = answer(rt.alloc(), &mut types, line.as_str()).map_err(|_| io::Error::from(
                 ErrorKind::OutOfMemory,
             ))?;
             println!(rt; "{line} => {answer}")?;

@@ -1,8 +1,9 @@
 //! The schemas and the bindings of the rows.
-ghost use Rattle.std.specs.Prelude.{ℕ, IfOk};
+ghost use Rattle.std.specs.Prelude.{ℕ, IfOk, length};
 ghost use Rattle.nc_schema.specs.Tables.{NamesPatterns};
 
 use nc_names::{Bound, Many, Memory, Module, QName, Text};
+use nc_patterns::{RegexMaker, read};
 use nc_schema::{Between, Deny, Kind, Node, Schema, ValueType};
 use std::alloc::Global;
 
@@ -27,6 +28,7 @@ const PORTS: &[Entry] = &[
     ("urn:ex", "leaf", TOP, Kind::Leaf, 1),
     ("urn:ex", "leaf", TOP, Kind::Leaf, 2),
     ("urn:ex", "leaf", TOP, Kind::Leaf, 4),
+    ("urn:ex", "leaf", TOP, Kind::Leaf, 5),
 ];
 
 /// The data nodes from 0 on of the modules `ex` and `ot`; `hidden` is in a namespace of no module.
@@ -82,9 +84,8 @@ fn put_module(alloc: Global, schema: &mut Schema, name: &str, space: &str) -> Re
     Ok(())
 }
 
-/// Puts a type that names no pattern.
 fn put_type(schema: &mut Schema, value_type: ValueType) -> Result<(), Memory>
-    requires { (count : ℕ) → NamesPatterns count value_type }
+    requires { NamesPatterns (length schema.old.patterns) value_type }
 {
     if schema.types().len() < 100 {
         schema.add_type(value_type)?;
@@ -105,6 +106,28 @@ fn chars(alloc: Global, least: i128, starless: bool) -> Result<ValueType, Memory
     })
 }
 
+/// Adds a pattern, and a string of up to 5 characters that it admits.
+fn put_pattern(alloc: Global, schema: &mut Schema, pattern: &str) -> Result<(), Memory> {
+    let Ok(()) = read(alloc, pattern) else {
+        return Err(Memory);
+    };
+    let Ok(number) = schema.add_pattern(&mut RegexMaker::new(alloc), pattern) else {
+        return Err(Memory);
+    };
+    let mut lengths = Many::new(alloc);
+    lengths.push(Between { least: 0, most: 5 })?;
+    let mut patterns = Many::new(alloc);
+    patterns.push(number)?;
+    put_type(
+        schema,
+        ValueType::Chars {
+            lengths,
+            starless: false,
+            patterns,
+        },
+    )
+}
+
 /// A union of the types 2 and 3: of itself and of a boolean.
 fn union_of_itself(alloc: Global) -> Result<ValueType, Memory>
     ensures { IfOk result (λ it. (count : ℕ) → NamesPatterns count it) }
@@ -115,14 +138,15 @@ fn union_of_itself(alloc: Global) -> Result<ValueType, Memory>
     Ok(ValueType::Union { members })
 }
 
-/// Types 0 to 4: a string of up to 5 characters, a node-instance identifier, a union of itself and of a
-/// boolean, that boolean, and the name of a group.
+/// Types 0 to 5: a string of up to 5 characters, a node-instance identifier, a union of itself and of a
+/// boolean, that boolean, the name of a group, and a string with a pattern.
 fn put_types(alloc: Global, schema: &mut Schema) -> Result<(), Memory> {
     put_type(schema, chars(alloc, 0, false)?)?;
     put_type(schema, ValueType::NodeInstance)?;
     put_type(schema, union_of_itself(alloc)?)?;
     put_type(schema, ValueType::Boolean)?;
-    put_type(schema, chars(alloc, 1, true)?)
+    put_type(schema, chars(alloc, 1, true)?)?;
+    put_pattern(alloc, schema, "[a-c]+\\d?")
 }
 
 /// The data node of an entry of a table, whose number is `number`.

@@ -38,8 +38,8 @@ impl<D: Disk> Journal<D> {
             IfErr result (λ it. BeginsSafely D.may_leave D.moment D.left_since header.now disk it.0 file)) }
         ensures tells { IfOk result (λ it. is_some (D.seen (disk_of it.0)) ≡ is_some (D.seen disk)) ×
             IfErr result (λ it. is_some (D.seen it.0) ≡ is_some (D.seen disk)) }
-        ensures cause { IfErr result (λ it. it.1 ≡ JournalFault.DiskFault →
-            Rose (D.faults disk) (D.faults it.0)) }
+        ensures cause { IfOk result (λ it. D.faults (disk_of it.0) ≡ D.faults disk) ×
+            IfErr result (λ it. it.1 ≡ JournalFault.DiskFault → Rose (D.faults disk) (D.faults it.0)) }
     {
         let mut disk = disk;
         match open(alloc, &mut disk, header) {

@@ -1,5 +1,5 @@
 -- What the functions that read a file say of a fault.
-use Rattle.std.specs.Prelude.{◌≡◌, ℕ, ◌≤◌, Result, Ok, Err, IsErrOf}
+use Rattle.std.specs.Prelude.{◌≡◌, ℕ, ◌≤◌, Result, Ok, Err, OnOk, IsErrOf}
 use Rattle.nc_names.specs.Counts.{Rose}
 use Rattle.nc_journal.specs.declared.fault.JournalFault.{JournalFault}
 use Rattle.nc_journal.specs.declared.fault.JournalFault.TheVariants.{DiskFault, Damaged, OtherHeader, Memory}
@@ -20,7 +20,8 @@ OnDamaged (Err (Damaged at)) P = P
 OnDamaged (Err (OtherHeader at)) P = P
 OnDamaged (Err Memory) P = Unit {0}
 
--- a fault of the disk comes only where the count of faults rose
+-- an Ok leaves the count of faults as it was, and a fault of the disk comes only where it rose
 pub record HasFault {T : Type 0} (before now : ℕ) (result : Result T JournalFault) : Type 0 where
   pub later : before ≤ now
+  pub same : OnOk result (now ≡ before)
   pub failed : IsErrOf result DiskFault → Rose before now

@@ -1,4 +1,4 @@
-use Rattle.std.proofs.Common.{◌≡◌, ℕ, ◌+◌, ◌<◌, ◌≤◌, length, get_or, [], sym, ◌∙◌, ap, subst, arith}
+use Rattle.std.proofs.Common.{◌≡◌, ℕ, ◌+◌, ◌<◌, ◌≤◌, length, get_or, [], sym, ◌∙◌, ap, subst, arith, refl}
 use Rattle.std.proofs.lemmas.Result.{err_from_is_err_and}
 use Rattle.nc_journal.specs.inner.Headers.{HasModules}
 use Rattle.nc_journal.proofs.FaultLemmas.{refused_on}
@@ -9,7 +9,7 @@ use Rattle.nc_journal.proofs.header.modules_end.Goals as goal
 pub loop-done-init : goal.loop-done-init
 loop-done-init g c = (
   looks_none g.D.Disk.seen g.D.Disk.may_leave g.D.Disk.moment g.D.Disk.left_since g.met.D.Disk.only_now c.args.disk.now,
-  omega arith,
+  refl,
   omega (arith, c.requires),
   omega arith,
   λ file told long. no_modules c.args.at file,
@@ -33,7 +33,7 @@ loop-done-preserved g c =
     let inv = c.loop-done.invariant in (
       looks_then g.D.Disk.seen g.D.Disk.may_leave g.D.Disk.moment g.D.Disk.left_since g.met.D.Disk.only_now c.args.disk.now
           c.loop-done.disk c.counted_end.new.disk inv.0 c.counted_end.ensures.only_reads,
-      omega (arith, inv.1, c.counted_end.ensures.cause.later),
+      c.in_ok-end.ensures.cause.same ∙ inv.1,
       c.in_ok-end.ensures.within,
       omega (arith, c.loop-done-test.true),
       λ file told long.

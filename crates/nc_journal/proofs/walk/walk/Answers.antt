@@ -10,7 +10,7 @@ use Rattle.nc_journal.proofs.walk.walk.Goals as goal
 pub loop-byte-init : goal.loop-byte-init
 loop-byte-init g c = (
   c.gate_due.ensures.only_reads,
-  c.gate_due.ensures.cause.later,
+  c.in_ok-byte.ensures.cause.same,
   c.in_ok-byte.ensures.within,
   c.in_ok-byte.ensures.byte,
   λ file told long header place bodies gate area is.
@@ -27,7 +27,7 @@ loop-byte-preserved g c =
     (looks_then g.D.Disk.seen g.D.Disk.may_leave g.D.Disk.moment g.D.Disk.left_since g.met.D.Disk.only_now c.args.disk.now c.loop-byte.disk c.record_at.new.disk inv.0 c.record_at.ensures.only_reads)
     c.gate_due-in-loop-byte.ensures.only_reads in (
       only_reads,
-      omega (arith, inv.1, c.record_at.ensures.cause.later, c.gate_due-in-loop-byte.ensures.cause.later),
+      c.in_ok-byte-2.ensures.cause.same ∙ c.in_ok-body.ensures.cause.same ∙ inv.1,
       c.in_ok-byte-2.ensures.within,
       λ file told. c.in_ok-byte-2.ensures.byte file (c.record_at.ensures.only_reads.same ∙ inv.0.same ∙ told),
       λ file told long header place bodies gate area is.

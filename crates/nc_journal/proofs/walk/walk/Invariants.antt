@@ -11,7 +11,7 @@ decreases-loop-byte g l = l.size - l.at
 abbrev pub invariant-loop-byte : goal.invariant-loop-byte
 invariant-loop-byte g l =
     OnlyReads g.D.Disk.seen g.D.Disk.may_leave g.D.Disk.moment g.D.Disk.left_since l.fn.disk l.disk
-    × (g.D.Disk.faults l.fn.disk ≤ g.D.Disk.faults l.disk) × (l.at < l.size)
+    × (g.D.Disk.faults l.disk ≡ g.D.Disk.faults l.fn.disk) × (l.at < l.size)
     × Told (g.D.Disk.seen l.fn.disk) (λ file. slice_get file l.at ≡ Some l.byte)
     × Told (g.D.Disk.seen l.fn.disk) (λ file. length file ≡ l.size → (header : List ℕ) (place : ℕ) (bodies : List (List ℕ)) (gate : ℕ) → IsArea header place bodies gate file → l.fn.start ≡ place + length header
     → HasWalked header place bodies file l.bodies l.at l.byte)

@@ -7,7 +7,7 @@ ghost use Rattle.nc_partial.specs.inner.Lowest.{IsLowest};
 use crate::entry::{Covered, Entry, is_at, is_before, lower, of_other};
 use nc_names::{Path, Step, tail};
 
-// Of the locks of entries that have the node itself, or, where `below`, that or one below it; they come first.
+// Of the locks whose entries have the node itself, or, where `below`, that or one below it: they come first.
 fn lowest_in_front(
     entries: &[Entry],
     steps: &[Step],

@@ -1,6 +1,6 @@
 -- The first check of several that fails, as it is looked for one after another.
 use Rattle.std.proofs.Common.{◌≡◌, ◌⊎◌, ◌≤◌, ◌<◌, ℕ, Bool, true, false, not, List, [], ◌∷◌, refl, sym, ap, ◌∙◌, inl, inr, Option, Some, None}
-use Rattle.std.specs.Prelude.{nat_le, nat_lt}
+use Rattle.std.specs.Prelude.{cond, nat_le, nat_lt}
 use Rattle.std.specs.Option.{option_or}
 use Rattle.std.proofs.lemmas.Bool.{le-ltb, lt-ltb}
 use Rattle.std.proofs.lemmas.Bool.Decides.{leb_tells}
@@ -18,8 +18,8 @@ use Rattle.nc_protocol.specs.Words.{confirmed_word}
 use Rattle.nc_model.specs.Access.{rights_of}
 use Rattle.nc_model.specs.State.{State, candidate_in_force}
 use Rattle.nc_model.specs.Words.{record_word}
-use Rattle.nc_model.specs.Verdict.{changes_denied, commit_admission, commit_changes, commit_refusal, copy_checks, edit_checks, in_use, in_use_partial, is_target, record_refusal, unsupported, unsupported_origin}
-use Rattle.nc_machine.specs.inner.Courses.{commit_refused, same_store, uncopied, unedited}
+use Rattle.nc_model.specs.Verdict.{changes_denied, commit_admission, commit_changes, commit_refusal, copy_checks, edit_checks, in_use, in_use_partial, is_running, is_source, is_target, lock_refusal, partly_locked, pending_of_other, record_refusal, unlock_refusal, unsupported, unsupported_origin}
+use Rattle.nc_machine.specs.inner.Courses.{commit_refused, held_refusal, lock_refused, modified_refusal, not_held, same_store, uncopied, unedited, unlock_refused}
 
 first_of_two : (a b : Option Cause) → first_cause (a ∷ b ∷ []) ≡ option_or a b
 first_of_two (Some cause) b = refl
@@ -32,6 +32,15 @@ first_of_four None (Some cause) c d = refl
 first_of_four None None (Some cause) d = refl
 first_of_four None None None (Some cause) = refl
 first_of_four None None None None = refl
+
+first_of_five : (a b c d e : Option Cause) →
+    first_cause (a ∷ b ∷ c ∷ d ∷ e ∷ []) ≡ option_or a (option_or b (option_or c (option_or d e)))
+first_of_five (Some cause) b c d e = refl
+first_of_five None (Some cause) c d e = refl
+first_of_five None None (Some cause) d e = refl
+first_of_five None None None (Some cause) e = refl
+first_of_five None None None None (Some cause) = refl
+first_of_five None None None None None = refl
 
 first_of_eight : (a b c d e f g h : Option Cause) → first_cause (a ∷ b ∷ c ∷ d ∷ e ∷ f ∷ g ∷ h ∷ [])
     ≡ option_or (option_or a (option_or b (option_or c d))) (option_or (option_or e f) (option_or g h))
@@ -52,6 +61,14 @@ pub copy_checked : (s : State) (session : ℕ) (target : Datastore) (source : Or
     first_cause (copy_checks s session target source) ≡ uncopied s session target source
 copy_checked s session target source =
     first_of_four (unsupported is_target target) (unsupported_origin source) (same_store target source) (in_use s session Candidate)
+
+pub lock_checked : (s : State) (session : ℕ) (target : Datastore) → lock_refusal s session target ≡ lock_refused s session target
+lock_checked s session target =
+    first_of_five (unsupported is_source target) (held_refusal s target) (modified_refusal s target)
+    (cond (is_running target) (pending_of_other session s.pending) None) (cond (is_running target) (partly_locked s session) None)
+
+pub unlock_checked : (s : State) (session : ℕ) (target : Datastore) → unlock_refusal s session target ≡ unlock_refused s session target
+unlock_checked s session target = first_of_two (unsupported is_source target) (not_held s session target)
 
 pub commit_checked : (s : State) (session : ℕ) (confirmed : Bool) (persist_id : Option (List ℕ)) →
     commit_refusal s session confirmed persist_id ≡ commit_refused s session confirmed persist_id

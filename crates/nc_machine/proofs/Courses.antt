@@ -21,16 +21,17 @@ use Rattle.nc_protocol.specs.Proper.{IsAskedOf, IsProper, operation_of}
 use Rattle.nc_model.specs.State.{State, candidate_in_force}
 use Rattle.nc_model.specs.Step.{answered, answered_unless, appends_record, committed, is_done, rows_of_ok, with_candidate}
 use Rattle.nc_protocol.specs.Asking.{plain_cause}
-use Rattle.nc_model.specs.Verdict.{commit_refusal, copied, edits_made, exec_denied, in_use, is_offered, kept_unless, operation_refused, rows_set, verdict, verdict_on}
+use Rattle.nc_model.specs.Verdict.{commit_refusal, copied, edits_made, exec_denied, in_use, is_offered, kept_unless, kill_refusal, operation_refused, rows_set, verdict, verdict_on}
 use Rattle.nc_protocol.specs.Refusals.{checked, refused_for}
 use Rattle.nc_model.proofs.GoodLemmas.{commit_is_small, commit_is_valid}
 use Rattle.nc_model.proofs.SessionLemmas.{is_false_not}
 use Rattle.nc_machine.specs.declared.course.Change.{Change}
-use Rattle.nc_machine.specs.declared.course.Change.TheVariants.{Nothing, Discard, Close}
+use Rattle.nc_machine.specs.declared.course.Change.TheVariants.{Nothing, Discard, Grant, Release, Over}
 use Rattle.nc_machine.specs.declared.course.Course.{Course}
 use Rattle.nc_machine.specs.declared.course.Course.TheVariants.{Answer, Commit}
-use Rattle.nc_machine.specs.inner.Courses.{asked_course, changed_to, commit_asked_course, commit_course, commit_refused, copy_config_course, course, course_on, discard_course, done_unless, edit_config_course, edit_course, get_config_course, get_course, is_not_offered, made, validate_course}
-use Rattle.nc_machine.proofs.Checks.{commit_checked}
+use Rattle.nc_machine.specs.inner.Courses.{asked_course, changed_to, commit_asked_course, commit_course, commit_refused, copy_config_course, course, course_on, discard_course, done_unless, edit_config_course, edit_course, get_config_course, get_course, is_not_offered, kill_course, lock_course, lock_refused, made, unlock_course, unlock_refused, validate_course}
+use Rattle.nc_machine.proofs.Checks.{commit_checked, lock_checked, unlock_checked}
+use Rattle.nc_machine.proofs.Held.{lock_granted, lock_released}
 
 -- what is asked for has that verdict and changes that, whatever the disk does
 pub record IsSettled (s : State) (session : ℕ) (asked : Result Asked Cause) (v : Verdict) (change : Change) : Type 0 where
@@ -96,12 +97,12 @@ doing s session asked v change c verdicts appends does is = record {
 -- one that is done with a change unless a check fails
 checking : (s : State) (session : ℕ) (asked : Result Asked Cause) (why : Option Cause) (v : Verdict) (change c : Change) →
     ((failed : Bool) → verdict_on s session asked failed ≡ checked why Done) → appends_record asked ≡ false →
-    answered s session asked Done ≡ made s session change →
+    (why ≡ None → answered s session asked Done ≡ made s session change) →
     ((causes : List Cause) → answered s session asked (Refused causes) ≡ s) → done_unless why change ≡ Answer v c →
     IsSettled s session asked v c
 unfolding made
 checking s session asked None v change c verdicts appends does stays is =
-    doing s session asked v change c verdicts appends does is
+    doing s session asked v change c verdicts appends (does refl) is
 checking s session asked (Some cause) v change c verdicts appends does stays is =
     let same = verdict_same (Refused (cause ∷ [])) v Nothing c is in
     record {
@@ -137,7 +138,7 @@ commit_stays s session false timeout persist persist_id causes = refl
 
 asked_settles : (s : State) (session : ℕ) (asked : Asked) (v : Verdict) (c : Change) → is_offered (operation_of asked) ≡ true →
     asked_course s session asked ≡ Answer v c → IsSettled s session (Ok asked) v c
-unfolding asked_course get_course get_config_course edit_config_course edit_course copy_config_course commit_asked_course discard_course validate_course made
+unfolding asked_course get_course get_config_course edit_config_course edit_course copy_config_course commit_asked_course discard_course lock_course unlock_course kill_course validate_course made
 asked_settles s session (Get filter) v c offered is =
     plain s session (Ok (Get filter)) _ v c (λ failed. refl) refl (λ w. refl) is
 asked_settles s session (GetConfig source filter) v c offered is =
@@ -152,9 +153,9 @@ asked_settles s session (CopyConfig target source) v c offered is =
 asked_settles s session (DeleteConfig target) v c offered is =
     plain s session (Ok (DeleteConfig target)) _ v c (λ failed. refl) refl (λ w. refl) is
 asked_settles s session CloseSession v c offered is =
-    doing s session (Ok CloseSession) v Close c (λ failed. refl) refl refl is
+    doing s session (Ok CloseSession) v (Over session) c (λ failed. refl) refl refl is
 asked_settles s session DiscardChanges v c offered is =
-    checking s session (Ok DiscardChanges) (in_use s session CandidateStore) v Discard c (λ failed. refl) refl refl
+    checking s session (Ok DiscardChanges) (in_use s session CandidateStore) v Discard c (λ failed. refl) refl (λ free. refl)
     (λ causes. refl) is
 asked_settles s session (AsksCommit confirmed timeout persist persist_id) v c offered is =
     refused_commit s session (Ok (AsksCommit confirmed timeout persist persist_id))
@@ -162,9 +163,17 @@ asked_settles s session (AsksCommit confirmed timeout persist persist_id) v c of
     (commit_stays s session confirmed timeout persist persist_id) is
 asked_settles s session (Validate source) v c offered is =
     plain s session (Ok (Validate source)) _ v c (λ failed. refl) refl (λ w. refl) is
-asked_settles s session (Lock target) v c offered is = absurd (not_true offered)
-asked_settles s session (Unlock target) v c offered is = absurd (not_true offered)
-asked_settles s session (KillSession number) v c offered is = absurd (not_true offered)
+asked_settles s session (Lock target) v c offered is =
+    checking s session (Ok (Lock target)) (lock_refused s session target) v (Grant target) c
+    (λ failed. ap (λ (why : Option Cause). checked why Done) (lock_checked s session target)) refl
+    (λ free. lock_granted s session target (lock_checked s session target ∙ free)) (λ causes. refl) is
+asked_settles s session (Unlock target) v c offered is =
+    checking s session (Ok (Unlock target)) (unlock_refused s session target) v (Release target) c
+    (λ failed. ap (λ (why : Option Cause). checked why Done) (unlock_checked s session target)) refl
+    (λ free. lock_released s session target (unlock_checked s session target ∙ free)) (λ causes. refl) is
+asked_settles s session (KillSession number) v c offered is =
+    checking s session (Ok (KillSession number)) (kill_refusal s session number) v (Over number) c (λ failed. refl) refl
+    (λ free. refl) (λ causes. refl) is
 asked_settles s session (CancelCommit persist_id) v c offered is = absurd (not_true offered)
 asked_settles s session (PartialLock selects) v c offered is = absurd (not_true offered)
 asked_settles s session (PartialUnlock lock) v c offered is = absurd (not_true offered)
@@ -269,7 +278,7 @@ committed_by s session timeout persist persist_id None why_is is = record {
 committed_by s session timeout persist persist_id (Some cause) why_is is = absurd (no_commit (Refused (cause ∷ [])) Nothing is)
 
 asked_commits : (s : State) (session : ℕ) (asked : Asked) → asked_course s session asked ≡ Commit → IsCommitted s session (Ok asked)
-unfolding asked_course get_course get_config_course edit_config_course edit_course copy_config_course commit_asked_course discard_course validate_course
+unfolding asked_course get_course get_config_course edit_config_course edit_course copy_config_course commit_asked_course discard_course lock_course unlock_course kill_course validate_course
 asked_commits s session (AsksCommit false timeout persist persist_id) is =
     committed_by s session timeout persist persist_id (commit_refusal s session false persist_id) refl is
 asked_commits s session (AsksCommit true timeout persist persist_id) is = absurd (no_commit _ _ is)
@@ -281,9 +290,9 @@ asked_commits s session (DeleteConfig target) is = absurd (no_commit _ _ is)
 asked_commits s session CloseSession is = absurd (no_commit _ _ is)
 asked_commits s session DiscardChanges is = absurd (none_commits (in_use s session CandidateStore) Discard is)
 asked_commits s session (Validate source) is = absurd (no_commit _ _ is)
-asked_commits s session (Lock target) is = absurd (no_commit _ _ is)
-asked_commits s session (Unlock target) is = absurd (no_commit _ _ is)
-asked_commits s session (KillSession number) is = absurd (no_commit _ _ is)
+asked_commits s session (Lock target) is = absurd (none_commits (lock_refused s session target) (Grant target) is)
+asked_commits s session (Unlock target) is = absurd (none_commits (unlock_refused s session target) (Release target) is)
+asked_commits s session (KillSession number) is = absurd (none_commits (kill_refusal s session number) (Over number) is)
 asked_commits s session (CancelCommit persist_id) is = absurd (no_commit _ _ is)
 asked_commits s session (PartialLock selects) is = absurd (no_commit _ _ is)
 asked_commits s session (PartialUnlock lock) is = absurd (no_commit _ _ is)

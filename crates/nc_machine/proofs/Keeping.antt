@@ -12,8 +12,8 @@ use Rattle.nc_model.specs.State.{Pending, State, candidate_in_force, expired, is
 use Rattle.nc_model.specs.Step.{changed}
 use Rattle.nc_model.proofs.RunningLemmas.{candidate_base, ended_base}
 use Rattle.nc_machine.specs.declared.course.Change.{Change}
-use Rattle.nc_machine.specs.declared.course.Change.TheVariants.{Nothing, Candidate, Discard, Close}
-use Rattle.nc_machine.specs.inner.Courses.{made}
+use Rattle.nc_machine.specs.declared.course.Change.TheVariants.{Nothing, Candidate, Discard, Grant, Release, Over}
+use Rattle.nc_machine.specs.inner.Courses.{granted, made, unlocked}
 use Rattle.nc_machine.specs.inner.Turns.{IsKeeping, LeavesKept}
 
 pub all_kept : (s : State) → LeavesKept s s
@@ -72,7 +72,7 @@ candidate_faults s rows true = refl
 candidate_faults s rows false = refl
 
 pub made_keeps : (s : State) (session : ℕ) (change : Change) → LeavesKept s (made s session change)
-unfolding made
+unfolding made granted unlocked
 made_keeps s session Nothing = all_kept s
 made_keeps s session (Candidate rows) = record {
   schema_is = candidate_schema s rows (is_same_rows rows (candidate_in_force s));
@@ -80,7 +80,9 @@ made_keeps s session (Candidate rows) = record {
   faults_is = candidate_faults s rows (is_same_rows rows (candidate_in_force s));
 }
 made_keeps s session Discard = record { schema_is = refl; base_is = refl; faults_is = refl }
-made_keeps s session Close = end_keeps s session
+made_keeps s session (Grant target) = record { schema_is = refl; base_is = refl; faults_is = refl }
+made_keeps s session (Release target) = record { schema_is = refl; base_is = refl; faults_is = refl }
+made_keeps s session (Over number) = end_keeps s number
 
 -- ---- sessions
 pub start_keeps : (s : State) (peer : Peer) (outcome : Outcome) → LeavesKept s (changed s (Start peer) outcome)

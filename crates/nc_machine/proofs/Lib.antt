@@ -2,6 +2,7 @@ pub mod Told
 pub mod Checks
 pub mod Unchecked
 pub mod Unlocked
+pub mod Held
 pub mod Edits
 pub mod Courses
 pub mod Keeping

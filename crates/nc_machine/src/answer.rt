@@ -43,7 +43,9 @@ impl Server {
             Change::Nothing => {}
             Change::Candidate { rows } => self.set_candidate(rows),
             Change::Discard => self.discard(),
-            Change::Close => self.end_session(session),
+            Change::Grant { target } => self.grant(session, target),
+            Change::Release { target } => self.release(session, target),
+            Change::Over { session } => self.end_session(session),
         }
     }
 

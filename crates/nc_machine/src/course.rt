@@ -7,7 +7,7 @@ ghost use Rattle.nc_machine.specs.inner.Courses as course;
 
 use crate::causes::refused;
 use nc_names::Memory;
-use nc_protocol::{Cause, Verdict};
+use nc_protocol::{Cause, Datastore, Verdict};
 use nc_tree::Config;
 use std::alloc::Global;
 
@@ -19,8 +19,12 @@ pub(crate) enum Change {
     Candidate { rows: Config },
     // The candidate is unmodified.
     Discard,
-    // The session that asks is over.
-    Close,
+    // The session that asks gets the lock of a datastore.
+    Grant { target: Datastore },
+    // Its lock of a datastore is released.
+    Release { target: Datastore },
+    // A session is over: the one that asks, or the one that it kills.
+    Over { session: u32 },
 }
 
 /// What a request comes to.
@@ -57,4 +61,18 @@ pub(crate) fn refused_course(alloc: Global, cause: Cause) -> Result<Course, Memo
     ensures { IfOk result (λ it. it ≡ course.refused_course cause) }
 {
     Ok(unchanging(refused(alloc, cause)?))
+}
+
+/// Done with what it changes, unless a check fails.
+pub(crate) fn done_unless(
+    alloc: Global,
+    refusal: Option<Cause>,
+    change: Change,
+) -> Result<Course, Memory>
+    ensures { IfOk result (λ it. it ≡ course.done_unless refusal change) }
+{
+    match refusal {
+        Some(cause) => refused_course(alloc, cause),
+        None => Ok(done(change)),
+    }
 }

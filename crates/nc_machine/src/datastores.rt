@@ -11,7 +11,8 @@ use nc_protocol::request_words::{candidate, running, startup, url};
 use nc_protocol::{Cause, Datastore, Origin};
 use std::alloc::Global;
 
-fn name_of(store: Datastore) -> &'static str
+/// The name of a datastore.
+pub(crate) fn name_of(store: Datastore) -> &'static str
     ensures { result.now ≡ refusal.datastore_name store }
 {
     match store {

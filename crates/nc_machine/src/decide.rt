@@ -3,7 +3,7 @@ ghost use Rattle.std.specs.Prelude.{◌≡◌, IfOk};
 ghost use Rattle.nc_model.specs.Verdict as meant;
 ghost use Rattle.nc_machine.specs.inner.Courses as course;
 
-use crate::course::{Change, Course, done, refused_course};
+use crate::course::{Change, Course, done, done_unless, refused_course};
 use crate::datastores::not_offered;
 use crate::server::Server;
 use nc_names::{CauseKind, Copies, Memory};
@@ -18,7 +18,10 @@ fn is_offered(operation: Operation) -> bool
         | Operation::EditConfig
         | Operation::CopyConfig
         | Operation::DeleteConfig
+        | Operation::Lock
+        | Operation::Unlock
         | Operation::CloseSession
+        | Operation::KillSession
         | Operation::Commit
         | Operation::DiscardChanges
         | Operation::Validate => true,
@@ -41,10 +44,8 @@ impl Server {
     fn discard_course(&self, session: u32) -> Result<Course, Memory>
         ensures { IfOk result (λ it. it ≡ course.discard_course self.now session) }
     {
-        match self.in_use(session, Datastore::Candidate)? {
-            Some(cause) => refused_course(self.alloc(), cause),
-            None => Ok(done(Change::Discard)),
-        }
+        let refusal = self.in_use(session, Datastore::Candidate)?;
+        done_unless(self.alloc(), refusal, Change::Discard)
     }
 
     // What an operation that is offered comes to.
@@ -75,7 +76,10 @@ impl Server {
             Asked::DeleteConfig { target } => {
                 refused_course(self.alloc(), not_offered(self.alloc(), *target)?)
             }
-            Asked::CloseSession => Ok(done(Change::Close)),
+            Asked::Lock { target } => self.lock_course(session, *target),
+            Asked::Unlock { target } => self.unlock_course(session, *target),
+            Asked::CloseSession => Ok(done(Change::Over { session })),
+            Asked::KillSession { session: number } => self.kill_course(session, *number),
             Asked::Commit {
                 confirmed,
                 timeout: _,

@@ -1,12 +1,14 @@
-//! The datastores and sessions of the server, seen as the state of the definitions (RFC 6241 5.1, 8.1
-//! and 8.3). Locks and confirmed commits are not offered yet: in what is seen no session holds a lock,
-//! and no commit is pending.
-ghost use Rattle.std.specs.Prelude.{◌≡◌, None, Some, IfOk};
+//! The datastores, locks and sessions of the server, seen as the state of the definitions (RFC 6241 5.1,
+//! 7.5, 8.1 and 8.3). Partial locks and confirmed commits are not offered yet: in what is seen no session
+//! has a partial lock, and no commit is pending.
+ghost use Rattle.std.specs.Prelude.{◌≡◌, None, Some, IfOk, is_some, if◌then◌else◌};
 ghost use Rattle.nc_model.specs.State as state;
 ghost use Rattle.nc_model.specs.Step.{committed, with_candidate};
-ghost use Rattle.nc_model.specs.Verdict.{stored};
-ghost use Rattle.nc_machine.specs.inner.Turns.{IsUnlocked};
+ghost use Rattle.nc_model.specs.Verdict.{holder_of, is_candidate, stored};
+ghost use Rattle.nc_machine.specs.inner.Courses as course;
+ghost use Rattle.nc_machine.specs.inner.Turns.{NonePends};
 
+use nc_locks::Locks;
 use nc_model::Session;
 use nc_names::{Many, Memory};
 use nc_protocol::Datastore;
@@ -30,11 +32,12 @@ pub(crate) struct Server {
     latest: u64,
     pub(crate) last: u32,
     faults: u64,
+    locks: Locks,
 }
 
 impl Model for Server {
     ghost use Rattle.std.specs.Prelude.{◌≤◌, [], None, length};
-    ghost use Rattle.nc_model.specs.State.{State, most_sessions, no_holders};
+    ghost use Rattle.nc_model.specs.State.{State, most_sessions};
 
     ghost Value = { State };
 
@@ -46,7 +49,7 @@ impl Model for Server {
       now = s.latest;
       last = s.last;
       faults = s.faults;
-      holders = no_holders;
+      holders = s.locks;
       partial = [];
       pending = None;
       last_lock = 0;
@@ -75,6 +78,7 @@ impl Server {
             latest: 0,
             last: 0,
             faults,
+            locks: Locks::new(),
         })
     }
 
@@ -90,9 +94,9 @@ impl Server {
         &self.schema
     }
 
-    /// Neither locks nor confirmed commits are offered yet, so that none stands in the way.
-    pub(crate) fn is_unlocked(&self)
-        ensures { IsUnlocked self.now }
+    /// Neither partial locks nor confirmed commits are offered yet, so that none stands in the way.
+    pub(crate) fn none_pends(&self)
+        ensures { NonePends self.now }
     {
         let _ = &self.alloc;
     }
@@ -131,6 +135,20 @@ impl Server {
         }
     }
 
+    /// Whether the candidate is modified.
+    pub(crate) fn is_modified(&self) -> bool
+        ensures { result ≡ is_some self.now.candidate }
+    {
+        self.candidate.is_some()
+    }
+
+    /// The session that holds the lock of a datastore.
+    pub(crate) fn holder(&self, store: Datastore) -> Option<u32>
+        ensures { result ≡ holder_of self.now.holders store }
+    {
+        self.locks.holder(store)
+    }
+
     /// The count of the disk's faults.
     pub(crate) fn faults(&self) -> u64
         ensures { result ≡ self.now.faults }
@@ -159,6 +177,57 @@ impl Server {
         ensures { self.new ≡ record self.old { candidate = None } }
     {
         self.candidate = None;
+    }
+
+    /// A session gets the lock of a datastore, unless one holds it.
+    #[tactic(auto, unfolding(crate::specs::inner::Courses::granted))]
+    pub(crate) fn grant(&mut self, session: u32, target: Datastore)
+        ensures { self.new ≡ course.granted self.old session target }
+    {
+        self.locks.grant(target, session);
+    }
+
+    // The changes of a datastore that is unlocked are discarded: of the candidate (RFC 6241 8.3.5.2).
+    fn discard_of(&mut self, target: Datastore)
+        ensures { self.new ≡ record self.old {
+          candidate =
+              if is_candidate target then None else self.old.candidate;
+        } }
+    {
+        match target {
+            Datastore::Candidate => self.discard(),
+            _ => {}
+        }
+    }
+
+    /// The lock of a datastore is released, if that session holds it; the changes of a candidate that is unlocked
+    /// are discarded.
+    #[tactic(auto, unfolding(crate::specs::inner::Courses::unlocked))]
+    pub(crate) fn release(&mut self, session: u32, target: Datastore)
+        ensures { self.new ≡ course.unlocked self.old session target }
+    {
+        self.locks.release(target, session);
+        self.discard_of(target);
+    }
+
+    // The candidate is unmodified where a session holds its lock.
+    fn discard_by(&mut self, number: u32)
+        ensures { self.new ≡ record self.old {
+          candidate =
+              if state.is_held_by number self.old.holders.candidate then None else self.old.candidate;
+        } }
+    {
+        if self.holds(number, Datastore::Candidate) {
+            self.discard();
+        }
+    }
+
+    /// The locks of a session are released: a candidate that it had locked is unmodified. It takes no memory.
+    pub(crate) fn release_all(&mut self, number: u32)
+        ensures { self.new ≡ state.released self.old number }
+    {
+        self.discard_by(number);
+        self.locks.end(number);
     }
 
     /// The candidate is running, and is unmodified. No commit is pending.

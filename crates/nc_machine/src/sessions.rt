@@ -4,11 +4,14 @@ ghost use Rattle.std.specs.List.{filter, list_any};
 ghost use Rattle.nc_model.specs.declared.event.Event.TheVariants.{Start, End};
 ghost use Rattle.nc_model.specs.State as state;
 ghost use Rattle.nc_model.specs.Step.{changed, outcome_of};
+ghost use Rattle.nc_model.specs.Verdict as meant;
+ghost use Rattle.nc_machine.specs.inner.Courses as course;
 
+use crate::course::{Change, Course, done_unless};
 use crate::server::{MOST_SESSIONS, Server};
 use nc_model::{Outcome, Session};
-use nc_names::{Copies, Many, Memory};
-use nc_protocol::Peer;
+use nc_names::{CauseKind, Copies, Many, Memory};
+use nc_protocol::{Cause, Peer};
 
 // The last session-id (RFC 6241 10.2, `session-id-type`).
 const LAST_SESSION_ID: u32 = 4294967295;
@@ -44,12 +47,23 @@ impl Server {
         has(self.sessions.as_slice(), number)
     }
 
-    /// The session is over.
-    pub(crate) fn end_session(&mut self, number: u32)
-        ensures { self.new ≡ state.session_ended self.old number }
+    // The session is not live.
+    fn drop_session(&mut self, number: u32)
+        ensures { self.new ≡ state.without_session self.old number }
     {
         let sessions = std::mem::replace(&mut self.sessions, Many::new(self.alloc));
         self.sessions = Many::from_vec(without(sessions.into_vec(), &number));
+    }
+
+    /// The session is over: by its End, its close-session or a kill-session. What it held is released here alone, and
+    /// that takes no memory.
+    #[tactic(auto, using(crate::proofs::Unlocked::ended_is))]
+    pub(crate) fn end_session(&mut self, number: u32)
+        ensures { self.new ≡ state.session_ended self.old number }
+    {
+        self.none_pends();
+        self.drop_session(number);
+        self.release_all(number);
     }
 
     /// Ends a session, if it is live.
@@ -62,6 +76,31 @@ impl Server {
         }
         self.end_session(number);
         Outcome::Ended
+    }
+
+    // ---- kill-session (RFC 6241 7.9)
+
+    // Why a session is not killed: it is not live, or it is the one that asks.
+    #[tactic(auto, using(crate::proofs::Held::kills_itself, crate::proofs::Held::kills_other))]
+    fn kill_refusal(&self, session: u32, number: u32) -> Option<Cause>
+        ensures { result ≡ meant.kill_refusal self.now session number }
+    {
+        if number == session {
+            return Some(Cause::plain(self.alloc(), CauseKind::NotLiveTarget));
+        }
+        if self.is_live(number) {
+            return None;
+        }
+        Some(Cause::plain(self.alloc(), CauseKind::NotLiveTarget))
+    }
+
+    /// What kill-session comes to.
+    #[tactic(auto, unfolding(crate::specs::inner::Courses::kill_course))]
+    pub(crate) fn kill_course(&self, session: u32, number: u32) -> Result<Course, Memory>
+        ensures { IfOk result (λ it. it ≡ course.kill_course self.now session number) }
+    {
+        let refusal = self.kill_refusal(session, number);
+        done_unless(self.alloc(), refusal, Change::Over { session: number })
     }
 
     /// Starts a session, unless there is no place or no session-id for it.

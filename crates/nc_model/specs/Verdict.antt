@@ -25,7 +25,7 @@ use Rattle.nc_protocol.specs.declared.asked.Asked.TheVariants.{Get, GetConfig, E
 use Rattle.nc_protocol.specs.declared.asked.Default3.{Default3}
 use Rattle.nc_protocol.specs.declared.asked.ErrorOption.{ErrorOption}
 use Rattle.nc_protocol.specs.declared.asked.Operation.{Operation}
-use Rattle.nc_protocol.specs.declared.asked.Operation.TheVariants.{Get as GetOperation, GetConfig as GetConfigOperation, EditConfig as EditConfigOperation, CopyConfig as CopyConfigOperation, DeleteConfig as DeleteConfigOperation, CloseSession as CloseSessionOperation, Commit as CommitOperation, DiscardChanges as DiscardChangesOperation, Validate as ValidateOperation}
+use Rattle.nc_protocol.specs.declared.asked.Operation.TheVariants.{Get as GetOperation, GetConfig as GetConfigOperation, EditConfig as EditConfigOperation, CopyConfig as CopyConfigOperation, DeleteConfig as DeleteConfigOperation, Lock as LockOperation, Unlock as UnlockOperation, CloseSession as CloseSessionOperation, KillSession as KillSessionOperation, Commit as CommitOperation, DiscardChanges as DiscardChangesOperation, Validate as ValidateOperation}
 use Rattle.nc_protocol.specs.declared.asked.Select.{Select}
 use Rattle.nc_protocol.specs.declared.asked.TestOption.{TestOption}
 use Rattle.nc_protocol.specs.declared.asked.TestOption.TheVariants.{TestThenSet, Set, TestOnly}
@@ -60,7 +60,10 @@ is_offered GetConfigOperation = true
 is_offered EditConfigOperation = true
 is_offered CopyConfigOperation = true
 is_offered DeleteConfigOperation = true
+is_offered LockOperation = true
+is_offered UnlockOperation = true
 is_offered CloseSessionOperation = true
+is_offered KillSessionOperation = true
 is_offered CommitOperation = true
 is_offered DiscardChangesOperation = true
 is_offered ValidateOperation = true

@@ -1,12 +1,12 @@
 -- What a request comes to, and what that changes.
-use Rattle.std.specs.Prelude.{ℕ, Bool, false, not, if◌then◌else◌, List, [], ◌∷◌, Option, Some, None, Result, Ok, Err}
+use Rattle.std.specs.Prelude.{◌&&◌, ℕ, Bool, false, not, if◌then◌else◌, List, [], ◌∷◌, Option, Some, None, is_some, option_map, Result, Ok, Err}
 use Rattle.std.specs.Option.{option_or}
-use Rattle.nc_names.specs.declared.cause.CauseKind.TheVariants.{UnknownOperation, UnknownParameter, UnsupportedTarget, BadParameter}
+use Rattle.nc_names.specs.declared.cause.CauseKind.TheVariants.{UnknownOperation, UnknownParameter, UnsupportedTarget, BadParameter, LockHeld, LockModified, NotHeld}
 use Rattle.nc_message.specs.declared.tree.Elem.{Elem}
 use Rattle.nc_names.specs.declared.path.Row.{Row}
 use Rattle.nc_schema.specs.Tables.{Tables}
 use Rattle.nc_protocol.specs.declared.asked.Asked.{Asked}
-use Rattle.nc_protocol.specs.declared.asked.Asked.TheVariants.{Get, GetConfig, EditConfig, CopyConfig, DeleteConfig, CloseSession, Commit as AsksCommit, DiscardChanges, Validate}
+use Rattle.nc_protocol.specs.declared.asked.Asked.TheVariants.{Get, GetConfig, EditConfig, CopyConfig, DeleteConfig, Lock, Unlock, CloseSession, KillSession, Commit as AsksCommit, DiscardChanges, Validate}
 use Rattle.nc_protocol.specs.declared.asked.Default3.{Default3}
 use Rattle.nc_protocol.specs.declared.asked.ErrorOption.{ErrorOption}
 use Rattle.nc_protocol.specs.declared.asked.Operation.{Operation}
@@ -22,13 +22,13 @@ use Rattle.nc_protocol.specs.Applied.{Applied}
 use Rattle.nc_protocol.specs.Asking.{plain_cause}
 use Rattle.nc_protocol.specs.Edited.{cause_where}
 use Rattle.nc_model.specs.Access.{rights_of}
-use Rattle.nc_model.specs.State.{State, candidate_in_force, session_ended}
-use Rattle.nc_model.specs.Step.{rows_of_ok, with_candidate}
+use Rattle.nc_model.specs.State.{State, candidate_in_force, is_held_by, session_ended}
+use Rattle.nc_model.specs.Step.{rows_of_ok, with_candidate, with_holder}
 use Rattle.nc_protocol.specs.Refusals as refusal
 use Rattle.nc_model.specs.Verdict as meant
 use Rattle.nc_protocol.specs.Words.{confirmed_word, source_word}
 use Rattle.nc_machine.specs.declared.course.Change.{Change}
-use Rattle.nc_machine.specs.declared.course.Change.TheVariants.{Nothing, Candidate, Discard, Close}
+use Rattle.nc_machine.specs.declared.course.Change.TheVariants.{Nothing, Candidate, Discard, Grant, Release, Over}
 use Rattle.nc_machine.specs.declared.course.Course.{Course}
 use Rattle.nc_machine.specs.declared.course.Course.TheVariants.{Answer, Commit}
 
@@ -74,6 +74,36 @@ uncopied s session target source = option_or (unfit target source) (meant.in_use
 abbrev pub unedited : State → ℕ → Datastore → Option Cause
 unedited s session target =
     option_or (meant.unsupported meant.is_target target) (meant.in_use s session CandidateStore)
+
+-- why a lock is not granted: a session holds it
+abbrev pub held_refusal : State → Datastore → Option Cause
+held_refusal s target = option_map (meant.global_lock_cause LockHeld target) (meant.holder_of s.holders target)
+
+-- or it is the candidate's, which is modified
+abbrev pub modified_refusal : State → Datastore → Option Cause
+modified_refusal s target = cause_where (meant.is_candidate target && is_some s.candidate) (plain_cause LockModified [])
+
+-- or it is running's, and another session has a pending commit or a partial lock
+abbrev pub running_refusal : State → ℕ → Datastore → Option Cause
+running_refusal s session target =
+    option_or (if meant.is_running target then meant.pending_of_other session s.pending else None)
+    (if meant.is_running target then meant.partly_locked s session else None)
+
+-- why a session gets no lock of a datastore
+abbrev pub lock_refused : State → ℕ → Datastore → Option Cause
+lock_refused s session target =
+    option_or (meant.unsupported meant.is_source target)
+    (option_or (held_refusal s target) (option_or (modified_refusal s target) (running_refusal s session target)))
+
+-- why a lock is not released: the session does not hold it
+abbrev pub not_held : State → ℕ → Datastore → Option Cause
+not_held s session target =
+    cause_where (not (is_held_by session (meant.holder_of s.holders target)))
+    (plain_cause NotHeld (refusal.datastore_name target ∷ []))
+
+-- why a session does not release the lock of a datastore
+abbrev pub unlock_refused : State → ℕ → Datastore → Option Cause
+unlock_refused s session target = option_or (meant.unsupported meant.is_source target) (not_held s session target)
 
 -- why a session may not commit, whatever the candidate holds
 abbrev pub commit_hindrance : State → ℕ → Bool → Option (List ℕ) → Option Cause
@@ -135,6 +165,15 @@ commit_asked_course s session confirmed persist_id =
 unfoldable pub discard_course : State → ℕ → Course
 discard_course s session = done_unless (meant.in_use s session CandidateStore) Discard
 
+unfoldable pub lock_course : State → ℕ → Datastore → Course
+lock_course s session target = done_unless (lock_refused s session target) (Grant target)
+
+unfoldable pub unlock_course : State → ℕ → Datastore → Course
+unlock_course s session target = done_unless (unlock_refused s session target) (Release target)
+
+unfoldable pub kill_course : State → ℕ → ℕ → Course
+kill_course s session number = done_unless (meant.kill_refusal s session number) (Over number)
+
 unfoldable pub validate_course : State → Origin → Course
 validate_course s source = Answer (meant.validated s.schema (meant.rows_to_validate s source)) Nothing
 
@@ -152,7 +191,10 @@ asked_course s session (EditConfig target default_operation test on_error config
     edit_config_course s session target default_operation test on_error config
 asked_course s session (CopyConfig target source) = copy_config_course s session target source
 asked_course s session (DeleteConfig target) = refused_course (unoffered_cause target)
-asked_course s session CloseSession = Answer Done Close
+asked_course s session (Lock target) = lock_course s session target
+asked_course s session (Unlock target) = unlock_course s session target
+asked_course s session CloseSession = Answer Done (Over session)
+asked_course s session (KillSession number) = kill_course s session number
 asked_course s session (AsksCommit confirmed timeout persist persist_id) =
     commit_asked_course s session confirmed persist_id
 asked_course s session DiscardChanges = discard_course s session
@@ -172,9 +214,26 @@ unfoldable pub course : State → ℕ → Request → Course
 course s session request =
     if is_not_offered request.operation then unknown_course else course_on s session request.asked
 
+-- the session has the lock, unless one holds it
+unfoldable pub granted : State → ℕ → Datastore → State
+granted s session target = record s {
+  holders =
+      if is_some (meant.holder_of s.holders target) then s.holders else with_holder s.holders target (Some session);
+}
+
+-- the lock is released, if the session holds it; a candidate is unmodified then
+unfoldable pub unlocked : State → ℕ → Datastore → State
+unlocked s session target = record s {
+  holders =
+      if is_held_by session (meant.holder_of s.holders target) then with_holder s.holders target None else s.holders;
+  candidate = if meant.is_candidate target then None else s.candidate;
+}
+
 -- the state, changed
 unfoldable pub made : State → ℕ → Change → State
 made s session Nothing = s
 made s session (Candidate rows) = with_candidate s (Some rows)
 made s session Discard = record s { candidate = None }
-made s session Close = session_ended s session
+made s session (Grant target) = granted s session target
+made s session (Release target) = unlocked s session target
+made s session (Over number) = session_ended s number

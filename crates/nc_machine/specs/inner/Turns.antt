@@ -16,13 +16,12 @@ use Rattle.nc_protocol.specs.declared.verdict.Verdict.{Verdict}
 use Rattle.nc_protocol.specs.declared.verdict.Verdict.TheVariants.{Done}
 use Rattle.nc_model.specs.Access.{sees_of}
 use Rattle.nc_protocol.specs.Reply.{reply_of}
-use Rattle.nc_model.specs.State.{State, base_of, no_holders}
+use Rattle.nc_model.specs.State.{State, base_of}
 use Rattle.nc_model.specs.Step.{CountsFaults, Fits, changed, committed, has_failed, next, outcome_of, reaches_disk}
 use Rattle.nc_protocol.specs.Refusals.{refused_for}
 
--- no lock is held, and no commit is pending
-pub record IsUnlocked (s : State) : Type 0 where
-  pub holders : s.holders ≡ no_holders
+-- no partial lock is held, and no commit is pending
+pub record NonePends (s : State) : Type 0 where
   pub partial : s.partial ≡ []
   pub pending : s.pending ≡ None
 

@@ -1,0 +1,463 @@
+#!/usr/bin/env bash
+# Times `nc_nacm`: what a policy of so many rules takes to read, an `Access` to make, the rows of a configuration to hide, and
+# one decision; with rules that name entries by their keys, with rules of which each gives other keys, with many groups in
+# each of many rule-lists, and with many users in each of many groups. Prints microseconds.
+set -euo pipefail
+exec "$(dirname "$0")/program" access 'nc_names nc_schema nc_protocol nc_tree nc_nacm' <<'RT'
+//! Times access control.
+#![tactic(auto)]
+
+use nc_nacm::{Access, Policy};
+use nc_names::{Many, Memory, Module, Path, QName, Right, Row, Step, Text};
+use nc_protocol::{Peer, Rights, Sees};
+use nc_schema::{Case, Choice, Deny, Kind, Node, Schema};
+use nc_tree::Config;
+use std::alloc::Global;
+use std::io;
+use std::time::Instant;
+
+const CONTAINER: Kind = Kind::Container { presence: false };
+
+/// Name, parent or 99, kind, how many of the nodes after it are its keys, default, case or 9.
+type Entry = (&'static str, u32, Kind, u32, &'static str, u32);
+
+const NODES: &[Entry] = &[
+    ("nacm", 99, CONTAINER, 0, "", 9),
+    ("enable-nacm", 0, Kind::Leaf, 0, "true", 9),
+    ("read-default", 0, Kind::Leaf, 0, "permit", 9),
+    ("write-default", 0, Kind::Leaf, 0, "deny", 9),
+    ("exec-default", 0, Kind::Leaf, 0, "permit", 9),
+    ("enable-external-groups", 0, Kind::Leaf, 0, "true", 9),
+    ("groups", 0, CONTAINER, 0, "", 9),
+    ("group", 6, Kind::List, 1, "", 9),
+    ("name", 7, Kind::Leaf, 0, "", 9),
+    ("user-name", 7, Kind::LeafList, 0, "", 9),
+    ("rule-list", 0, Kind::List, 1, "", 9),
+    ("name", 10, Kind::Leaf, 0, "", 9),
+    ("group", 10, Kind::LeafList, 0, "", 9),
+    ("rule", 10, Kind::List, 1, "", 9),
+    ("name", 13, Kind::Leaf, 0, "", 9),
+    ("module-name", 13, Kind::Leaf, 0, "*", 9),
+    ("rpc-name", 13, Kind::Leaf, 0, "", 0),
+    ("notification-name", 13, Kind::Leaf, 0, "", 1),
+    ("path", 13, Kind::Leaf, 0, "", 2),
+    ("access-operations", 13, Kind::Leaf, 0, "*", 9),
+    ("action", 13, Kind::Leaf, 0, "", 9),
+    ("comment", 13, Kind::Leaf, 0, "", 9),
+    ("ports", 99, CONTAINER, 0, "", 9),
+    ("port", 22, Kind::List, 1, "", 9),
+    ("name", 23, Kind::Leaf, 0, "", 9),
+    ("mtu", 23, Kind::Leaf, 0, "", 9),
+    ("routes", 99, CONTAINER, 0, "", 9),
+    ("route", 26, Kind::List, 12, "", 9),
+    ("a", 27, Kind::Leaf, 0, "", 9),
+    ("b", 27, Kind::Leaf, 0, "", 9),
+    ("c", 27, Kind::Leaf, 0, "", 9),
+    ("d", 27, Kind::Leaf, 0, "", 9),
+    ("e", 27, Kind::Leaf, 0, "", 9),
+    ("f", 27, Kind::Leaf, 0, "", 9),
+    ("g", 27, Kind::Leaf, 0, "", 9),
+    ("h", 27, Kind::Leaf, 0, "", 9),
+    ("i", 27, Kind::Leaf, 0, "", 9),
+    ("j", 27, Kind::Leaf, 0, "", 9),
+    ("k", 27, Kind::Leaf, 0, "", 9),
+    ("l", 27, Kind::Leaf, 0, "", 9),
+];
+
+/// What is timed: its name; rules, or the size of lists and groups; ports.
+const WORKS: &[(&str, u32, u32)] = &[
+    ("policy", 1000, 15000),
+    ("policy", 10000, 15000),
+    ("access", 1000, 0),
+    ("access", 10000, 0),
+    ("visible", 1000, 15000),
+    ("visible", 10000, 15000),
+    ("may", 1000, 15000),
+    ("may", 10000, 15000),
+    ("sees", 1000, 15000),
+    ("shapes-access", 1000, 0),
+    ("shapes-access", 4000, 0),
+    ("shapes-may", 1000, 15000),
+    ("shapes-may", 4000, 15000),
+    ("lists-policy", 300, 0),
+    ("lists-policy", 1000, 0),
+    ("lists-access", 300, 0),
+    ("lists-access", 1000, 0),
+    ("groups-policy", 300, 0),
+    ("groups-policy", 1000, 0),
+    ("groups-access", 300, 0),
+    ("groups-access", 1000, 0),
+];
+
+fn text(alloc: Global, chars: &str) -> Result<Text, Memory> {
+    Text::from_text(alloc, chars)
+}
+
+fn keys_after(alloc: Global, number: u32, count: u32) -> Result<Many<u32>, Memory> {
+    let mut keys = Many::new(alloc);
+    for at in 0..count {
+        keys.push(number.wrapping_add(at).wrapping_add(1))?;
+    }
+    Ok(keys)
+}
+
+fn defaults_of(alloc: Global, default: &str) -> Result<Many<Text>, Memory> {
+    let mut defaults = Many::new(alloc);
+    if !default.is_empty() {
+        defaults.push(text(alloc, default)?)?;
+    }
+    Ok(defaults)
+}
+
+fn cases_of(alloc: Global, case: u32) -> Result<Many<Case>, Memory> {
+    let mut cases = Many::new(alloc);
+    if case < 9 {
+        cases.push(Case { choice: 0, case })?;
+    }
+    Ok(cases)
+}
+
+fn name_of(alloc: Global, name: &str, number: u32) -> Result<QName, Memory> {
+    Ok(QName {
+        space: text(alloc, if number < 22 { "urn:acm" } else { "urn:ex" })?,
+        name: text(alloc, name)?,
+    })
+}
+
+fn node_of(alloc: Global, entry: &Entry, number: u32) -> Result<Node, Memory> {
+    Ok(Node {
+        name: name_of(alloc, entry.0, number)?,
+        module: if number < 22 { 0 } else { 1 },
+        parent: if entry.1 == 99 { None } else { Some(entry.1) },
+        kind: entry.2,
+        kind_of_value: 0,
+        keys: keys_after(alloc, number, entry.3)?,
+        uniques: Many::new(alloc),
+        mandatory: false,
+        defaults: defaults_of(alloc, entry.4)?,
+        least: 0,
+        most: None,
+        by_user: false,
+        cases: cases_of(alloc, entry.5)?,
+        deny: if number == 0 { Deny::All } else { Deny::Nothing },
+    })
+}
+
+fn put_node(schema: &mut Schema, node: Node) -> Result<(), Memory> {
+    let count = schema.nodes();
+    if let Some(above) = node.parent
+        && above >= count
+    {
+        return Ok(());
+    }
+    if count < 100 {
+        schema.add_node(node)?;
+    }
+    Ok(())
+}
+
+fn put_module(alloc: Global, schema: &mut Schema, name: &str, space: &str) -> Result<(), Memory> {
+    let module = Module {
+        name: text(alloc, name)?,
+        space: text(alloc, space)?,
+        revision: Text::new(alloc),
+        features: Many::new(alloc),
+    };
+    if schema.modules().len() < 100 {
+        schema.add_module(module)?;
+    }
+    Ok(())
+}
+
+fn put_choice(alloc: Global, schema: &mut Schema) -> Result<(), Memory> {
+    let choice = Choice {
+        parent: Some(13),
+        mandatory: false,
+        default_case: None,
+        within: Many::new(alloc),
+    };
+    if schema.choices().len() < 100 {
+        schema.add_choice(choice)?;
+    }
+    Ok(())
+}
+
+fn fill(alloc: Global, schema: &mut Schema) -> Result<(), Memory> {
+    put_module(alloc, schema, "ietf-netconf-acm", "urn:acm")?;
+    put_module(alloc, schema, "ex", "urn:ex")?;
+    put_choice(alloc, schema)?;
+    for entry in NODES {
+        let node = node_of(alloc, entry, schema.nodes())?;
+        put_node(schema, node)?;
+    }
+    Ok(())
+}
+
+fn step(alloc: Global, node: u32, key: &str) -> Result<Step, Memory> {
+    let mut keys = Many::new(alloc);
+    if !key.is_empty() {
+        keys.push(text(alloc, key)?)?;
+    }
+    Ok(Step { node, keys })
+}
+
+fn put(rows: &mut Many<Row>, steps: &[(u32, &str)], value: &str) -> Result<(), Memory> {
+    let alloc = rows.alloc();
+    let mut path = Many::new(alloc);
+    for (node, key) in steps {
+        path.push(step(alloc, *node, key)?)?;
+    }
+    let value = if value.is_empty() { None } else { Some(text(alloc, value)?) };
+    rows.push(Row {
+        path: Path { steps: path },
+        value,
+    })
+}
+
+fn put_group(rows: &mut Many<Row>, name: &str, users: u32) -> Result<(), Memory> {
+    let alloc = rows.alloc();
+    put(rows, &[(0, ""), (6, ""), (7, name)], "")?;
+    put(rows, &[(0, ""), (6, ""), (7, name), (8, "")], name)?;
+    put(rows, &[(0, ""), (6, ""), (7, name), (9, "alice")], "alice")?;
+    for at in 0..users {
+        let user = format!(in alloc; "user-{at}")?;
+        put(rows, &[(0, ""), (6, ""), (7, name), (9, user.as_str())], user.as_str())?;
+    }
+    Ok(())
+}
+
+fn put_list(rows: &mut Many<Row>, name: &str, groups: u32) -> Result<(), Memory> {
+    let alloc = rows.alloc();
+    put(rows, &[(0, ""), (10, name)], "")?;
+    put(rows, &[(0, ""), (10, name), (11, "")], name)?;
+    for at in 0..groups {
+        let group = format!(in alloc; "group-{at}")?;
+        put(rows, &[(0, ""), (10, name), (12, group.as_str())], group.as_str())?;
+    }
+    put(rows, &[(0, ""), (10, name), (12, "g")], "g")
+}
+
+fn put_rule(rows: &mut Many<Row>, name: &str, path: &str) -> Result<(), Memory> {
+    put(rows, &[(0, ""), (10, "l"), (13, name)], "")?;
+    put(rows, &[(0, ""), (10, "l"), (13, name), (14, "")], name)?;
+    put(rows, &[(0, ""), (10, "l"), (13, name), (18, "")], path)?;
+    put(rows, &[(0, ""), (10, "l"), (13, name), (19, "")], "read update")?;
+    put(rows, &[(0, ""), (10, "l"), (13, name), (20, "")], "permit")
+}
+
+/// A path that gives the keys whose bits are in a number.
+fn path_of(alloc: Global, number: u32) -> Result<String, Memory> {
+    let mut path = String::from_str(alloc, "/ex:routes/ex:route")?;
+    let mut rest = number;
+    for key in "abcdefghijkl".chars() {
+        if rest % 2 == 1 {
+            let part = format!(in alloc; "[ex:{key}='{number}']")?;
+            path.push_str(part.as_str())?;
+        }
+        rest /= 2;
+    }
+    Ok(path)
+}
+
+fn put_rules(rows: &mut Many<Row>, count: u32, shapes: bool) -> Result<(), Memory> {
+    let alloc = rows.alloc();
+    for at in 0..count {
+        let name = format!(in alloc; "p{at}")?;
+        let path = if shapes {
+            path_of(alloc, at)?
+        } else {
+            format!(in alloc; "/ex:ports/ex:port[ex:name='p{at}']")?
+        };
+        put_rule(rows, name.as_str(), path.as_str())?;
+    }
+    Ok(())
+}
+
+fn put_ports(rows: &mut Many<Row>, count: u32) -> Result<(), Memory> {
+    let alloc = rows.alloc();
+    for at in 0..count {
+        let name = format!(in alloc; "p{at}")?;
+        put(rows, &[(22, ""), (23, name.as_str())], "")?;
+        put(rows, &[(22, ""), (23, name.as_str()), (25, "")], "1500")?;
+    }
+    Ok(())
+}
+
+fn put_route(rows: &mut Many<Row>, name: &str) -> Result<(), Memory> {
+    let alloc = rows.alloc();
+    let mut keys = Many::new(alloc);
+    for _ in 0..12u32 {
+        keys.push(text(alloc, name)?)?;
+    }
+    let mut path = Many::new(alloc);
+    path.push(step(alloc, 26, "")?)?;
+    path.push(Step { node: 27, keys })?;
+    rows.push(Row {
+        path: Path { steps: path },
+        value: None,
+    })
+}
+
+fn put_routes(rows: &mut Many<Row>, count: u32) -> Result<(), Memory> {
+    let alloc = rows.alloc();
+    for at in 0..count {
+        let name = format!(in alloc; "r{at}")?;
+        put_route(rows, name.as_str())?;
+    }
+    Ok(())
+}
+
+/// Rows of access control.
+fn put_nacm(rows: &mut Many<Row>, kind: &str, size: u32) -> Result<(), Memory> {
+    let alloc = rows.alloc();
+    if kind.starts_with("groups") {
+        for at in 0..size {
+            let name = format!(in alloc; "h{at}")?;
+            put_group(rows, name.as_str(), size)?;
+        }
+    }
+    put_group(rows, "g", 0)?;
+    if kind.starts_with("lists") {
+        for at in 0..size {
+            let name = format!(in alloc; "l{at}")?;
+            put_list(rows, name.as_str(), size)?;
+        }
+        return Ok(());
+    }
+    put_list(rows, "l", 0)?;
+    if kind.starts_with("groups") {
+        return Ok(());
+    }
+    put_rules(rows, size, kind.starts_with("shapes"))
+}
+
+fn config(alloc: Global, kind: &str, size: u32, ports: u32) -> Result<Config, Memory> {
+    let mut rows = Many::new(alloc);
+    put_nacm(&mut rows, kind, size)?;
+    if kind.starts_with("shapes") {
+        put_routes(&mut rows, ports)?;
+    } else {
+        put_ports(&mut rows, ports)?;
+    }
+    Config::from_rows(rows)
+}
+
+fn peer(alloc: Global) -> Result<Peer, Memory> {
+    Ok(Peer {
+        user: text(alloc, "alice")?,
+        groups: Many::new(alloc),
+        recovery: false,
+    })
+}
+
+fn asked(access: &Access<'_>, alloc: Global, config: &Config) -> Result<u64, Memory> {
+    let mut permitted: u64 = 0;
+    for row in config.rows(alloc)?.as_slice() {
+        if access.may(&row.path, Right::Update)?.permit {
+            permitted = permitted.wrapping_add(1);
+        }
+    }
+    Ok(permitted)
+}
+
+fn seen(access: &Access<'_>, alloc: Global, config: &Config) -> Result<u64, Memory> {
+    let mut seen: u64 = 0;
+    for row in config.rows(alloc)?.as_slice() {
+        if access.sees(&row.path) {
+            seen = seen.wrapping_add(1);
+        }
+    }
+    Ok(seen)
+}
+
+fn read_often(alloc: Global, schema: &Schema, config: &Config, times: u32) -> Result<u64, Memory> {
+    let peer = peer(alloc)?;
+    let mut open: u64 = 0;
+    for _ in 0..times {
+        if Policy::of(alloc, schema, config)?.is_open(&peer) {
+            open = open.wrapping_add(1);
+        }
+    }
+    Ok(open)
+}
+
+fn made_often(alloc: Global, schema: &Schema, policy: &Policy, times: u32) -> Result<u64, Memory> {
+    let peer = peer(alloc)?;
+    let mut made: u64 = 0;
+    for _ in 0..times {
+        let _access = policy.access(alloc, schema, &peer)?;
+        made = made.wrapping_add(1);
+    }
+    Ok(made)
+}
+
+fn once(access: &Access<'_>, alloc: Global, kind: &str, config: &Config) -> Result<u64, Memory> {
+    if kind.ends_with("may") {
+        return asked(access, alloc, config);
+    }
+    if kind.ends_with("sees") {
+        return seen(access, alloc, config);
+    }
+    Ok(access.visible(alloc, config)?.len())
+}
+
+fn asked_often(
+    alloc: Global,
+    schema: &Schema,
+    policy: &Policy,
+    config: &Config,
+    kind: &str,
+    times: u32,
+) -> Result<u64, Memory> {
+    let peer = peer(alloc)?;
+    let access = policy.access(alloc, schema, &peer)?;
+    let mut all: u64 = 0;
+    for _ in 0..times {
+        all = all.wrapping_add(once(&access, alloc, kind, config)?);
+    }
+    Ok(all)
+}
+
+fn work(
+    alloc: Global,
+    schema: &Schema,
+    config: &Config,
+    kind: &str,
+    times: u32,
+) -> Result<u64, Memory> {
+    if kind.ends_with("policy") {
+        return read_often(alloc, schema, config, times);
+    }
+    let policy = Policy::of(alloc, schema, config)?;
+    if kind.ends_with("access") {
+        return made_often(alloc, schema, &policy, times);
+    }
+    asked_often(alloc, schema, &policy, config, kind, times)
+}
+
+fn worked(alloc: Global, schema: &Schema, config: &Config, kind: &str, times: u32) -> u64 {
+    work(alloc, schema, config, kind, times).unwrap_or(0)
+}
+
+fn no_memory(_: Memory) -> io::Error {
+    io::Error::from(io::ErrorKind::OutOfMemory)
+}
+
+fn main(rt: HostRuntime) -> io::Result<()> {
+    let alloc = rt.alloc();
+    let mut schema = Schema::new(alloc);
+    fill(alloc, &mut schema).map_err(no_memory)?;
+    for (kind, size, ports) in WORKS {
+        let config = config(alloc, kind, *size, *ports).map_err(no_memory)?;
+        let start = Instant::now(&rt)?;
+        worked(alloc, &schema, &config, kind, 1);
+        let first = start.elapsed(&rt)?.as_micros();
+        let again = Instant::now(&rt)?;
+        let answer = worked(alloc, &schema, &config, kind, 11);
+        let all = again.elapsed(&rt)?.as_micros();
+        let each = all.saturating_sub(first) / 10;
+        println!(rt; "{kind} {size} {ports}: {each} us, answer {answer}")?;
+    }
+    Ok(())
+}
+RT

@@ -6,6 +6,7 @@
 //! branches owns nothing: so each helper is proved in seconds.
 mod asked_tests;
 mod keeper_tests;
+mod locks_tests;
 mod named_tests;
 mod replies_tests;
 mod seats_tests;
@@ -24,7 +25,7 @@ use nc_message::{Tree, Why, write};
 use nc_message_read::{MessageFault, read_message};
 use nc_model::{Entry, Event, Outcome};
 use nc_names::{Boxed, Bytes, MOST_REQUESTS, Many, Text};
-use nc_protocol::{Peer, Request, decoded_is_proper};
+use nc_protocol::{Cause, Peer, Request, Verdict, decoded_is_proper};
 use nc_requests::decode;
 use nc_schema::Schema;
 use nc_tree::{Config, MemKeeper};
@@ -182,6 +183,43 @@ fn entry_text(rt: &impl Abort, alloc: Global, entry: &Entry) -> String {
     shown
 }
 
+// ---- what is told, in short
+
+fn put_cause(rt: &impl Abort, shown: &mut String, cause: &Cause) {
+    write!(shown, "{:?}", cause.kind).expect(rt, "memory");
+    for name in cause.names.as_slice() {
+        put(rt, shown, " ");
+        put(rt, shown, name.as_str());
+    }
+}
+
+// A verdict: its causes, or what it grants.
+fn put_verdict(rt: &impl Abort, shown: &mut String, verdict: &Verdict) {
+    match verdict {
+        Verdict::Done => put(rt, shown, "ok"),
+        Verdict::Selected { rows } => write!(shown, "rows {}", rows.len()).expect(rt, "memory"),
+        Verdict::Locked { lock, nodes: _ } => write!(shown, "lock {lock}").expect(rt, "memory"),
+        Verdict::Refused { causes } => {
+            for cause in causes.as_slice() {
+                put_cause(rt, shown, cause);
+            }
+        }
+    }
+}
+
+fn put_told(rt: &impl Abort, alloc: Global, shown: &mut String, outcome: &Outcome) {
+    match outcome {
+        Outcome::Answered { verdict, reply: _ } => put_verdict(rt, shown, verdict),
+        _ => put_outcome(rt, alloc, shown, outcome),
+    }
+}
+
+fn told_text(rt: &impl Abort, alloc: Global, entry: &Entry) -> String {
+    let mut shown = String::new(alloc);
+    put_told(rt, alloc, &mut shown, &entry.outcome);
+    shown
+}
+
 // ---- histories
 
 // What happens to a machine: an event that is handed in, or one of its own calls.
@@ -262,5 +300,30 @@ fn each_is_entered(
 ) {
     for (happens, at, wanted) in cases {
         is_entered(rt, alloc, machine, *happens, *at, wanted);
+    }
+}
+
+// Looks whether what comes of it is told so, in short.
+fn is_told(
+    rt: &impl Abort,
+    alloc: Global,
+    machine: &mut Machine<MemKeeper>,
+    happens: Happens,
+    at: u64,
+    wanted: &str,
+) {
+    let entry = entry(rt, alloc, machine, happens, at);
+    let found = told_text(rt, alloc, entry.get());
+    is_same(rt, "told", found.as_str(), wanted);
+}
+
+fn each_is_told(
+    rt: &impl Abort,
+    alloc: Global,
+    machine: &mut Machine<MemKeeper>,
+    cases: &[(Happens, u64, &str)],
+) {
+    for (happens, at, wanted) in cases {
+        is_told(rt, alloc, machine, *happens, *at, wanted);
     }
 }

@@ -1,18 +1,10 @@
-//! Operations that the server does not offer yet, as requests with their parameters or their first fault (RFC
-//! 6241 7.4 to 7.6, 7.9 and 8.4; RFC 5717 2.4). The other operations are shown at the program.
-use super::{asked, is_same, put};
-use nc_protocol::{Asked, Cause, Request, Select};
+//! Operations as requests with their parameters or their first fault (RFC 6241 7.4 to 7.6, 7.9 and 8.4; RFC
+//! 5717 2.4). The other operations are shown at the program.
+use super::{asked, is_same, put, put_cause};
+use nc_protocol::{Asked, Request, Select};
 use std::alloc::Global;
 use std::fmt::Write;
 use std::process::Abort;
-
-fn put_cause(rt: &impl Abort, shown: &mut String, cause: &Cause) {
-    write!(shown, "{:?}", cause.kind).expect(rt, "memory");
-    for name in cause.names.as_slice() {
-        put(rt, shown, " ");
-        put(rt, shown, name.as_str());
-    }
-}
 
 fn put_selects(rt: &impl Abort, shown: &mut String, selects: &[Select]) {
     for select in selects {
@@ -162,7 +154,7 @@ const ASKED: &[(&str, &str)] = &[
 ];
 
 #[test]
-fn operations_to_come_are_read_with_their_parameters(rt: HostRuntime) {
+fn operations_are_read_with_their_parameters(rt: HostRuntime) {
     for (operation, wanted) in ASKED {
         is_asked(&rt, rt.alloc(), operation, wanted);
     }

@@ -4,7 +4,7 @@ use Rattle.std.specs.Prelude.{cond, nat_le, nat_lt}
 use Rattle.std.specs.Option.{option_or}
 use Rattle.std.proofs.lemmas.Bool.{le-ltb, lt-ltb}
 use Rattle.std.proofs.lemmas.Bool.Decides.{leb_tells}
-use Rattle.nc_names.specs.declared.cause.CauseKind.TheVariants.{Limit, UnknownParameter}
+use Rattle.nc_names.specs.declared.cause.CauseKind.TheVariants.{Limit}
 use Rattle.nc_names.specs.declared.path.Row.{Row}
 use Rattle.nc_schema.specs.Record.{body_limit, record_size}
 use Rattle.nc_protocol.specs.declared.datastore.Datastore.{Datastore}
@@ -14,17 +14,22 @@ use Rattle.nc_protocol.specs.declared.request.Cause.{Cause}
 use Rattle.nc_protocol.specs.Asking.{plain_cause}
 use Rattle.nc_protocol.specs.Edited.{cause_where, first_cause}
 use Rattle.nc_protocol.specs.Refusals.{violation_in}
-use Rattle.nc_protocol.specs.Words.{confirmed_word}
 use Rattle.nc_model.specs.Access.{rights_of}
 use Rattle.nc_model.specs.State.{State, candidate_in_force}
 use Rattle.nc_model.specs.Words.{record_word}
-use Rattle.nc_model.specs.Verdict.{changes_denied, commit_admission, commit_changes, commit_refusal, copy_checks, edit_checks, in_use, in_use_partial, is_running, is_source, is_target, lock_refusal, partly_locked, pending_of_other, record_refusal, unlock_refusal, unsupported, unsupported_origin}
-use Rattle.nc_machine.specs.inner.Courses.{commit_refused, held_refusal, lock_refused, modified_refusal, not_held, same_store, uncopied, unedited, unlock_refused}
+use Rattle.nc_model.specs.Verdict.{cancel_admission, cancel_refusal, changes_denied, commit_admission, commit_changes, commit_refusal, copy_checks, edit_checks, in_use, in_use_partial, is_running, is_source, is_target, lock_refusal, partly_locked, pending_of_other, record_refusal, unlock_refusal, unsupported, unsupported_origin}
+use Rattle.nc_machine.specs.inner.Courses.{cancel_refused, commit_refused, held_refusal, lock_refused, modified_refusal, not_held, reversion_refusal, same_store, uncopied, unedited, unlock_refused}
 
 first_of_two : (a b : Option Cause) → first_cause (a ∷ b ∷ []) ≡ option_or a b
 first_of_two (Some cause) b = refl
 first_of_two None (Some cause) = refl
 first_of_two None None = refl
+
+first_of_three : (a b c : Option Cause) → first_cause (a ∷ b ∷ c ∷ []) ≡ option_or a (option_or b c)
+first_of_three (Some cause) b c = refl
+first_of_three None (Some cause) c = refl
+first_of_three None None (Some cause) = refl
+first_of_three None None None = refl
 
 first_of_four : (a b c d : Option Cause) → first_cause (a ∷ b ∷ c ∷ d ∷ []) ≡ option_or (option_or a (option_or b c)) d
 first_of_four (Some cause) b c d = refl
@@ -42,17 +47,16 @@ first_of_five None None None (Some cause) e = refl
 first_of_five None None None None (Some cause) = refl
 first_of_five None None None None None = refl
 
-first_of_eight : (a b c d e f g h : Option Cause) → first_cause (a ∷ b ∷ c ∷ d ∷ e ∷ f ∷ g ∷ h ∷ [])
-    ≡ option_or (option_or a (option_or b (option_or c d))) (option_or (option_or e f) (option_or g h))
-first_of_eight (Some cause) b c d e f g h = refl
-first_of_eight None (Some cause) c d e f g h = refl
-first_of_eight None None (Some cause) d e f g h = refl
-first_of_eight None None None (Some cause) e f g h = refl
-first_of_eight None None None None (Some cause) f g h = refl
-first_of_eight None None None None None (Some cause) g h = refl
-first_of_eight None None None None None None (Some cause) h = refl
-first_of_eight None None None None None None None (Some cause) = refl
-first_of_eight None None None None None None None None = refl
+first_of_seven : (a b c d e f g : Option Cause) → first_cause (a ∷ b ∷ c ∷ d ∷ e ∷ f ∷ g ∷ [])
+    ≡ option_or (option_or a (option_or b c)) (option_or (option_or d e) (option_or f g))
+first_of_seven (Some cause) b c d e f g = refl
+first_of_seven None (Some cause) c d e f g = refl
+first_of_seven None None (Some cause) d e f g = refl
+first_of_seven None None None (Some cause) e f g = refl
+first_of_seven None None None None (Some cause) f g = refl
+first_of_seven None None None None None (Some cause) g = refl
+first_of_seven None None None None None None (Some cause) = refl
+first_of_seven None None None None None None None = refl
 
 pub edits_checked : (s : State) (session : ℕ) (target : Datastore) → first_cause (edit_checks s session target) ≡ unedited s session target
 edits_checked s session target = first_of_two (unsupported is_target target) (in_use s session Candidate)
@@ -70,12 +74,17 @@ lock_checked s session target =
 pub unlock_checked : (s : State) (session : ℕ) (target : Datastore) → unlock_refusal s session target ≡ unlock_refused s session target
 unlock_checked s session target = first_of_two (unsupported is_source target) (not_held s session target)
 
-pub commit_checked : (s : State) (session : ℕ) (confirmed : Bool) (persist_id : Option (List ℕ)) →
-    commit_refusal s session confirmed persist_id ≡ commit_refused s session confirmed persist_id
-commit_checked s session confirmed persist_id =
-    first_of_eight (cause_where confirmed (plain_cause UnknownParameter (confirmed_word ∷ []))) (commit_admission s session persist_id)
-    (in_use s session Running) (in_use s session Candidate) (in_use_partial s session (commit_changes s))
-    (changes_denied (rights_of s session) (commit_changes s)) (violation_in s.schema (candidate_in_force s)) (record_refusal s)
+pub commit_checked : (s : State) (session : ℕ) (persist_id : Option (List ℕ)) →
+    commit_refusal s session persist_id ≡ commit_refused s session persist_id
+commit_checked s session persist_id =
+    first_of_seven (commit_admission s session persist_id) (in_use s session Running) (in_use s session Candidate)
+    (in_use_partial s session (commit_changes s)) (changes_denied (rights_of s session) (commit_changes s))
+    (violation_in s.schema (candidate_in_force s)) (record_refusal s)
+
+pub cancel_checked : (s : State) (session : ℕ) (persist_id : Option (List ℕ)) →
+    cancel_refusal s session persist_id ≡ cancel_refused s session persist_id
+cancel_checked s session persist_id =
+    first_of_three (cancel_admission s session persist_id) (in_use s session Running) (reversion_refusal s session)
 
 -- ---- the size of the record
 

@@ -26,11 +26,12 @@ use Rattle.nc_protocol.specs.Refusals.{checked, refused_for}
 use Rattle.nc_model.proofs.GoodLemmas.{commit_is_small, commit_is_valid}
 use Rattle.nc_model.proofs.SessionLemmas.{is_false_not}
 use Rattle.nc_machine.specs.declared.course.Change.{Change}
-use Rattle.nc_machine.specs.declared.course.Change.TheVariants.{Nothing, Discard, Grant, Release, Over}
+use Rattle.nc_machine.specs.declared.course.Change.TheVariants.{Nothing, Discard, Grant, Release, Confirm, Revert, Over}
 use Rattle.nc_machine.specs.declared.course.Course.{Course}
 use Rattle.nc_machine.specs.declared.course.Course.TheVariants.{Answer, Commit}
-use Rattle.nc_machine.specs.inner.Courses.{asked_course, changed_to, commit_asked_course, commit_course, commit_refused, copy_config_course, course, course_on, discard_course, done_unless, edit_config_course, edit_course, get_config_course, get_course, is_not_offered, kill_course, lock_course, lock_refused, made, unlock_course, unlock_refused, validate_course}
-use Rattle.nc_machine.proofs.Checks.{commit_checked, lock_checked, unlock_checked}
+use Rattle.nc_machine.specs.inner.Courses.{asked_course, cancel_course, cancel_refused, changed_to, commit_asked_course, commit_course, commit_refused, copy_config_course, course, course_on, discard_course, done_unless, edit_config_course, edit_course, get_config_course, get_course, is_not_offered, kill_course, lock_course, lock_refused, made, unlock_course, unlock_refused, validate_course}
+use Rattle.nc_machine.proofs.Checks.{cancel_checked, commit_checked, lock_checked, unlock_checked}
+use Rattle.nc_machine.proofs.Confirmed.{confirmed_is}
 use Rattle.nc_machine.proofs.Held.{lock_granted, lock_released}
 
 -- what is asked for has that verdict and changes that, whatever the disk does
@@ -115,7 +116,7 @@ checking s session asked (Some cause) v change c verdicts appends does stays is 
 -- a commit that is refused, whatever it would come to
 refused_commit : (s : State) (session : ℕ) (asked : Result Asked Cause) (why : Option Cause) (otherwise : Bool → Verdict) (v : Verdict)
     (c : Change) → ((failed : Bool) → verdict_on s session asked failed ≡ checked why (otherwise failed)) →
-    ((causes : List Cause) → answered s session asked (Refused causes) ≡ s) → commit_course why ≡ Answer v c →
+    ((causes : List Cause) → answered s session asked (Refused causes) ≡ s) → commit_course why Commit ≡ Answer v c →
     IsSettled s session asked v c
 unfolding made
 refused_commit s session asked None otherwise v c verdicts stays is = absurd (by is)
@@ -136,9 +137,13 @@ commit_stays : (s : State) (session : ℕ) (confirmed : Bool) (timeout : ℕ) (p
 commit_stays s session true timeout persist persist_id causes = refl
 commit_stays s session false timeout persist persist_id causes = refl
 
+as_done : (why : Option Cause) (change : Change) → done_unless why change ≡ commit_course why (Answer Done change)
+as_done None change = refl
+as_done (Some cause) change = refl
+
 asked_settles : (s : State) (session : ℕ) (asked : Asked) (v : Verdict) (c : Change) → is_offered (operation_of asked) ≡ true →
     asked_course s session asked ≡ Answer v c → IsSettled s session (Ok asked) v c
-unfolding asked_course get_course get_config_course edit_config_course edit_course copy_config_course commit_asked_course discard_course lock_course unlock_course kill_course validate_course made
+unfolding asked_course get_course get_config_course edit_config_course edit_course copy_config_course commit_asked_course discard_course lock_course unlock_course kill_course cancel_course validate_course made
 asked_settles s session (Get filter) v c offered is =
     plain s session (Ok (Get filter)) _ v c (λ failed. refl) refl (λ w. refl) is
 asked_settles s session (GetConfig source filter) v c offered is =
@@ -157,10 +162,16 @@ asked_settles s session CloseSession v c offered is =
 asked_settles s session DiscardChanges v c offered is =
     checking s session (Ok DiscardChanges) (in_use s session CandidateStore) v Discard c (λ failed. refl) refl (λ free. refl)
     (λ causes. refl) is
-asked_settles s session (AsksCommit confirmed timeout persist persist_id) v c offered is =
-    refused_commit s session (Ok (AsksCommit confirmed timeout persist persist_id))
-    (commit_refusal s session confirmed persist_id) (λ failed. kept_unless (not confirmed && failed)) v c (λ failed. refl)
-    (commit_stays s session confirmed timeout persist persist_id) is
+asked_settles s session (AsksCommit false timeout persist persist_id) v c offered is =
+    refused_commit s session (Ok (AsksCommit false timeout persist persist_id)) (commit_refused s session persist_id) kept_unless v c
+    (λ failed. ap (λ (why : Option Cause). checked why (kept_unless failed)) (commit_checked s session persist_id))
+    (commit_stays s session false timeout persist persist_id) is
+asked_settles s session (AsksCommit true timeout persist persist_id) v c offered is =
+    let change : Change = Confirm (candidate_in_force s) timeout persist in
+    checking s session (Ok (AsksCommit true timeout persist persist_id)) (commit_refused s session persist_id) v change c
+    (λ failed. ap (λ (why : Option Cause). checked why Done) (commit_checked s session persist_id)) refl
+    (λ free. confirmed_is s session timeout persist) (commit_stays s session true timeout persist persist_id)
+    (as_done (commit_refused s session persist_id) change ∙ is)
 asked_settles s session (Validate source) v c offered is =
     plain s session (Ok (Validate source)) _ v c (λ failed. refl) refl (λ w. refl) is
 asked_settles s session (Lock target) v c offered is =
@@ -174,7 +185,10 @@ asked_settles s session (Unlock target) v c offered is =
 asked_settles s session (KillSession number) v c offered is =
     checking s session (Ok (KillSession number)) (kill_refusal s session number) v (Over number) c (λ failed. refl) refl
     (λ free. refl) (λ causes. refl) is
-asked_settles s session (CancelCommit persist_id) v c offered is = absurd (not_true offered)
+asked_settles s session (CancelCommit persist_id) v c offered is =
+    checking s session (Ok (CancelCommit persist_id)) (cancel_refused s session persist_id) v Revert c
+    (λ failed. ap (λ (why : Option Cause). checked why Done) (cancel_checked s session persist_id)) refl (λ free. refl)
+    (λ causes. refl) is
 asked_settles s session (PartialLock selects) v c offered is = absurd (not_true offered)
 asked_settles s session (PartialUnlock lock) v c offered is = absurd (not_true offered)
 
@@ -263,25 +277,27 @@ none_commits : (why : Option Cause) (change : Change) → done_unless why change
 none_commits None change is = cc
 none_commits (Some cause) change is = cc
 
--- a commit that is not refused is not confirmed
+-- a commit that is not refused, and not confirmed
 committed_by : (s : State) (session : ℕ) (timeout : ℕ) (persist persist_id : Option (List ℕ)) (why : Option Cause) →
-    commit_refusal s session false persist_id ≡ why → commit_course why ≡ Commit →
+    commit_refusal s session persist_id ≡ why → commit_course why Commit ≡ Commit →
     IsCommitted s session (Ok (AsksCommit false timeout persist persist_id))
 committed_by s session timeout persist persist_id None why_is is = record {
   verdict_is = λ failed. ap (λ (why : Option Cause). checked why (kept_unless failed)) why_is;
   appends = refl;
   done = refl;
   failed = refl;
-  valid = commit_is_valid s session false persist_id why_is;
-  small = commit_is_small s session false persist_id why_is;
+  valid = commit_is_valid s session persist_id why_is;
+  small = commit_is_small s session persist_id why_is;
 }
 committed_by s session timeout persist persist_id (Some cause) why_is is = absurd (no_commit (Refused (cause ∷ [])) Nothing is)
 
 asked_commits : (s : State) (session : ℕ) (asked : Asked) → asked_course s session asked ≡ Commit → IsCommitted s session (Ok asked)
-unfolding asked_course get_course get_config_course edit_config_course edit_course copy_config_course commit_asked_course discard_course lock_course unlock_course kill_course validate_course
+unfolding asked_course get_course get_config_course edit_config_course edit_course copy_config_course commit_asked_course discard_course lock_course unlock_course kill_course cancel_course validate_course
 asked_commits s session (AsksCommit false timeout persist persist_id) is =
-    committed_by s session timeout persist persist_id (commit_refusal s session false persist_id) refl is
-asked_commits s session (AsksCommit true timeout persist persist_id) is = absurd (no_commit _ _ is)
+    committed_by s session timeout persist persist_id (commit_refused s session persist_id) (commit_checked s session persist_id) is
+asked_commits s session (AsksCommit true timeout persist persist_id) is =
+    absurd (none_commits (commit_refused s session persist_id) (Confirm (candidate_in_force s) timeout persist)
+    (as_done (commit_refused s session persist_id) (Confirm (candidate_in_force s) timeout persist) ∙ is))
 asked_commits s session (Get filter) is = absurd (no_commit _ _ is)
 asked_commits s session (GetConfig source filter) is = absurd (no_commit _ _ is)
 asked_commits s session (EditConfig target default_operation test on_error config) is = absurd (no_commit _ _ is)
@@ -293,7 +309,7 @@ asked_commits s session (Validate source) is = absurd (no_commit _ _ is)
 asked_commits s session (Lock target) is = absurd (none_commits (lock_refused s session target) (Grant target) is)
 asked_commits s session (Unlock target) is = absurd (none_commits (unlock_refused s session target) (Release target) is)
 asked_commits s session (KillSession number) is = absurd (none_commits (kill_refusal s session number) (Over number) is)
-asked_commits s session (CancelCommit persist_id) is = absurd (no_commit _ _ is)
+asked_commits s session (CancelCommit persist_id) is = absurd (none_commits (cancel_refused s session persist_id) Revert is)
 asked_commits s session (PartialLock selects) is = absurd (no_commit _ _ is)
 asked_commits s session (PartialUnlock lock) is = absurd (no_commit _ _ is)
 
@@ -322,13 +338,3 @@ commits_by_offer s session request false offers is =
 pub commits : (s : State) (session : ℕ) (request : Request) → course s session request ≡ Commit → IsCommit s session request
 unfolding course
 commits s session request is = commits_by_offer s session request (is_not_offered request.operation) refl is
-
--- a commit as the code makes it
-pub commit_told : (s : State) (session : ℕ) (confirmed : Bool) (persist_id : Option (List ℕ)) (refusal : Option Cause)
-    (result : Result Course Memory) → refusal ≡ commit_refused s session confirmed persist_id →
-    IfOk result (λ it. it ≡ commit_course refusal) →
-    IfOk result (λ it. it ≡ commit_asked_course s session confirmed persist_id)
-unfolding commit_asked_course
-commit_told s session confirmed persist_id refusal (Err memory) is told = tt
-commit_told s session confirmed persist_id refusal (Ok it) is told =
-    told ∙ ap commit_course (is ∙ sym (commit_checked s session confirmed persist_id))

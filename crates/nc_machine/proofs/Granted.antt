@@ -1,5 +1,5 @@
 -- What nothing stands against is granted.
-use Rattle.std.proofs.Common.{◌≡◌, ◌+◌, ℕ, Bool, true, false, not, List, [], ◌∷◌, refl, sym, ap, subst, ◌∙◌, Option, Some, None, Result, Ok}
+use Rattle.std.proofs.Common.{◌≡◌, ◌+◌, ◌&&◌, ℕ, Bool, true, false, not, List, [], ◌∷◌, refl, sym, ap, subst, ◌∙◌, Option, Some, None, Result, Ok}
 use Rattle.std.specs.Prelude.{cond, fold, option_map, slice_get}
 use Rattle.std.specs.Option.{option_or, option_to_list}
 use Rattle.std.proofs.lemmas.Bool.{le-ltb}
@@ -43,7 +43,7 @@ use Rattle.nc_model.specs.declared.event.Outcome.TheVariants.{Answered, NotLive}
 use Rattle.nc_model.specs.Access.{exec_of, rights_of, sees_of}
 use Rattle.nc_model.specs.State.{State, candidate_in_force, expired}
 use Rattle.nc_model.specs.Step.{answer_to, has_failed, outcome_of}
-use Rattle.nc_model.specs.Verdict.{asked_verdict, commit_changes, commit_checks, copied, done_where, edit_verdict, edits_made, exec_denied, in_use, is_source, is_too_large, made_by, nodes_selected, operation_refused, rows_copied, shown, stored, unless_denied, unsupported, validated, verdict, verdict_on}
+use Rattle.nc_model.specs.Verdict.{asked_verdict, commit_changes, commit_checks, copied, done_where, edit_verdict, edits_made, exec_denied, in_use, is_source, is_too_large, kept_unless, made_by, nodes_selected, operation_refused, rows_copied, shown, stored, unless_denied, unsupported, validated, verdict, verdict_on}
 use Rattle.nc_model.specs.Words.{record_word}
 use Rattle.nc_model.proofs.DiskLemmas.{disk_fault_has_cause}
 use Rattle.nc_machine.specs.Laws.{AreMade, ArePermitted, IsCommittable, IsFree, IsGranted, IsUnopposed, MayAsk, PassesTest, UnopposedIsGranted}
@@ -144,36 +144,38 @@ module _ (s : State) (session : ℕ) where
       ap done_where (unlocked (unless_denied s session (rows_copied s session source)) free)
       ∙ (ap (λ (r : Result (List Row) Cause). done_where (unless_denied s session r)) is ∙ rows_done rows permitted)
 
-  commit_done : (confirmed : Bool) (timeout : ℕ) (persist persist_id : Option (List ℕ)) → confirmed ≡ false →
-      IsCommittable s session persist_id → asked_verdict s session (Commit confirmed timeout persist persist_id) false ≡ Done
-  commit_done confirmed timeout persist persist_id plain may =
-      ap (λ (b : Bool). asked_verdict s session (Commit b timeout persist persist_id) false) plain
-      ∙ ap (λ (why : Option Cause). checked why Done) (none_first (commit_checks s session false persist_id) (
-        refl,
+  -- where no disk fails
+  kept : (confirmed : Bool) → kept_unless (not confirmed && false) ≡ Done
+  kept true = refl
+  kept false = refl
+
+  commit_done : (confirmed : Bool) (timeout : ℕ) (persist persist_id : Option (List ℕ)) → IsCommittable s session persist_id →
+      asked_verdict s session (Commit confirmed timeout persist persist_id) false ≡ Done
+  commit_done confirmed timeout persist persist_id may =
+      ap (λ (why : Option Cause). checked why (kept_unless (not confirmed && false)))
+      (none_first (commit_checks s session persist_id) (
+        commit_is_admitted s session persist_id may.admitted,
         (
-          commit_is_admitted s session persist_id may.admitted,
+          store_is_free s session Running may.running,
           (
-            store_is_free s session Running may.running,
+            store_is_free s session Candidate may.candidate,
             (
-              store_is_free s session Candidate may.candidate,
+              changes_are_free s session (commit_changes s) may.nodes,
               (
-                changes_are_free s session (commit_changes s) may.nodes,
+                none_is_denied (rights_of s session) (commit_changes s) may.rights,
                 (
-                  none_is_denied (rights_of s session) (commit_changes s) may.rights,
+                  none_violated s.schema (candidate_in_force s) may.valid,
                   (
-                    none_violated s.schema (candidate_in_force s) may.valid,
-                    (
-                      where_false (is_too_large (candidate_in_force s)) (plain_cause Limit (record_word ∷ []))
-                          (le-ltb body_limit (record_size (candidate_in_force s)) may.small),
-                      tt,
-                    ),
+                    where_false (is_too_large (candidate_in_force s)) (plain_cause Limit (record_word ∷ []))
+                        (le-ltb body_limit (record_size (candidate_in_force s)) may.small),
+                    tt,
                   ),
                 ),
               ),
             ),
           ),
         ),
-      ))
+      )) ∙ kept confirmed
 
   valid_done : (read : Result (List Row) Cause) (rows : List Row) → read ≡ Ok rows → IsValid s.schema rows →
       validated s.schema read ≡ Done
@@ -212,8 +214,8 @@ module _ (s : State) (session : ℕ) where
   asked_granted CloseSession free = is_done _ refl
   asked_granted (KillSession number) (other, live) =
       granted_by _ Done (kill_is_granted s session number other live) (λ reply. tt)
-  asked_granted (Commit confirmed timeout persist persist_id) (plain, may) =
-      is_done _ (commit_done confirmed timeout persist persist_id plain may)
+  asked_granted (Commit confirmed timeout persist persist_id) may =
+      is_done _ (commit_done confirmed timeout persist persist_id may)
   asked_granted DiscardChanges free = granted_by _ Done (store_is_free s session Candidate free) (λ reply. tt)
   asked_granted (CancelCommit persist_id) (may, free, nodes) =
       granted_by _ Done (cancel_is_granted s session persist_id may free nodes) (λ reply. tt)

@@ -7,7 +7,7 @@ use Rattle.nc_protocol.specs.declared.request.Cause.{Cause}
 use Rattle.nc_protocol.specs.Asking.{plain_cause}
 use Rattle.nc_protocol.specs.Edited.{cause_where}
 use Rattle.nc_protocol.specs.Refusals.{datastore_name}
-use Rattle.nc_model.specs.State.{Holders, State, is_held_by, is_live}
+use Rattle.nc_model.specs.State.{State, is_held_by, is_live}
 use Rattle.nc_model.specs.Step.{with_holder, with_lock, without_lock}
 use Rattle.nc_model.specs.Verdict.{global_lock_cause, holder_of, in_use, is_candidate, kill_refusal, lock_checks, lock_refusal, unlock_checks, unlock_refusal}
 use Rattle.nc_model.proofs.SessionLemmas.{all_none, is_false_not, where_none}

@@ -1,5 +1,5 @@
 -- What a keeper keeps stays as it is, but at a commit.
-use Rattle.std.proofs.Common.{◌≡◌, ◌==◌, ℕ, Bool, true, false, not, List, refl, sym, ◌∙◌, Option, Some, None}
+use Rattle.std.proofs.Common.{◌≡◌, ◌==◌, ◌+◌, ℕ, Bool, true, false, not, List, refl, sym, ◌∙◌, Option, Some, None}
 use Rattle.std.specs.Prelude.{if◌then◌else◌, is_some, IfSome}
 use Rattle.nc_names.specs.Same.{is_same_rows}
 use Rattle.nc_names.specs.declared.path.Row.{Row}
@@ -9,12 +9,13 @@ use Rattle.nc_model.specs.declared.event.Event.TheVariants.{Start, End}
 use Rattle.nc_model.specs.declared.event.Outcome.{Outcome}
 use Rattle.nc_model.specs.declared.event.Outcome.TheVariants.{Started, Full, Answered, NotLive, Ended, Noted}
 use Rattle.nc_model.specs.State.{Pending, State, candidate_in_force, expired, is_due, left_by_end, read_at, reverted, session_ended}
-use Rattle.nc_model.specs.Step.{changed}
+use Rattle.nc_model.specs.Step.{changed, milliseconds}
 use Rattle.nc_model.proofs.RunningLemmas.{candidate_base, ended_base}
 use Rattle.nc_machine.specs.declared.course.Change.{Change}
-use Rattle.nc_machine.specs.declared.course.Change.TheVariants.{Nothing, Candidate, Discard, Grant, Release, Over}
-use Rattle.nc_machine.specs.inner.Courses.{granted, made, unlocked}
+use Rattle.nc_machine.specs.declared.course.Change.TheVariants.{Nothing, Candidate, Discard, Grant, Release, Confirm, Revert, Over}
+use Rattle.nc_machine.specs.inner.Courses.{confirming, granted, made, unlocked}
 use Rattle.nc_machine.specs.inner.Turns.{IsKeeping, LeavesKept}
+use Rattle.nc_machine.proofs.Confirmed.{confirming_base}
 
 pub all_kept : (s : State) → LeavesKept s s
 all_kept s = record { schema_is = refl; base_is = refl; faults_is = refl }
@@ -72,7 +73,7 @@ candidate_faults s rows true = refl
 candidate_faults s rows false = refl
 
 pub made_keeps : (s : State) (session : ℕ) (change : Change) → LeavesKept s (made s session change)
-unfolding made granted unlocked
+unfolding made granted unlocked confirming
 made_keeps s session Nothing = all_kept s
 made_keeps s session (Candidate rows) = record {
   schema_is = candidate_schema s rows (is_same_rows rows (candidate_in_force s));
@@ -82,6 +83,12 @@ made_keeps s session (Candidate rows) = record {
 made_keeps s session Discard = record { schema_is = refl; base_is = refl; faults_is = refl }
 made_keeps s session (Grant target) = record { schema_is = refl; base_is = refl; faults_is = refl }
 made_keeps s session (Release target) = record { schema_is = refl; base_is = refl; faults_is = refl }
+made_keeps s session (Confirm rows timeout persist) = record {
+  schema_is = refl;
+  base_is = confirming_base s.pending s.running (s.now + milliseconds timeout) persist session;
+  faults_is = refl;
+}
+made_keeps s session Revert = record { schema_is = refl; base_is = refl; faults_is = refl }
 made_keeps s session (Over number) = end_keeps s number
 
 -- ---- sessions

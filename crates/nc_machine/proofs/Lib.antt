@@ -3,6 +3,7 @@ pub mod Checks
 pub mod Unchecked
 pub mod Unlocked
 pub mod Held
+pub mod Confirmed
 pub mod Edits
 pub mod Courses
 pub mod Keeping

@@ -1,5 +1,5 @@
 -- What follows from the definitions of `nc_model` for one event of a machine.
-use Rattle.std.specs.Prelude.{◌≡◌, ◌≢◌, ◌≤◌, ◌<◌, ℕ, true, false, IsTrue, List, [], ◌∷◌, length, Option, Some, None, IfSome, IsSome, IsSomeAnd, Ok}
+use Rattle.std.specs.Prelude.{◌≡◌, ◌≢◌, ◌≤◌, ◌<◌, ℕ, true, IsTrue, List, [], ◌∷◌, length, Option, Some, None, IfSome, IsSome, IsSomeAnd, Ok}
 use Rattle.std.specs.List.{All}
 use Rattle.nc_names.specs.Counts.{Rose}
 use Rattle.nc_names.specs.declared.path.Path.{Path}
@@ -113,7 +113,7 @@ pub record ArePartlyLockable (s : State) (session : ℕ) (nodes : List Path) : T
   pub few : length (locks_of session s.partial) < most_locks
   pub ids : s.last_lock < last_lock_id
 
--- nothing stands against what is asked for (RFC 6241 7 and 8; RFC 5717 2.4). Confirmed commits are not offered yet
+-- nothing stands against what is asked for (RFC 6241 7 and 8; RFC 5717 2.4)
 abbrev pub IsUnopposed : State → ℕ → Asked → Type 0
 IsUnopposed s session (Get filter) = Unit {0}
 IsUnopposed s session (GetConfig source filter) = is_source source ≡ true
@@ -128,8 +128,7 @@ IsUnopposed s session (Lock target) = IsLockable s session target
 IsUnopposed s session (Unlock target) = holder_of s.holders target ≡ Some session
 IsUnopposed s session CloseSession = Unit {0}
 IsUnopposed s session (KillSession number) = (number ≢ session) × (is_live s number ≡ true)
-IsUnopposed s session (Commit confirmed timeout persist persist_id) =
-    (confirmed ≡ false) × IsCommittable s session persist_id
+IsUnopposed s session (Commit confirmed timeout persist persist_id) = IsCommittable s session persist_id
 IsUnopposed s session DiscardChanges = IsFree s session Candidate
 IsUnopposed s session (CancelCommit persist_id) =
     IsSomeAnd s.pending (IsAdmitted session persist_id) × IsFree s session Running

@@ -45,6 +45,12 @@ impl Server {
             Change::Discard => self.discard(),
             Change::Grant { target } => self.grant(session, target),
             Change::Release { target } => self.release(session, target),
+            Change::Confirm {
+                rows,
+                timeout,
+                persist,
+            } => self.confirm(session, rows, timeout, persist),
+            Change::Revert => self.revert(),
             Change::Over { session } => self.end_session(session),
         }
     }

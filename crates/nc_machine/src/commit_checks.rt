@@ -7,38 +7,21 @@ use crate::course::{Course, refused_course};
 use crate::server::Server;
 use nc_model::server_words::record_text;
 use nc_names::{CauseKind, Memory, Text};
-use nc_protocol::request_words::confirmed as confirmed_text;
 use nc_protocol::{Cause, Datastore};
 use nc_validate::violation_in;
-use std::alloc::Global;
 
 /// The most bytes of the record of a configuration.
 const BODY_LIMIT: u64 = 33_554_432;
-
-fn commit_course(alloc: Global, refusal: Option<Cause>) -> Result<Course, Memory>
-    ensures { IfOk result (λ it. it ≡ course.commit_course refusal) }
-{
-    match refusal {
-        Some(cause) => refused_course(alloc, cause),
-        None => Ok(Course::Commit),
-    }
-}
 
 impl Server {
     // Why a session may not commit, whatever the candidate holds.
     fn commit_hindrance(
         &self,
         session: u32,
-        confirmed: bool,
         persist_id: &Option<Text>,
     ) -> Result<Option<Cause>, Memory>
-        ensures { IfOk result (λ it. it ≡
-            course.commit_hindrance self.now session confirmed persist_id.now) }
+        ensures { IfOk result (λ it. it ≡ course.commit_hindrance self.now session persist_id.now) }
     {
-        if confirmed {
-            let cause = Cause::naming(self.alloc(), CauseKind::UnknownParameter, confirmed_text())?;
-            return Ok(Some(cause));
-        }
         if let Some(cause) = self.commit_admission(session, persist_id)? {
             return Ok(Some(cause));
         }
@@ -74,13 +57,11 @@ impl Server {
     fn commit_refusal(
         &self,
         session: u32,
-        confirmed: bool,
         persist_id: &Option<Text>,
     ) -> Result<Option<Cause>, Memory>
-        ensures { IfOk result (λ it. it ≡
-            course.commit_refused self.now session confirmed persist_id.now) }
+        ensures { IfOk result (λ it. it ≡ course.commit_refused self.now session persist_id.now) }
     {
-        if let Some(cause) = self.commit_hindrance(session, confirmed, persist_id)? {
+        if let Some(cause) = self.commit_hindrance(session, persist_id)? {
             return Ok(Some(cause));
         }
         if let Some(cause) = self.changes_refusal(session)? {
@@ -89,17 +70,37 @@ impl Server {
         self.candidate_refusal()
     }
 
+    // What a commit comes to that nothing stands against.
+    fn commit_course(
+        &self,
+        confirmed: bool,
+        timeout: u32,
+        persist: &Option<Text>,
+    ) -> Result<Course, Memory>
+        ensures { IfOk result (λ it. it ≡ course.commit_made self.now confirmed timeout persist.now) }
+    {
+        if confirmed {
+            return self.confirmed_course(timeout, persist);
+        }
+        Ok(Course::Commit)
+    }
+
     /// What commit comes to.
+    #[tactic(auto, unfolding(crate::specs::inner::Courses::commit_asked_course))]
     pub(crate) fn commit_asked_course(
         &self,
         session: u32,
         confirmed: bool,
+        timeout: u32,
+        persist: &Option<Text>,
         persist_id: &Option<Text>,
     ) -> Result<Course, Memory>
         ensures { IfOk result (λ it. it ≡
-            course.commit_asked_course self.now session confirmed persist_id.now) }
+            course.commit_asked_course self.now session confirmed timeout persist.now persist_id.now) }
     {
-        let refusal = self.commit_refusal(session, confirmed, persist_id)?;
-        commit_course(self.alloc(), refusal)
+        match self.commit_refusal(session, persist_id)? {
+            Some(cause) => refused_course(self.alloc(), cause),
+            None => self.commit_course(confirmed, timeout, persist),
+        }
     }
 }

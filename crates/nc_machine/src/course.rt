@@ -6,7 +6,7 @@ ghost use Rattle.nc_machine.specs.declared.course.Course.TheVariants.{Answer};
 ghost use Rattle.nc_machine.specs.inner.Courses as course;
 
 use crate::causes::refused;
-use nc_names::Memory;
+use nc_names::{Memory, Text};
 use nc_protocol::{Cause, Datastore, Verdict};
 use nc_tree::Config;
 use std::alloc::Global;
@@ -16,15 +16,31 @@ use std::alloc::Global;
 pub(crate) enum Change {
     Nothing,
     // The candidate gets rows, unless they are its own.
-    Candidate { rows: Config },
+    Candidate {
+        rows: Config,
+    },
     // The candidate is unmodified.
     Discard,
     // The session that asks gets the lock of a datastore.
-    Grant { target: Datastore },
+    Grant {
+        target: Datastore,
+    },
     // Its lock of a datastore is released.
-    Release { target: Datastore },
+    Release {
+        target: Datastore,
+    },
+    // A configuration is running that waits to be confirmed, for so many seconds, with this `persist` text.
+    Confirm {
+        rows: Config,
+        timeout: u32,
+        persist: Option<Text>,
+    },
+    // The pending commit is reverted.
+    Revert,
     // A session is over: the one that asks, or the one that it kills.
-    Over { session: u32 },
+    Over {
+        session: u32,
+    },
 }
 
 /// What a request comes to.

@@ -24,6 +24,7 @@ fn is_offered(operation: Operation) -> bool
         | Operation::KillSession
         | Operation::Commit
         | Operation::DiscardChanges
+        | Operation::CancelCommit
         | Operation::Validate => true,
         _ => false,
     }
@@ -82,11 +83,12 @@ impl Server {
             Asked::KillSession { session: number } => self.kill_course(session, *number),
             Asked::Commit {
                 confirmed,
-                timeout: _,
-                persist: _,
+                timeout,
+                persist,
                 persist_id,
-            } => self.commit_asked_course(session, *confirmed, persist_id),
+            } => self.commit_asked_course(session, *confirmed, *timeout, persist, persist_id),
             Asked::DiscardChanges => self.discard_course(session),
+            Asked::CancelCommit { persist_id } => self.cancel_course(session, persist_id),
             Asked::Validate { source } => self.validate_course(source),
             _ => self.unknown_course(),
         }

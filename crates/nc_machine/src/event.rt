@@ -1,10 +1,11 @@
 //! Events, and the entries that they become (RFC 6241 4, 8.1).
-ghost use Rattle.std.specs.Prelude.{◌≡◌, false, true, IfOk, OnErr};
+ghost use Rattle.std.specs.Prelude.{◌≡◌, ◌≤◌, false, true, IfOk, OnErr};
 ghost use Rattle.nc_model.specs.declared.event.Event.TheVariants.{Start, Request as Requested, End, Reading};
 ghost use Rattle.nc_protocol.specs.Proper.{IsProper};
 ghost use Rattle.nc_model.specs.ProperEvents.{IsProperEvent};
 ghost use Rattle.nc_model.specs.State.{IsGood, expired, is_live};
 ghost use Rattle.nc_model.specs.Step.{reaches_disk};
+ghost use Rattle.nc_outside.specs.Clocks.{last_reading};
 ghost use Rattle.nc_machine.specs.inner.Turns.{Answers, Enters, IsKeeping, LeavesKept};
 
 use crate::commit::commit;
@@ -75,6 +76,7 @@ pub(crate) fn requested<K: Keeper>(
     requires proper { IsProper request }
     requires good { IsGood server.old }
     requires keeping { IsKeeping K.schema K.base K.failures server.old keeper.old }
+    requires at { at ≤ last_reading }
     ensures entered { IfOk result (λ e.
         Enters server.old server.new number (Requested session request) at e) }
     ensures memory { OnErr result ((server.new ≡ expired server.old at) × (keeper.new ≡ keeper.old)) }
@@ -103,6 +105,7 @@ pub(crate) fn started(
     peer: Peer,
     at: u64,
 ) -> Result<Entry, Memory>
+    requires { at ≤ last_reading }
     ensures entered { IfOk result (λ e. Enters server.old server.new number (Start peer) at e) }
     ensures memory { OnErr result (server.new ≡ expired server.old at) }
     ensures kept { LeavesKept server.old server.new }
@@ -122,6 +125,7 @@ pub(crate) fn started(
 
 /// The end of a session.
 pub(crate) fn ended(server: &mut Server, number: u64, session: u32, at: u64) -> Entry
+    requires { at ≤ last_reading }
     ensures entered { Enters server.old server.new number (End session) at result }
     ensures kept { LeavesKept server.old server.new }
 {
@@ -140,6 +144,7 @@ pub(crate) fn ended(server: &mut Server, number: u64, session: u32, at: u64) -> 
 
 /// A reading of the clock.
 pub(crate) fn noted(server: &mut Server, number: u64, at: u64) -> Entry
+    requires { at ≤ last_reading }
     ensures entered { Enters server.old server.new number Reading at result }
     ensures state { server.new ≡ expired server.old at }
 {
@@ -167,6 +172,7 @@ pub(crate) fn entered<K: Keeper>(
     requires proper { IsProperEvent event }
     requires good { IsGood server.old }
     requires keeping { IsKeeping K.schema K.base K.failures server.old keeper.old }
+    requires at { at ≤ last_reading }
     ensures entered { IfOk result (λ e. Enters server.old server.new number event at e) }
     ensures memory { OnErr result ((server.new ≡ expired server.old at) × (keeper.new ≡ keeper.old)) }
     ensures keeping { IsKeeping K.schema K.base K.failures server.new keeper.new }

@@ -15,6 +15,7 @@ mod answer;
 mod causes;
 mod commit;
 mod commit_checks;
+mod confirm;
 mod copy;
 mod course;
 mod datastores;

@@ -1,5 +1,5 @@
 //! The locks of datastores, and what may stand in the way of a change (RFC 6241 7.5, 7.6, 8.4.1; RFC 5717 2.5).
-//! No session can ask for a partial lock or a confirmed commit yet, so that none is held and none is pending.
+//! No session can ask for a partial lock yet, so that none is held.
 ghost use Rattle.std.specs.Prelude.{◌≡◌, IfOk};
 ghost use Rattle.nc_model.specs.State.{is_held_by};
 ghost use Rattle.nc_model.specs.Verdict as meant;
@@ -88,13 +88,16 @@ impl Server {
     }
 
     // Why running's is not granted: another session's commit is pending, or another session has a partial lock.
-    // None is.
-    #[tactic(auto, using(crate::proofs::Unlocked::running_is_free))]
+    // None has.
+    #[tactic(auto, using(crate::proofs::Unlocked::running_by, crate::proofs::Unlocked::other_by))]
     fn running_refusal(&self, session: u32, target: Datastore) -> Result<Option<Cause>, Memory>
         ensures { IfOk result (λ it. it ≡ course.running_refusal self.now session target) }
     {
-        self.none_pends();
-        Ok(None)
+        self.none_covers();
+        match target {
+            Datastore::Running => self.pending_of_other(session),
+            _ => Ok(None),
+        }
     }
 
     // Why a session gets no lock of a datastore.
@@ -152,23 +155,7 @@ impl Server {
         done_unless(self.alloc(), refusal, Change::Release { target })
     }
 
-    // ---- commit
-
-    /// Why a commit may not be made now. None is pending, so no `persist-id` is right.
-    #[tactic(auto, using(crate::proofs::Unlocked::none_given, crate::proofs::Unlocked::some_given))]
-    pub(crate) fn commit_admission(
-        &self,
-        session: u32,
-        given: &Option<Text>,
-    ) -> Result<Option<Cause>, Memory>
-        ensures { IfOk result (λ it. it ≡ meant.commit_admission self.now session given.now) }
-    {
-        self.none_pends();
-        match given {
-            Some(_) => Ok(Some(Cause::plain(self.alloc(), CauseKind::BadToken))),
-            None => Ok(None),
-        }
-    }
+    // ---- partial locks in the way
 
     /// Why a commit may not change what it changes: another session's partial lock has a node of it, or the
     /// session has no right to it. No session has a partial lock, and no change is denied.
@@ -176,7 +163,16 @@ impl Server {
     pub(crate) fn changes_refusal(&self, session: u32) -> Result<Option<Cause>, Memory>
         ensures { IfOk result (λ it. it ≡ course.changes_refusal self.now session) }
     {
-        self.none_pends();
+        self.none_covers();
+        Ok(None)
+    }
+
+    /// Why a cancel-commit may not change what it changes: another session's partial lock has a node of it. No
+    /// session has one.
+    pub(crate) fn reversion_refusal(&self, session: u32) -> Result<Option<Cause>, Memory>
+        ensures { IfOk result (λ it. it ≡ course.reversion_refusal self.now session) }
+    {
+        self.none_covers();
         Ok(None)
     }
 }

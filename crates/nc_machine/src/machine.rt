@@ -1,5 +1,5 @@
 //! The machine: one event, one entry of the history.
-ghost use Rattle.std.specs.Prelude.{◌≡◌, ◌<◌, false, length, IfErr, IfOk, IfSome, OnErr};
+ghost use Rattle.std.specs.Prelude.{◌≡◌, ◌≤◌, ◌<◌, false, length, IfErr, IfOk, IfSome, OnErr};
 ghost use Rattle.nc_names.specs.Limits.{most_requests};
 ghost use Rattle.nc_schema.specs.Configuration.{IsConfiguration};
 ghost use Rattle.nc_schema.specs.Proper.{IsProperSchema};
@@ -8,6 +8,7 @@ ghost use Rattle.nc_model.specs.declared.event.Event.TheVariants.{End, Reading};
 ghost use Rattle.nc_model.specs.ProperEvents.{IsProperEvent};
 ghost use Rattle.nc_model.specs.State.{IsGood, base_of, expired, opening};
 ghost use Rattle.nc_model.specs.Step.{reaches_disk};
+ghost use Rattle.nc_outside.specs.Clocks.{last_reading};
 ghost use Rattle.nc_machine.specs.Serving.{IsRead, IsSound, Makes};
 
 use crate::event::{ended, entered, noted};
@@ -82,7 +83,7 @@ impl<K: Keeper> Machine<K> {
     }
 
     /// One event, a request only as reading a message gives it: it becomes an entry with that reading of
-    /// the clock, in milliseconds. The keeper is asked only where a commit reaches the disk.
+    /// the clock, in milliseconds, at most 2^62. The keeper is asked only where a commit reaches the disk.
     ///
     /// # Errors
     ///
@@ -91,6 +92,7 @@ impl<K: Keeper> Machine<K> {
     pub fn handle(&mut self, event: Event, at: u64) -> Result<Entry, Memory>
         requires proper { IsProperEvent event }
         requires count { self.old.count < most_requests }
+        requires at { at ≤ last_reading }
         ensures entered { IfOk result (λ e. Makes self.old self.new event at e) }
         ensures memory { OnErr result (IsRead self.old self.new at) }
         ensures sound { IsSound K.schema K.base K.failures self.new }
@@ -106,7 +108,8 @@ impl<K: Keeper> Machine<K> {
     /// Ends a session: the entry is `NotLive` where it is not live. It takes no memory.
     #[tactic(auto, using(crate::proofs::Sound::good_entered))]
     pub fn end(&mut self, session: u32, at: u64) -> Entry
-        requires { self.old.count < most_requests }
+        requires count { self.old.count < most_requests }
+        requires at { at ≤ last_reading }
         ensures entered { Makes self.old self.new (End session) at result }
         ensures sound { IsSound K.schema K.base K.failures self.new }
         ensures untouched { self.new.keeper ≡ self.old.keeper }
@@ -120,7 +123,8 @@ impl<K: Keeper> Machine<K> {
     /// Enters a reading of the clock. It takes no memory.
     #[tactic(auto, using(crate::proofs::Sound::good_entered))]
     pub fn tick(&mut self, at: u64) -> Entry
-        requires { self.old.count < most_requests }
+        requires count { self.old.count < most_requests }
+        requires at { at ≤ last_reading }
         ensures entered { Makes self.old self.new Reading at result }
         ensures read { IsRead self.old self.new at }
         ensures sound { IsSound K.schema K.base K.failures self.new }

@@ -1,16 +1,17 @@
 //! The datastores, locks and sessions of the server, seen as the state of the definitions (RFC 6241 5.1,
-//! 7.5, 8.1 and 8.3). Partial locks and confirmed commits are not offered yet: in what is seen no session
-//! has a partial lock, and no commit is pending.
-ghost use Rattle.std.specs.Prelude.{◌≡◌, None, Some, IfOk, is_some, if◌then◌else◌};
+//! 7.5, 8.1, 8.3 and 8.4). Partial locks are not offered yet: in what is seen no session has one.
+ghost use Rattle.std.specs.Prelude.{◌≡◌, ◌≤◌, None, Some, IfOk, is_some, if◌then◌else◌};
 ghost use Rattle.nc_model.specs.State as state;
 ghost use Rattle.nc_model.specs.Step.{committed, with_candidate};
 ghost use Rattle.nc_model.specs.Verdict.{holder_of, is_candidate, stored};
+ghost use Rattle.nc_outside.specs.Clocks.{last_reading};
 ghost use Rattle.nc_machine.specs.inner.Courses as course;
-ghost use Rattle.nc_machine.specs.inner.Turns.{NonePends};
+ghost use Rattle.nc_machine.specs.inner.Turns.{NoneCovers};
 
 use nc_locks::Locks;
 use nc_model::Session;
-use nc_names::{Many, Memory};
+use nc_names::{Many, Memory, Text};
+use nc_pending::{Pending, deadline_after};
 use nc_protocol::Datastore;
 use nc_schema::Schema;
 use nc_tree::Config;
@@ -33,11 +34,13 @@ pub(crate) struct Server {
     pub(crate) last: u32,
     faults: u64,
     locks: Locks,
+    pending: Option<Pending>,
 }
 
 impl Model for Server {
-    ghost use Rattle.std.specs.Prelude.{◌≤◌, [], None, length};
+    ghost use Rattle.std.specs.Prelude.{◌≤◌, [], length};
     ghost use Rattle.nc_model.specs.State.{State, most_sessions};
+    ghost use Rattle.nc_outside.specs.Clocks.{last_reading};
 
     ghost Value = { State };
 
@@ -51,11 +54,11 @@ impl Model for Server {
       faults = s.faults;
       holders = s.locks;
       partial = [];
-      pending = None;
+      pending = s.pending;
       last_lock = 0;
     } };
 
-    ghost invariant = { λ s. length s.sessions ≤ most_sessions };
+    ghost invariant = { λ s. (length s.sessions ≤ most_sessions) × (s.latest ≤ last_reading) };
 }
 
 impl Server {
@@ -79,6 +82,7 @@ impl Server {
             last: 0,
             faults,
             locks: Locks::new(),
+            pending: None,
         })
     }
 
@@ -94,9 +98,9 @@ impl Server {
         &self.schema
     }
 
-    /// Neither partial locks nor confirmed commits are offered yet, so that none stands in the way.
-    pub(crate) fn none_pends(&self)
-        ensures { NonePends self.now }
+    /// Partial locks are not offered yet, so that none stands in the way.
+    pub(crate) fn none_covers(&self)
+        ensures { NoneCovers self.now }
     {
         let _ = &self.alloc;
     }
@@ -112,7 +116,17 @@ impl Server {
     pub(crate) fn base(&self) -> &Config
         ensures { result.now ≡ state.base_of self.now }
     {
-        &self.running
+        match &self.pending {
+            Some(pending) => pending.base(),
+            None => &self.running,
+        }
+    }
+
+    /// The pending commit.
+    pub(crate) fn pending(&self) -> &Option<Pending>
+        ensures { result.now ≡ self.now.pending }
+    {
+        &self.pending
     }
 
     /// The candidate, which is running's where it is unmodified.
@@ -156,11 +170,41 @@ impl Server {
         self.faults
     }
 
-    /// The clock is read. It does not go back.
+    // The time of the pending commit is over.
+    fn is_due(&self) -> bool
+        ensures { result ≡ state.is_due self.now }
+    {
+        match &self.pending {
+            Some(pending) => pending.expired(self.latest),
+            None => false,
+        }
+    }
+
+    /// The pending commit is reverted: its base is moved back, so that it takes no memory.
+    pub(crate) fn revert(&mut self)
+        ensures { self.new ≡ state.reverted self.old }
+    {
+        if let Some(pending) = self.pending.take() {
+            self.running = pending.into_base();
+        }
+    }
+
+    // A pending commit whose time is over is reverted.
+    fn expire(&mut self)
+        ensures { self.new ≡ (if state.is_due self.old then state.reverted self.old else self.old) }
+    {
+        if self.is_due() {
+            self.revert();
+        }
+    }
+
+    /// The clock is read. It does not go back, and a pending commit whose time is over is reverted.
     pub(crate) fn read_clock(&mut self, at: u64)
+        requires { at ≤ last_reading }
         ensures { self.new ≡ state.expired self.old at }
     {
         self.latest = self.latest.max(at);
+        self.expire();
     }
 
     /// The candidate gets rows, unless they are its own.
@@ -230,10 +274,68 @@ impl Server {
         self.locks.end(number);
     }
 
+    // The pending commit, with the session that is over.
+    fn pending_left(&mut self, number: u32) -> bool
+        ensures told { result ≡ course.is_reverted_by self.old.pending number }
+        ensures left { self.new ≡ record self.old { pending = course.left_of self.old.pending number } }
+    {
+        match &mut self.pending {
+            Some(pending) => pending.ended_by(number),
+            None => false,
+        }
+    }
+
+    /// What the end of a session does to the pending commit: it is reverted, or left without a session where it
+    /// persists, if it is that session's. It takes no memory.
+    #[tactic(auto, using(crate::proofs::Confirmed::left_reverted, crate::proofs::Confirmed::left_stays))]
+    pub(crate) fn leave_pending(&mut self, number: u32)
+        ensures { self.new ≡ state.left_by_end self.old number self.old.pending }
+    {
+        if self.pending_left(number) {
+            self.revert();
+        }
+    }
+
+    // A commit is pending: a first one, or a follow-up of the one that is.
+    fn pend(&mut self, before: Config, deadline: u64, token: Option<Text>, session: u32)
+        ensures { self.new ≡ record self.old {
+          pending =
+              Some (course.pending_from self.old.pending before deadline token session);
+        } }
+    {
+        match self.pending.take() {
+            Some(earlier) => {
+                let mut pending = earlier;
+                pending.follow(deadline, token, session);
+                self.pending = Some(pending);
+            }
+            None => self.pending = Some(Pending::begin(before, deadline, token, session)),
+        }
+    }
+
+    /// A configuration is running and waits to be confirmed; the candidate is unmodified. Running before it is
+    /// moved, and takes no memory.
+    #[tactic(auto, unfolding(crate::specs::inner::Courses::confirming))]
+    pub(crate) fn confirm(
+        &mut self,
+        session: u32,
+        rows: Config,
+        timeout: u32,
+        persist: Option<Text>,
+    )
+        ensures { self.new ≡ course.confirming self.old session rows timeout persist }
+    {
+        let deadline = deadline_after(self.latest, timeout);
+        let before = std::mem::replace(&mut self.running, rows);
+        self.candidate = None;
+        self.pend(before, deadline, persist, session);
+    }
+
     /// The candidate is running, and is unmodified. No commit is pending.
     pub(crate) fn run_candidate(&mut self)
         ensures { self.new ≡ committed self.old None }
     {
+        self.pending = None;
         if let Some(rows) = self.candidate.take() {
             self.running = rows;
         }

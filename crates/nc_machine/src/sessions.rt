@@ -57,13 +57,13 @@ impl Server {
 
     /// The session is over: by its End, its close-session or a kill-session. What it held is released here alone, and
     /// that takes no memory.
-    #[tactic(auto, using(crate::proofs::Unlocked::ended_is))]
+    #[tactic(auto, using(crate::proofs::Confirmed::ended_is))]
     pub(crate) fn end_session(&mut self, number: u32)
         ensures { self.new ≡ state.session_ended self.old number }
     {
-        self.none_pends();
         self.drop_session(number);
         self.release_all(number);
+        self.leave_pending(number);
     }
 
     /// Ends a session, if it is live.

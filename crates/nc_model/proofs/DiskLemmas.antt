@@ -121,7 +121,7 @@ module _ (s : State) (n : ℕ) where
   invalid_is : (rows : List Row) → All (λ violation. IsNoFault (violation_cause violation)) (violations s.schema rows)
   invalid_is rows = violation_kinds (λ kind. is_of_disk kind ≡ false) refl refl refl refl refl refl refl s.schema rows
 
-  commit_none : (confirmed : Bool) (persist_id : Option (List ℕ)) → IfSome (commit_refusal s n confirmed persist_id) IsNoFault
+  commit_none : (persist_id : Option (List ℕ)) → IfSome (commit_refusal s n persist_id) IsNoFault
   commit_none = commit_is IsNoFault s n payload_is inline_is edits_are invalid_is (λ path right. refl) no_server (λ operation. refl)
 
   refused_none : (operation : Option Operation) → IfSome (operation_refused s n operation) IsNoFault
@@ -135,10 +135,10 @@ module _ (s : State) (n : ℕ) where
 abbrev WouldBeDone : Bool → Verdict → Type 0
 WouldBeDone confirmed decided = (confirmed ≡ false) × (is_done decided ≡ true)
 
-commit_fails : (s : State) (n : ℕ) (confirmed : Bool) (persist_id : Option (List ℕ)) (found : Option Cause) → commit_refusal s n confirmed persist_id ≡ found →
+commit_fails : (s : State) (n : ℕ) (confirmed : Bool) (persist_id : Option (List ℕ)) (found : Option Cause) → commit_refusal s n persist_id ≡ found →
     has_disk_fault (checked found (kept_unless (not confirmed && true))) ≡ true → WouldBeDone confirmed (checked found (kept_unless (not confirmed && false)))
 commit_fails s n confirmed persist_id (Some cause) is failed =
-    let none = subst (λ found. IfSome found IsNoFault) is (commit_none s n confirmed persist_id) in
+    let none = subst (λ found. IfSome found IsNoFault) is (commit_none s n persist_id) in
     absurd (apart (sym (ap (λ b. b || false) none) ∙ failed))
   where
     apart : false ≡ true → ⊥
@@ -161,7 +161,7 @@ both_are false b e f = cc
 
 fault_of : (s : State) (n : ℕ) (asked : Asked) → FaultIsOfCommit s n asked
 fault_of s n (Commit confirmed timeout persist persist_id) failed =
-    let done = commit_fails s n confirmed persist_id (commit_refusal s n confirmed persist_id) refl failed in
+    let done = commit_fails s n confirmed persist_id (commit_refusal s n persist_id) refl failed in
     both_are (not confirmed) (is_done (asked_verdict s n (Commit confirmed timeout persist persist_id) false)) (ap not done.0) done.1
 fault_of s n (Get filter) failed = not_both (has_disk_fault (asked_verdict s n (Get filter) false)) (asked_none s n (Get filter)) failed
 fault_of s n (GetConfig source filter) failed = not_both (has_disk_fault (asked_verdict s n (GetConfig source filter) false)) (asked_none s n (GetConfig source filter)) failed

@@ -343,14 +343,14 @@ checked_locked None decided lock nodes e = (refl, e)
 checked_locked (Some cause) decided lock nodes e = cc
 
 -- a commit that is done makes a valid configuration running
-pub commit_is_valid : (s : State) (n : ℕ) (confirmed : Bool) (persist_id : Option (List ℕ)) → commit_refusal s n confirmed persist_id ≡ None → IsValid s.schema (candidate_in_force s)
-commit_is_valid s n confirmed persist_id none =
-    no_violation s.schema (candidate_in_force s) (all_none (commit_checks s n confirmed persist_id) none).1.1.1.1.1.1.0
+pub commit_is_valid : (s : State) (n : ℕ) (persist_id : Option (List ℕ)) → commit_refusal s n persist_id ≡ None → IsValid s.schema (candidate_in_force s)
+commit_is_valid s n persist_id none =
+    no_violation s.schema (candidate_in_force s) (all_none (commit_checks s n persist_id) none).1.1.1.1.1.0
 
 -- one whose record is within the limit
-pub commit_is_small : (s : State) (n : ℕ) (confirmed : Bool) (persist_id : Option (List ℕ)) → commit_refusal s n confirmed persist_id ≡ None → record_size (candidate_in_force s) ≤ body_limit
-commit_is_small s n confirmed persist_id none =
-    let refusal : record_refusal s ≡ None = (all_none (commit_checks s n confirmed persist_id) none).1.1.1.1.1.1.1.0 in
+pub commit_is_small : (s : State) (n : ℕ) (persist_id : Option (List ℕ)) → commit_refusal s n persist_id ≡ None → record_size (candidate_in_force s) ≤ body_limit
+commit_is_small s n persist_id none =
+    let refusal : record_refusal s ≡ None = (all_none (commit_checks s n persist_id) none).1.1.1.1.1.1.0 in
     ltb-false body_limit (record_size (candidate_in_force s))
     (where_none (is_too_large (candidate_in_force s)) (plain_cause Limit (record_word ∷ [])) refusal)
 
@@ -554,10 +554,10 @@ module _ (s : State) (good : IsGood s) where
 good_commit : (s : State) (n : ℕ) (confirmed : Bool) (timeout : ℕ) (persist persist_id : Option (List ℕ)) (failed : Bool) → IsGood s → is_live s n ≡ true →
     asked_verdict s n (Commit confirmed timeout persist persist_id) failed ≡ Done → IsGood (changed_by s n (Commit confirmed timeout persist persist_id) Done)
 good_commit s n true timeout persist persist_id failed good live done =
-    good_committed s (Some (pending_by s n timeout persist)) good (commit_is_valid s n true persist_id (checked_done (commit_refusal s n true persist_id) (kept_unless false) done).0)
+    good_committed s (Some (pending_by s n timeout persist)) good (commit_is_valid s n persist_id (checked_done (commit_refusal s n persist_id) (kept_unless false) done).0)
     (base_awaiting s n timeout persist good live)
 good_commit s n false timeout persist persist_id failed good live done =
-    good_committed s None good (commit_is_valid s n false persist_id (checked_done (commit_refusal s n false persist_id) (kept_unless failed) done).0) tt
+    good_committed s None good (commit_is_valid s n persist_id (checked_done (commit_refusal s n persist_id) (kept_unless failed) done).0) tt
 
 -- whatever is asked for, a verdict that does no more than the one that is due leaves a good state
 abbrev Agrees : State → ℕ → Asked → Verdict → Bool → Type 0

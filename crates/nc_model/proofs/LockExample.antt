@@ -109,7 +109,7 @@ unlock_discards = refl
 discard_in_use : asked_verdict candidate_held 1 DiscardChanges false ≡ Refused (plain_cause InUseGlobal (candidate_word ∷ decimal 2 ∷ []) ∷ [])
 discard_in_use = refl
 
-commit_in_use : commit_refusal candidate_held 1 false None ≡ Some (plain_cause InUseGlobal (candidate_word ∷ decimal 2 ∷ []))
+commit_in_use : commit_refusal candidate_held 1 None ≡ Some (plain_cause InUseGlobal (candidate_word ∷ decimal 2 ∷ []))
 commit_in_use = refl
 
 -- ---- the end of a session
@@ -132,15 +132,15 @@ kill_ends = refl
 
 -- ---- a partial lock in the way of a commit
 -- port b is new: a lock of the container above it is in the way, one of port a is not
-commit_is_locked : commit_refusal (partly (top ∷ [])) 1 false None ≡ Some (plain_cause InUsePartial (decimal 3 ∷ decimal 2 ∷ []))
+commit_is_locked : commit_refusal (partly (top ∷ [])) 1 None ≡ Some (plain_cause InUsePartial (decimal 3 ∷ decimal 2 ∷ []))
 unfolding node tables port name rows_of_port
 commit_is_locked = refl
 
-commit_beside_lock : commit_refusal (partly (port (codes "a") ∷ [])) 1 false None ≡ None
+commit_beside_lock : commit_refusal (partly (port (codes "a") ∷ [])) 1 None ≡ None
 unfolding node tables port name rows_of_port
 commit_beside_lock = refl
 
-own_lock_is_no_hindrance : commit_refusal (partly (top ∷ [])) 2 false None ≡ None
+own_lock_is_no_hindrance : commit_refusal (partly (top ∷ [])) 2 None ≡ None
 unfolding node tables port name rows_of_port
 own_lock_is_no_hindrance = refl
 
@@ -221,10 +221,10 @@ partial_unlock_is_done = refl
 -- ---- the order of checks
 
 -- another session's pending commit comes before locks, and running's lock before the candidate's
-commit_while_pending : commit_refusal (record outstanding { holders = record no_holders { running = Some 2 } }) 1 false None ≡ Some (plain_cause InUsePending (decimal 2 ∷ []))
+commit_while_pending : commit_refusal (record outstanding { holders = record no_holders { running = Some 2 } }) 1 None ≡ Some (plain_cause InUsePending (decimal 2 ∷ []))
 commit_while_pending = refl
 
-both_are_locked : commit_refusal (record both { holders = record { running = Some 2; candidate = Some 2 } }) 1 false None ≡ Some (plain_cause InUseGlobal (running_word ∷ decimal 2 ∷ []))
+both_are_locked : commit_refusal (record both { holders = record { running = Some 2; candidate = Some 2 } }) 1 None ≡ Some (plain_cause InUseGlobal (running_word ∷ decimal 2 ∷ []))
 both_are_locked = refl
 
 -- a copy: its target, its source, the two alike, and then the lock
@@ -252,7 +252,7 @@ exchanged = record both {
 lowest_is_named : lock_refusal exchanged 1 Running ≡ Some (plain_cause LockPartial (decimal 3 ∷ decimal 2 ∷ []))
 lowest_is_named = refl
 
-deleted_goes_first : commit_refusal exchanged 1 false None ≡ Some (plain_cause InUsePartial (decimal 4 ∷ decimal 2 ∷ []))
+deleted_goes_first : commit_refusal exchanged 1 None ≡ Some (plain_cause InUsePartial (decimal 4 ∷ decimal 2 ∷ []))
 unfolding node tables port name rows_of_port
 deleted_goes_first = refl
 

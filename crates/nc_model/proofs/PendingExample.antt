@@ -2,10 +2,10 @@
 use Rattle.std.proofs.Common.{◌≡◌, ℕ, List, [], ◌∷◌, refl}
 use Rattle.std.specs.Fmt.{decimal}
 use Rattle.std.specs.Prelude.{codes, Some, None, Ok, false, true}
-use Rattle.nc_names.specs.declared.cause.CauseKind.TheVariants.{InUseGlobal, InUsePartial, InUsePending, NoPending, BadToken, UnknownParameter}
+use Rattle.nc_names.specs.declared.cause.CauseKind.TheVariants.{InUseGlobal, InUsePartial, InUsePending, NoPending, BadToken}
 use Rattle.nc_names.specs.declared.path.Row.{Row}
 use Rattle.nc_protocol.specs.Asking.{plain_cause}
-use Rattle.nc_protocol.specs.Words.{confirmed_word, running_word}
+use Rattle.nc_protocol.specs.Words.{running_word}
 use Rattle.nc_protocol.specs.declared.asked.Asked.TheVariants.{CloseSession, Commit, CancelCommit, KillSession}
 use Rattle.nc_protocol.specs.declared.verdict.Verdict.TheVariants.{Done}
 use Rattle.nc_model.specs.History.{returning}
@@ -99,15 +99,11 @@ ended_session : commit_admission (session_ended persisting 1) 2 None ≡ Some (p
 ended_session = refl
 
 -- where none is pending
-nothing_to_confirm : commit_refusal both 1 false (Some token) ≡ Some (plain_cause BadToken [])
+nothing_to_confirm : commit_refusal both 1 (Some token) ≡ Some (plain_cause BadToken [])
 nothing_to_confirm = refl
 
 nothing_to_cancel : cancel_refusal both 1 None ≡ Some (plain_cause NoPending [])
 nothing_to_cancel = refl
-
--- while confirmed commits are not offered, `confirmed` is no parameter
-not_offered : commit_refusal modified 1 true None ≡ Some (plain_cause UnknownParameter (confirmed_word ∷ []))
-not_offered = refl
 
 -- ---- what is written, and what comes back
 -- a confirmed commit is not written, and after a stop its base comes back

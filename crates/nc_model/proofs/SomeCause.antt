@@ -53,7 +53,7 @@ asked_has s n (Unlock target) failed e = checked_has (unlock_refusal s n target)
 asked_has s n CloseSession failed e = cc
 asked_has s n (KillSession number) failed e = checked_has (kill_refusal s n number) Done (λ x. cc) e
 asked_has s n (Commit confirmed timeout persist persist_id) failed e =
-    checked_has (commit_refusal s n confirmed persist_id) (kept_unless (not confirmed && failed)) (kept_has (not confirmed && failed)) e
+    checked_has (commit_refusal s n persist_id) (kept_unless (not confirmed && failed)) (kept_has (not confirmed && failed)) e
 asked_has s n DiscardChanges failed e = checked_has (in_use s n Candidate) Done (λ x. cc) e
 asked_has s n (CancelCommit persist_id) failed e = checked_has (cancel_refusal s n persist_id) Done (λ x. cc) e
 asked_has s n (Validate source) failed e = validated_has s.schema (rows_to_validate s source) e

@@ -36,10 +36,10 @@ use Rattle.nc_protocol.specs.Edited.{cause_at, cause_where, decision_names, firs
 use Rattle.nc_protocol.specs.Payload.{edits_of, rows_of}
 use Rattle.nc_protocol.specs.Refusals.{checked, violation_in, violation_cause, done_unless, result_unless, datastore_name}
 use Rattle.nc_protocol.specs.RequestLaws.{CausesAre}
-use Rattle.nc_protocol.specs.Words.{source_word, confirmed_word, lock_id_word}
+use Rattle.nc_protocol.specs.Words.{source_word, lock_id_word}
 use Rattle.nc_model.specs.Access.{exec_of, rights_of}
 use Rattle.nc_model.specs.State.{State, Pending, NodeLock, candidate_in_force, is_held_by, last_lock_id, locks_of, locks_some, most_locks}
-use Rattle.nc_model.specs.Verdict.{operation_refused, is_offered, confirms, exec_denied, asked_verdict, unsupported, unsupported_origin, is_source, is_target, is_same_store, is_too_large, stored, shown, edit_verdict, edits_made, edit_checks, made_by, causes_of_test, done_where, copied, copy_checks, unless_denied, rows_copied, changes_denied, denied_among, validated, rows_to_validate, kept_unless, holder_of, global_lock_cause, partial_lock_cause, pending_cause, in_use, in_use_at, in_use_partial, lock_of_other, covers_path, is_candidate, is_running, pending_of_other, partly_locked, lock_checks, lock_refusal, unlock_checks, unlock_refusal, kill_refusal, refused_by, admission, commit_changes, commit_checks, commit_refusal, cancel_changes, cancel_checks, cancel_refusal, are_selects, is_none_of, nodes_selected, partial_lock_checks, partial_lock_refusal, has_lock, partial_unlock_refusal}
+use Rattle.nc_model.specs.Verdict.{operation_refused, is_offered, exec_denied, asked_verdict, unsupported, unsupported_origin, is_source, is_target, is_same_store, is_too_large, stored, shown, edit_verdict, edits_made, edit_checks, made_by, causes_of_test, done_where, copied, copy_checks, unless_denied, rows_copied, changes_denied, denied_among, validated, rows_to_validate, kept_unless, holder_of, global_lock_cause, partial_lock_cause, pending_cause, in_use, in_use_at, in_use_partial, lock_of_other, covers_path, is_candidate, is_running, pending_of_other, partly_locked, lock_checks, lock_refusal, unlock_checks, unlock_refusal, kill_refusal, refused_by, admission, commit_changes, commit_checks, commit_refusal, cancel_changes, cancel_checks, cancel_refusal, are_selects, is_none_of, nodes_selected, partial_lock_checks, partial_lock_refusal, has_lock, partial_unlock_refusal}
 use Rattle.nc_model.specs.Words.{partial_locks_word, lock_ids_word, record_word}
 use Rattle.nc_model.proofs.KindLemmas.{ErrIs}
 use Rattle.nc_protocol.proofs.ListLemmas.{all_one, all_append}
@@ -276,23 +276,20 @@ module _ (P : Cause → Type 0) (s : State) (n : ℕ)
   cancel_admitted given None = plain NoPending [] refl
   cancel_admitted given (Some pending) = refused_by_is pending pending.token given
 
-  pub commit_is : (confirmed : Bool) (persist_id : Option (List ℕ)) → IfSome (commit_refusal s n confirmed persist_id) P
-  commit_is confirmed persist_id = first_is P (commit_checks s n confirmed persist_id) (
-    where_plain (not confirms && confirmed) UnknownParameter (confirmed_word ∷ []) refl,
+  pub commit_is : (persist_id : Option (List ℕ)) → IfSome (commit_refusal s n persist_id) P
+  commit_is persist_id = first_is P (commit_checks s n persist_id) (
+    commit_admitted persist_id s.pending,
     (
-      commit_admitted persist_id s.pending,
+      in_use_is Running,
       (
-        in_use_is Running,
+        in_use_is Candidate,
         (
-          in_use_is Candidate,
+          in_use_partial_is (commit_changes s),
           (
-            in_use_partial_is (commit_changes s),
+            changes_are (commit_changes s),
             (
-              changes_are (commit_changes s),
-              (
-                violation_is (candidate_in_force s),
-                (where_plain (is_too_large (candidate_in_force s)) Limit (record_word ∷ []) refl, tt),
-              ),
+              violation_is (candidate_in_force s),
+              (where_plain (is_too_large (candidate_in_force s)) Limit (record_word ∷ []) refl, tt),
             ),
           ),
         ),
@@ -353,7 +350,7 @@ module _ (P : Cause → Type 0) (s : State) (n : ℕ)
   asked_is CloseSession failed disk = tt
   asked_is (KillSession number) failed disk = checked_is (kill_refusal s n number) Done (where_plain _ NotLiveTarget [] refl) tt
   asked_is (Commit confirmed timeout persist persist_id) failed disk =
-      checked_is (commit_refusal s n confirmed persist_id) (kept_unless (not confirmed && failed)) (commit_is confirmed persist_id) (kept_alone confirmed failed disk)
+      checked_is (commit_refusal s n persist_id) (kept_unless (not confirmed && failed)) (commit_is persist_id) (kept_alone confirmed failed disk)
   asked_is DiscardChanges failed disk = checked_is (in_use s n Candidate) Done (in_use_is Candidate) tt
   asked_is (CancelCommit persist_id) failed disk = checked_is (cancel_refusal s n persist_id) Done (cancel_is persist_id) tt
   asked_is (Validate source) failed disk = validated_is (rows_to_validate s source) (to_validate_is source)

@@ -5,7 +5,7 @@ use Rattle.std.specs.List.{filter, filter_map, find, list_all, list_any}
 use Rattle.std.specs.Option.{option_map_or, option_or, option_to_list}
 use Rattle.nc_names.specs.Same.{is_at_or_below, is_same_path, is_same_text}
 use Rattle.nc_names.specs.declared.cause.CauseKind.{CauseKind}
-use Rattle.nc_names.specs.declared.cause.CauseKind.TheVariants.{UnknownOperation, ExecDenied, UnknownParameter, BadParameter, UnsupportedTarget, LockHeld, LockModified, LockPending, LockPartial, NotHeld, InUseGlobal, InUsePartial, InUsePending, NoPending, BadToken, NotLiveTarget, BadSelect, NoMatch, Limit, DataDenied, DiskFault}
+use Rattle.nc_names.specs.declared.cause.CauseKind.TheVariants.{UnknownOperation, ExecDenied, BadParameter, UnsupportedTarget, LockHeld, LockModified, LockPending, LockPartial, NotHeld, InUseGlobal, InUsePartial, InUsePending, NoPending, BadToken, NotLiveTarget, BadSelect, NoMatch, Limit, DataDenied, DiskFault}
 use Rattle.nc_names.specs.declared.name.Bound.{Bound}
 use Rattle.nc_names.specs.declared.path.Path.{Path}
 use Rattle.nc_names.specs.declared.path.Right.{Right}
@@ -25,7 +25,7 @@ use Rattle.nc_protocol.specs.declared.asked.Asked.TheVariants.{Get, GetConfig, E
 use Rattle.nc_protocol.specs.declared.asked.Default3.{Default3}
 use Rattle.nc_protocol.specs.declared.asked.ErrorOption.{ErrorOption}
 use Rattle.nc_protocol.specs.declared.asked.Operation.{Operation}
-use Rattle.nc_protocol.specs.declared.asked.Operation.TheVariants.{Get as GetOperation, GetConfig as GetConfigOperation, EditConfig as EditConfigOperation, CopyConfig as CopyConfigOperation, DeleteConfig as DeleteConfigOperation, Lock as LockOperation, Unlock as UnlockOperation, CloseSession as CloseSessionOperation, KillSession as KillSessionOperation, Commit as CommitOperation, DiscardChanges as DiscardChangesOperation, Validate as ValidateOperation}
+use Rattle.nc_protocol.specs.declared.asked.Operation.TheVariants.{Get as GetOperation, GetConfig as GetConfigOperation, EditConfig as EditConfigOperation, CopyConfig as CopyConfigOperation, DeleteConfig as DeleteConfigOperation, Lock as LockOperation, Unlock as UnlockOperation, CloseSession as CloseSessionOperation, KillSession as KillSessionOperation, Commit as CommitOperation, DiscardChanges as DiscardChangesOperation, CancelCommit as CancelCommitOperation, Validate as ValidateOperation}
 use Rattle.nc_protocol.specs.declared.asked.Select.{Select}
 use Rattle.nc_protocol.specs.declared.asked.TestOption.{TestOption}
 use Rattle.nc_protocol.specs.declared.asked.TestOption.TheVariants.{TestThenSet, Set, TestOnly}
@@ -46,7 +46,7 @@ use Rattle.nc_protocol.specs.Edited.{cause_at, cause_where, decision_names, firs
 use Rattle.nc_protocol.specs.Filter.{selected}
 use Rattle.nc_protocol.specs.Payload.{edits_of, rows_of}
 use Rattle.nc_protocol.specs.Refusals.{checked, datastore_name, done_unless, refused_for, result_unless, violation_in}
-use Rattle.nc_protocol.specs.Words.{source_word, confirmed_word, lock_id_word}
+use Rattle.nc_protocol.specs.Words.{source_word, lock_id_word}
 use Rattle.nc_model.specs.Access.{exec_of, rights_of, visible}
 use Rattle.nc_model.specs.State.{State, Holders, NodeLock, Pending, base_of, candidate_in_force, is_held_by, is_live, last_lock_id, locks_of, locks_some, most_locks}
 use Rattle.nc_model.specs.Words.{partial_locks_word, lock_ids_word, record_word}
@@ -66,12 +66,9 @@ is_offered CloseSessionOperation = true
 is_offered KillSessionOperation = true
 is_offered CommitOperation = true
 is_offered DiscardChangesOperation = true
+is_offered CancelCommitOperation = true
 is_offered ValidateOperation = true
 is_offered operation = false
-
--- whether the server offers confirmed commits (RFC 6241 8.4): not yet
-abbrev pub confirms : Bool
-confirms = false
 
 -- the record of a configuration is larger than the server keeps
 abbrev pub is_too_large : List Row → Bool
@@ -350,18 +347,15 @@ abbrev pub commit_changes : State → Changes
 commit_changes s = changes_between s.schema s.running (candidate_in_force s)
 
 -- what is looked at before a commit (RFC 6241 8.3.4.1, 8.4.5.1; RFC 5717 2.5; RFC 8341 3.2.8)
-abbrev pub commit_checks : State → ℕ → Bool → Option (List ℕ) → List (Option Cause)
-commit_checks s session confirmed persist_id =
-    cause_where (not confirms && confirmed) (plain_cause UnknownParameter (confirmed_word ∷ []))
-    ∷ commit_admission s session persist_id
-    ∷ in_use s session Running ∷ in_use s session Candidate ∷ in_use_partial s session (commit_changes s)
-    ∷ changes_denied (rights_of s session) (commit_changes s)
-    ∷ violation_in s.schema (candidate_in_force s)
-    ∷ record_refusal s ∷ []
+abbrev pub commit_checks : State → ℕ → Option (List ℕ) → List (Option Cause)
+commit_checks s session persist_id =
+    commit_admission s session persist_id ∷ in_use s session Running ∷ in_use s session Candidate
+    ∷ in_use_partial s session (commit_changes s) ∷ changes_denied (rights_of s session) (commit_changes s)
+    ∷ violation_in s.schema (candidate_in_force s) ∷ record_refusal s ∷ []
 
 -- why a commit is refused, whatever the disk does
-abbrev pub commit_refusal : State → ℕ → Bool → Option (List ℕ) → Option Cause
-commit_refusal s session confirmed persist_id = first_cause (commit_checks s session confirmed persist_id)
+abbrev pub commit_refusal : State → ℕ → Option (List ℕ) → Option Cause
+commit_refusal s session persist_id = first_cause (commit_checks s session persist_id)
 
 -- what a cancel-commit changes: running becomes the base (RFC 6241 8.4.4.1)
 abbrev pub cancel_changes : State → Changes
@@ -464,7 +458,7 @@ asked_verdict s session (Unlock target) failed = checked (unlock_refusal s sessi
 asked_verdict s session CloseSession failed = Done
 asked_verdict s session (KillSession number) failed = checked (kill_refusal s session number) Done
 asked_verdict s session (Commit confirmed timeout persist persist_id) failed =
-    checked (commit_refusal s session confirmed persist_id) (kept_unless (not confirmed && failed))
+    checked (commit_refusal s session persist_id) (kept_unless (not confirmed && failed))
 asked_verdict s session DiscardChanges failed = checked (in_use s session Candidate) Done
 asked_verdict s session (CancelCommit persist_id) failed = checked (cancel_refusal s session persist_id) Done
 asked_verdict s session (Validate source) failed = validated s.schema (rows_to_validate s source)

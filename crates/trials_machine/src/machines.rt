@@ -5,6 +5,7 @@
 //! Values that are large to let go are on the heap, helpers only borrow the machine that they drive, and what
 //! branches owns nothing: so each helper is proved in seconds.
 mod asked_tests;
+mod confirm_tests;
 mod keeper_tests;
 mod locks_tests;
 mod named_tests;
@@ -12,10 +13,11 @@ mod replies_tests;
 mod seats_tests;
 mod solo_tests;
 
-ghost use Rattle.std.specs.Prelude.{◌≡◌, ◌<◌};
+ghost use Rattle.std.specs.Prelude.{◌≡◌, ◌≤◌, ◌<◌};
 ghost use Rattle.nc_names.specs.Limits.{most_requests};
 ghost use Rattle.nc_protocol.specs.Proper.{IsProper};
 ghost use Rattle.nc_model.specs.ProperEvents.{IsProperEvent};
+ghost use Rattle.nc_outside.specs.Clocks.{last_reading};
 ghost use Rattle.trials_machine.specs.Sample.{sample};
 
 use crate::laws::sample_is_proper;
@@ -64,11 +66,16 @@ fn begin(rt: &impl Abort, alloc: Global, failing: Many<u64>) -> Machine<MemKeepe
     }
 }
 
-// One more event may be handed in.
-fn has_room(rt: &impl Abort, machine: &Machine<MemKeeper>)
-    ensures { machine.now.count < most_requests }
+// The latest reading of a clock, in milliseconds.
+const LAST_READING: u64 = 1 << 62;
+
+// One more event may be handed in, with that reading of the clock.
+fn has_room(rt: &impl Abort, machine: &Machine<MemKeeper>, at: u64)
+    ensures count { machine.now.count < most_requests }
+    ensures at { at ≤ last_reading }
 {
     assert!(rt; machine.count() < MOST_REQUESTS);
+    assert!(rt; at <= LAST_READING);
 }
 
 fn boxed(rt: &impl Abort, alloc: Global, entry: Entry) -> Boxed<Entry> {
@@ -85,7 +92,7 @@ fn handled(
 ) -> Boxed<Entry>
     requires { IsProperEvent event }
 {
-    has_room(rt, machine);
+    has_room(rt, machine, at);
     let entry = machine.handle(event, at).expect(rt, "memory");
     boxed(rt, alloc, entry)
 }
@@ -243,7 +250,7 @@ fn ended(
     session: u32,
     at: u64,
 ) -> Boxed<Entry> {
-    has_room(rt, machine);
+    has_room(rt, machine, at);
     boxed(rt, alloc, machine.end(session, at))
 }
 
@@ -253,7 +260,7 @@ fn ticked(
     machine: &mut Machine<MemKeeper>,
     at: u64,
 ) -> Boxed<Entry> {
-    has_room(rt, machine);
+    has_room(rt, machine, at);
     boxed(rt, alloc, machine.tick(at))
 }
 

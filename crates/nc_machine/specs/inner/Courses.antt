@@ -1,12 +1,12 @@
 -- What a request comes to, and what that changes.
-use Rattle.std.specs.Prelude.{◌&&◌, ℕ, Bool, false, not, if◌then◌else◌, List, [], ◌∷◌, Option, Some, None, is_some, option_map, Result, Ok, Err}
+use Rattle.std.specs.Prelude.{◌+◌, ◌&&◌, ℕ, Bool, true, false, not, if◌then◌else◌, List, [], ◌∷◌, Option, Some, None, is_some, option_map, Result, Ok, Err}
 use Rattle.std.specs.Option.{option_or}
-use Rattle.nc_names.specs.declared.cause.CauseKind.TheVariants.{UnknownOperation, UnknownParameter, UnsupportedTarget, BadParameter, LockHeld, LockModified, NotHeld}
+use Rattle.nc_names.specs.declared.cause.CauseKind.TheVariants.{UnknownOperation, UnsupportedTarget, BadParameter, BadToken, LockHeld, LockModified, NotHeld}
 use Rattle.nc_message.specs.declared.tree.Elem.{Elem}
 use Rattle.nc_names.specs.declared.path.Row.{Row}
 use Rattle.nc_schema.specs.Tables.{Tables}
 use Rattle.nc_protocol.specs.declared.asked.Asked.{Asked}
-use Rattle.nc_protocol.specs.declared.asked.Asked.TheVariants.{Get, GetConfig, EditConfig, CopyConfig, DeleteConfig, Lock, Unlock, CloseSession, KillSession, Commit as AsksCommit, DiscardChanges, Validate}
+use Rattle.nc_protocol.specs.declared.asked.Asked.TheVariants.{Get, GetConfig, EditConfig, CopyConfig, DeleteConfig, Lock, Unlock, CloseSession, KillSession, Commit as AsksCommit, DiscardChanges, CancelCommit, Validate}
 use Rattle.nc_protocol.specs.declared.asked.Default3.{Default3}
 use Rattle.nc_protocol.specs.declared.asked.ErrorOption.{ErrorOption}
 use Rattle.nc_protocol.specs.declared.asked.Operation.{Operation}
@@ -22,13 +22,14 @@ use Rattle.nc_protocol.specs.Applied.{Applied}
 use Rattle.nc_protocol.specs.Asking.{plain_cause}
 use Rattle.nc_protocol.specs.Edited.{cause_where}
 use Rattle.nc_model.specs.Access.{rights_of}
-use Rattle.nc_model.specs.State.{State, candidate_in_force, is_held_by, session_ended}
-use Rattle.nc_model.specs.Step.{rows_of_ok, with_candidate, with_holder}
+use Rattle.nc_model.specs.State.{Pending, State, candidate_in_force, is_held_by, reverted, session_ended}
+use Rattle.nc_model.specs.Step.{milliseconds, rows_of_ok, with_candidate, with_holder}
 use Rattle.nc_protocol.specs.Refusals as refusal
 use Rattle.nc_model.specs.Verdict as meant
-use Rattle.nc_protocol.specs.Words.{confirmed_word, source_word}
+use Rattle.nc_protocol.specs.Words.{source_word}
+use Rattle.nc_pending.specs.Pending as calls
 use Rattle.nc_machine.specs.declared.course.Change.{Change}
-use Rattle.nc_machine.specs.declared.course.Change.TheVariants.{Nothing, Candidate, Discard, Grant, Release, Over}
+use Rattle.nc_machine.specs.declared.course.Change.TheVariants.{Nothing, Candidate, Discard, Grant, Release, Confirm, Revert, Over}
 use Rattle.nc_machine.specs.declared.course.Course.{Course}
 use Rattle.nc_machine.specs.declared.course.Course.TheVariants.{Answer, Commit}
 
@@ -105,12 +106,15 @@ not_held s session target =
 abbrev pub unlock_refused : State → ℕ → Datastore → Option Cause
 unlock_refused s session target = option_or (meant.unsupported meant.is_source target) (not_held s session target)
 
+-- where none is pending, no `persist-id` is right
+abbrev pub token_refusal : Option (List ℕ) → Option Cause
+token_refusal given = cause_where (is_some given) (plain_cause BadToken [])
+
 -- why a session may not commit, whatever the candidate holds
-abbrev pub commit_hindrance : State → ℕ → Bool → Option (List ℕ) → Option Cause
-commit_hindrance s session confirmed persist_id =
-    option_or (cause_where confirmed (plain_cause UnknownParameter (confirmed_word ∷ [])))
-    (option_or (meant.commit_admission s session persist_id)
-    (option_or (meant.in_use s session Running) (meant.in_use s session CandidateStore)))
+abbrev pub commit_hindrance : State → ℕ → Option (List ℕ) → Option Cause
+commit_hindrance s session persist_id =
+    option_or (meant.commit_admission s session persist_id)
+    (option_or (meant.in_use s session Running) (meant.in_use s session CandidateStore))
 
 -- why it may not change what a commit changes
 abbrev pub changes_refusal : State → ℕ → Option Cause
@@ -124,17 +128,35 @@ candidate_refusal s =
     option_or (refusal.violation_in s.schema (candidate_in_force s)) (meant.record_refusal s)
 
 -- why a commit is refused
-abbrev pub commit_refused : State → ℕ → Bool → Option (List ℕ) → Option Cause
-commit_refused s session confirmed persist_id =
-    option_or (commit_hindrance s session confirmed persist_id)
-    (option_or (changes_refusal s session) (candidate_refusal s))
+abbrev pub commit_refused : State → ℕ → Option (List ℕ) → Option Cause
+commit_refused s session persist_id =
+    option_or (commit_hindrance s session persist_id) (option_or (changes_refusal s session) (candidate_refusal s))
+
+-- why it may not change back what a confirmed commit has changed
+abbrev pub reversion_refusal : State → ℕ → Option Cause
+reversion_refusal s session = meant.in_use_partial s session (meant.cancel_changes s)
+
+-- why nothing is cancelled
+abbrev pub cancel_refused : State → ℕ → Option (List ℕ) → Option Cause
+cancel_refused s session persist_id =
+    option_or (meant.cancel_admission s session persist_id)
+    (option_or (meant.in_use s session Running) (reversion_refusal s session))
 
 abbrev pub copy_course : Result (List Row) Cause → Course
 copy_course copied = Answer (meant.done_where copied) (changed_to (rows_of_ok copied))
 
-abbrev pub commit_course : Option Cause → Course
-commit_course None = Commit
-commit_course (Some cause) = Answer (Refused (cause ∷ [])) Nothing
+-- what a confirmed commit comes to that nothing stands against
+abbrev pub confirmed_course : State → ℕ → Option (List ℕ) → Course
+confirmed_course s timeout persist = Answer Done (Confirm (candidate_in_force s) timeout persist)
+
+abbrev pub commit_made : State → Bool → ℕ → Option (List ℕ) → Course
+commit_made s false timeout persist = Commit
+commit_made s true timeout persist = confirmed_course s timeout persist
+
+-- what a commit comes to, unless a check fails
+abbrev pub commit_course : Option Cause → Course → Course
+commit_course None made = made
+commit_course (Some cause) made = refused_course cause
 
 -- done with that change, unless a check fails
 abbrev pub done_unless : Option Cause → Change → Course
@@ -158,9 +180,12 @@ edit_config_course s session target default_operation test on_error config =
 unfoldable pub copy_config_course : State → ℕ → Datastore → Origin → Course
 copy_config_course s session target source = copy_course (meant.copied s session target source)
 
-unfoldable pub commit_asked_course : State → ℕ → Bool → Option (List ℕ) → Course
-commit_asked_course s session confirmed persist_id =
-    commit_course (meant.commit_refusal s session confirmed persist_id)
+unfoldable pub commit_asked_course : State → ℕ → Bool → ℕ → Option (List ℕ) → Option (List ℕ) → Course
+commit_asked_course s session confirmed timeout persist persist_id =
+    commit_course (commit_refused s session persist_id) (commit_made s confirmed timeout persist)
+
+unfoldable pub cancel_course : State → ℕ → Option (List ℕ) → Course
+cancel_course s session persist_id = done_unless (cancel_refused s session persist_id) Revert
 
 unfoldable pub discard_course : State → ℕ → Course
 discard_course s session = done_unless (meant.in_use s session CandidateStore) Discard
@@ -196,7 +221,8 @@ asked_course s session (Unlock target) = unlock_course s session target
 asked_course s session CloseSession = Answer Done (Over session)
 asked_course s session (KillSession number) = kill_course s session number
 asked_course s session (AsksCommit confirmed timeout persist persist_id) =
-    commit_asked_course s session confirmed persist_id
+    commit_asked_course s session confirmed timeout persist persist_id
+asked_course s session (CancelCommit persist_id) = cancel_course s session persist_id
 asked_course s session DiscardChanges = discard_course s session
 asked_course s session (Validate source) = validate_course s source
 asked_course s session asked = unknown_course
@@ -229,6 +255,30 @@ unlocked s session target = record s {
   candidate = if meant.is_candidate target then None else s.candidate;
 }
 
+-- whether the end of a session reverts the pending commit
+abbrev pub is_reverted_by : Option Pending → ℕ → Bool
+is_reverted_by None number = false
+is_reverted_by (Some pending) number = calls.is_reverted_by pending number
+
+-- and what it leaves of it
+abbrev pub left_of : Option Pending → ℕ → Option Pending
+left_of None number = None
+left_of (Some pending) number = Some (calls.left_of pending number)
+
+-- what a confirmed commit makes of the pending one, where `before` is running before it
+abbrev pub pending_from : Option Pending → List Row → ℕ → Option (List ℕ) → ℕ → Pending
+pending_from None before deadline token session =
+    record { base = before; deadline = deadline; token = token; session = session }
+pending_from (Some pending) before deadline token session = calls.followed pending deadline token session
+
+-- rows are running, and wait to be confirmed
+unfoldable pub confirming : State → ℕ → List Row → ℕ → Option (List ℕ) → State
+confirming s session rows timeout persist = record s {
+  running = rows;
+  candidate = None;
+  pending = Some (pending_from s.pending s.running (s.now + milliseconds timeout) persist session);
+}
+
 -- the state, changed
 unfoldable pub made : State → ℕ → Change → State
 made s session Nothing = s
@@ -236,4 +286,6 @@ made s session (Candidate rows) = with_candidate s (Some rows)
 made s session Discard = record s { candidate = None }
 made s session (Grant target) = granted s session target
 made s session (Release target) = unlocked s session target
+made s session (Confirm rows timeout persist) = confirming s session rows timeout persist
+made s session Revert = reverted s
 made s session (Over number) = session_ended s number

@@ -9,11 +9,11 @@ invariant_of-self g c =
     let P : Serving g.row.K.Denot → Type 0 = λ m. m.count < most_requests in
     sound_kept _ _ _ c.self.inside.server c.ended-made.new.server c.self.inside.count c.self.inside.keeper _ _ _ _
     c.ended-made.ensures.entered c.ended-made.ensures.kept
-    (subst P (sym c.self.view_is) c.requires) c.self.invariant
+    (subst P (sym c.self.view_is) c.requires.count) c.self.invariant
 
 pub returns-clause-sound : goal.returns-clause-sound
 returns-clause-sound g c =
     let P : Serving g.row.K.Denot → Type 0 = λ m. m.count < most_requests in
     sound_kept _ _ _ c.self.inside.server c.ended-made.new.server c.self.inside.count c.self.inside.keeper _ _ _ _
     c.ended-made.ensures.entered c.ended-made.ensures.kept
-    (subst P (sym c.self.view_is) c.requires) c.self.invariant
+    (subst P (sym c.self.view_is) c.requires.count) c.self.invariant

@@ -22,6 +22,9 @@ base_11 = codes "urn:ietf:params:netconf:base:1.1"
 unfoldable pub candidate_capability : List ℕ
 candidate_capability = codes "urn:ietf:params:netconf:capability:candidate:1.0"
 
+unfoldable pub confirmed_capability : List ℕ
+confirmed_capability = codes "urn:ietf:params:netconf:capability:confirmed-commit:1.1"
+
 unfoldable pub rollback_capability : List ℕ
 rollback_capability = codes "urn:ietf:params:netconf:capability:rollback-on-error:1.0"
 

@@ -101,6 +101,7 @@ fn built(alloc: Global) -> Result<Many<Part>, Memory>
     push_built(alloc, words::base_10(), &mut parts)?;
     push_built(alloc, words::base_11(), &mut parts)?;
     push_built(alloc, words::candidate(), &mut parts)?;
+    push_built(alloc, words::confirmed_commit(), &mut parts)?;
     push_built(alloc, words::rollback_on_error(), &mut parts)?;
     push_built(alloc, words::validate(), &mut parts)?;
     Ok(parts)

@@ -50,6 +50,14 @@ pub(crate) fn candidate() -> &'static str
     "urn:ietf:params:netconf:capability:candidate:1.0"
 }
 
+// `urn:ietf:params:netconf:capability:confirmed-commit:1.1`
+#[tactic(auto, unfolding(crate::specs::Words::confirmed_capability))]
+pub(crate) fn confirmed_commit() -> &'static str
+    ensures { result.now ≡ words.confirmed_capability }
+{
+    "urn:ietf:params:netconf:capability:confirmed-commit:1.1"
+}
+
 // `urn:ietf:params:netconf:capability:rollback-on-error:1.0`
 #[tactic(auto, unfolding(crate::specs::Words::rollback_capability))]
 pub(crate) fn rollback_on_error() -> &'static str

@@ -19,6 +19,7 @@ const SERVER_HELLO: &str = "<hello xmlns=\"urn:ietf:params:xml:ns:netconf:base:1
     <capability>urn:ietf:params:netconf:base:1.0</capability>\
     <capability>urn:ietf:params:netconf:base:1.1</capability>\
     <capability>urn:ietf:params:netconf:capability:candidate:1.0</capability>\
+    <capability>urn:ietf:params:netconf:capability:confirmed-commit:1.1</capability>\
     <capability>urn:ietf:params:netconf:capability:rollback-on-error:1.0</capability>\
     <capability>urn:ietf:params:netconf:capability:validate:1.1</capability>\
     </capabilities><session-id>1</session-id></hello>]]>]]>";

@@ -4,7 +4,8 @@ use Rattle.std.proofs.lemmas.Bool.{cases_eq}
 use Rattle.std.proofs.lemmas.List.Elements.{All-push as All_push}
 use Rattle.nc_outside.specs.Disks.{Torn, Then, written_at}
 use Rattle.nc_outside.proofs.DiskFiles.{written_torn, length-written_at}
-use Rattle.nc_journal.specs.Format.{mark, number, body_limit, chooser_place, areas_begin, slot_place, chooser, framed, recorded, area, gate_place}
+use Rattle.nc_journal.specs.Format.{mark, number, chooser_place, areas_begin, slot_place, chooser, framed, recorded, area, gate_place}
+use Rattle.nc_names.specs.Limits.{body_limit}
 use Rattle.nc_journal.specs.Files.{At, HasArea, HoldsAt, Holds, HoldsAmong, closed_gate, torn_gate, torn_chooser}
 use Rattle.nc_journal.specs.Images.{IsClean, HasOpenGate, HasOpenChooser}
 use Rattle.nc_journal.proofs.Segments.{at_front, at_back, at_join, at_within, at_byte, at_before, at_after, at_written}

@@ -4,7 +4,8 @@ use Rattle.std.specs.List.{flat_map}
 use Rattle.std.specs.Int.{from_be_bytes, to_be_bytes, w64}
 use Rattle.std.proofs.lemmas.Nat.{from_be_bytes-to_be_bytes_8}
 use Rattle.std.proofs.lemmas.Option.{slice_get-get_or}
-use Rattle.nc_journal.specs.Format.{number, framed, recorded, chooser, area, gate_place, body_limit, slot_place}
+use Rattle.nc_journal.specs.Format.{number, framed, recorded, chooser, area, gate_place, slot_place}
+use Rattle.nc_names.specs.Limits.{body_limit}
 use Rattle.nc_journal.specs.Files.{At, HoldsAt, Holds, closed_gate, torn_gate, torn_chooser}
 use Rattle.nc_journal.proofs.Numbers.{length-number, length-recorded, slot_first}
 use Rattle.nc_journal.proofs.Segments.{at_front, at_back, at_join, at_within}

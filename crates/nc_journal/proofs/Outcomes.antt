@@ -4,7 +4,8 @@ use Rattle.std.proofs.lemmas.Bool.{cases_lt}
 use Rattle.std.proofs.lemmas.Option.{slice_get-get_or, slice_get_within}
 use Rattle.std.proofs.lemmas.List.{drop_more, take_all, length-take-le, get_or-take, take-take}
 use Rattle.std.specs.List.{flat_map}
-use Rattle.nc_journal.specs.Format.{mark, number, recorded, area, gate_place, body_limit, slot_place, areas_begin}
+use Rattle.nc_journal.specs.Format.{mark, number, recorded, area, gate_place, slot_place, areas_begin}
+use Rattle.nc_names.specs.Limits.{body_limit}
 use Rattle.nc_journal.specs.Files.{At, IsNew}
 use Rattle.nc_journal.specs.Header.{counted, header_of, IsHeader, HasHeader, DiffersAt}
 use Rattle.nc_journal.specs.Opening.{IsFront, IsArea, IsSoFar, IsRead}

@@ -2,7 +2,8 @@
 use Rattle.std.proofs.Common.{◌≡◌, ◌⊎◌, inl, inr, ⊎_elim, ℕ, ◌+◌, ◌-◌, ◌<◌, ◌≤◌, ◌^◌, Bool, true, false, not, List, [], ◌∷◌, ◌++◌, length, All, Contains, Option, Some, None, is_some, refl, sym, ◌∙◌, ap, subst, arith, length-append}
 use Rattle.nc_outside.specs.Disks.{Told, Torn, Then, After, LeavesOnly, Passes, IsSettled, written_at}
 use Rattle.nc_outside.proofs.DiskFiles.{written_torn}
-use Rattle.nc_journal.specs.Format.{chooser_place, chooser, slot_place, areas_begin, number, area, gate_place, body_limit}
+use Rattle.nc_journal.specs.Format.{chooser_place, chooser, slot_place, areas_begin, number, area, gate_place}
+use Rattle.nc_names.specs.Limits.{body_limit}
 use Rattle.nc_journal.specs.Files.{HoldsAmong}
 use Rattle.nc_journal.specs.Images.{IsClean, HasOpenChooser}
 use Rattle.nc_journal.specs.Journal.{IsPlaced, Stands, at_rest, chooser_open, allowed}

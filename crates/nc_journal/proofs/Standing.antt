@@ -2,7 +2,8 @@
 use Rattle.std.proofs.Common.{◌≡◌, ◌⊎◌, inl, inr, ⊎_elim, ℕ, ◌+◌, ◌<◌, ◌≤◌, ◌^◌, Bool, true, false, not, List, [], ◌∷◌, ◌++◌, length, Contains, Option, Some, None, is_some, IfSome, Result, Ok, Err, OnErr, refl, sym, ◌∙◌, ap, subst, arith, add-one}
 use Rattle.nc_outside.specs.Disks.{Told, Torn, Then, After, LeavesOnly, Passes, IsSettled, written_at}
 use Rattle.nc_outside.proofs.DiskFiles.{written_torn}
-use Rattle.nc_journal.specs.Format.{chooser_place, chooser, framed, area, gate_place, body_limit}
+use Rattle.nc_journal.specs.Format.{chooser_place, chooser, framed, area, gate_place}
+use Rattle.nc_names.specs.Limits.{body_limit}
 use Rattle.nc_journal.specs.Files.{At, HasArea, Holds, HoldsAmong}
 use Rattle.nc_journal.specs.Images.{IsClean, HasOpenGate, HasOpenChooser}
 use Rattle.nc_journal.specs.Journal.{IsPlaced, Stands, at_rest, gate_open, chooser_open, IsSound, allowed}

@@ -2,7 +2,8 @@
 use Rattle.std.proofs.Common.{◌≡◌, ◌≢◌, ◌⊎◌, inl, inr, ℕ, ◌+◌, ◌-◌, ◌<◌, ◌≤◌, ◌^◌, List, [], ◌∷◌, ◌++◌, length, take, drop, get_or, slice_get, map, All, Option, Some, None, refl, sym, ◌∙◌, ap, subst, arith, length-append, append_assoc}
 use Rattle.std.proofs.lemmas.List.{append-nil, get_or_at, map-append}
 use Rattle.std.specs.List.{flat_map}
-use Rattle.nc_journal.specs.Format.{number, recorded, area, gate_place, body_limit}
+use Rattle.nc_journal.specs.Format.{number, recorded, area, gate_place}
+use Rattle.nc_names.specs.Limits.{body_limit}
 use Rattle.nc_journal.specs.Files.{At}
 use Rattle.nc_journal.proofs.Numbers.{length-recorded, area-push, gate-push}
 use Rattle.nc_journal.proofs.Segments.{at_front, at_back, at_join, at_within}

@@ -1,6 +1,7 @@
 -- What a file of the store holds.
 use Rattle.std.specs.Prelude.{◌≡◌, ◌≢◌, ℕ, ◌+◌, ◌<◌, ◌≤◌, ◌^◌, Bool, true, false, List, [], ◌∷◌, ◌++◌, length, take, drop, All, Contains, Option, Some, None, IfSome}
-use Rattle.nc_journal.specs.Format.{mark, number, body_limit, chooser_place, areas_begin, slot_place, chooser, framed, area, gate_place, blank}
+use Rattle.nc_journal.specs.Format.{mark, number, chooser_place, areas_begin, slot_place, chooser, framed, area, gate_place, blank}
+use Rattle.nc_names.specs.Limits.{body_limit}
 
 -- these bytes stand at this place of a file
 pub record At (place : ℕ) (bytes file : List ℕ) : Type 0 where

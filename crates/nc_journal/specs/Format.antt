@@ -13,10 +13,6 @@ mark = codes "NCSTORE2"
 unfoldable pub number : ℕ → List ℕ
 number n = to_be_bytes w64 n
 
--- the most bytes of a body
-abbrev pub body_limit : ℕ
-body_limit = 33554432
-
 -- where the chooser stands, and where areas begin
 abbrev pub chooser_place : ℕ
 chooser_place = 9

@@ -1,6 +1,7 @@
 -- What every crash image of a disk has while a journal is at rest, and while one byte of its file is in doubt.
 use Rattle.std.specs.Prelude.{◌≡◌, ℕ, ◌+◌, ◌≤◌, Bool, not, List, [], ◌∷◌, length}
-use Rattle.nc_journal.specs.Format.{body_limit, chooser_place, chooser, framed, gate_place}
+use Rattle.nc_journal.specs.Format.{chooser_place, chooser, framed, gate_place}
+use Rattle.nc_names.specs.Limits.{body_limit}
 use Rattle.nc_journal.specs.Files.{At, HasArea}
 
 -- at rest: the chooser chooses the live area, and its gate is closed

@@ -1,6 +1,7 @@
 -- What a file is opened to, and what a crash leaves while it is opened.
 use Rattle.std.specs.Prelude.{◌≡◌, ◌≢◌, ℕ, ◌≤◌, Bool, List, [], ◌∷◌, length, slice_get, All, Option, Some, None, ◌<◌, ◌^◌, nat_eq}
-use Rattle.nc_journal.specs.Format.{mark, number, slot_place, area, gate_place, body_limit}
+use Rattle.nc_journal.specs.Format.{mark, number, slot_place, area, gate_place}
+use Rattle.nc_names.specs.Limits.{body_limit}
 use Rattle.nc_journal.specs.Files.{At, IsNew, Holds, HoldsAmong}
 
 -- the file is new, or is a made one without a body

@@ -1,7 +1,8 @@
 -- Why a file is refused, and at which place.
 use Rattle.std.specs.Prelude.{◌≡◌, ◌≢◌, ◌⊎◌, ℕ, ◌<◌, ◌≤◌, ◌^◌, nat_eq, List, ◌∷◌, length, take, slice_get, Option, Some}
 use Rattle.nc_outside.specs.Disks.{Within}
-use Rattle.nc_journal.specs.Format.{mark, number, slot_place, areas_begin, chooser_place, recorded, body_limit}
+use Rattle.nc_journal.specs.Format.{mark, number, slot_place, areas_begin, chooser_place, recorded}
+use Rattle.nc_names.specs.Limits.{body_limit}
 use Rattle.nc_journal.specs.Files.{At, IsNew}
 use Rattle.nc_journal.specs.Header.{IsHeader, HasHeader, DiffersAt}
 use Rattle.nc_journal.specs.Opening.{IsFront, IsSoFar}

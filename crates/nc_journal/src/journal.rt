@@ -36,7 +36,8 @@ impl<D: Disk> Journal<D> {
     ghost use Rattle.nc_journal.specs.Journal.{Stands, IsSound, allowed, disk_of, records_of};
     ghost use Rattle.nc_journal.specs.Keeping.{Changes, KeepsCount};
     ghost use Rattle.nc_journal.specs.Format.{framed as in_frame, area as up_to_gate};
-    ghost use Rattle.nc_journal.specs.Format.{body_limit, areas_begin};
+    ghost use Rattle.nc_journal.specs.Format.{areas_begin};
+    ghost use Rattle.nc_names.specs.Limits.{body_limit};
     ghost use Rattle.std.specs.Prelude.{◌⊎◌, All};
 
     // Writes the byte anew that is in doubt, if there is one.

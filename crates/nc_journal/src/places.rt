@@ -8,9 +8,6 @@ pub(crate) const CHOOSER: u64 = 9;
 /// Where the areas begin.
 pub(crate) const AREAS_BEGIN: u64 = 26;
 
-/// The most bytes of a body.
-pub(crate) const BODY_LIMIT: u64 = 33_554_432;
-
 /// The place of a slot.
 pub(crate) fn slot_of(second: bool) -> u64
     ensures { result ≡ slot_place second }

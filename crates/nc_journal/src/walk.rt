@@ -2,16 +2,16 @@
 ghost use Rattle.std.specs.Prelude.{◌≡◌, ◌+◌, ◌<◌, ◌≤◌, ◌^◌, ℕ, List, Option, Some, length, slice_get, IfOk};
 ghost use Rattle.nc_outside.specs.Disks.{Told};
 ghost use Rattle.nc_journal.specs.Files.{At};
-ghost use Rattle.nc_journal.specs.Format.{recorded, body_limit, gate_place};
+ghost use Rattle.nc_journal.specs.Format.{recorded, gate_place};
+ghost use Rattle.nc_names.specs.Limits.{body_limit};
 ghost use Rattle.nc_journal.specs.Opening.{IsArea};
 ghost use Rattle.nc_journal.specs.inner.Reading.{OnlyReads};
 ghost use Rattle.nc_journal.specs.inner.Headers.{IsStuck};
 ghost use Rattle.nc_journal.specs.inner.Faults.{OnDamaged, OnRefused, HasFault};
 
 use crate::JournalFault;
-use crate::places::BODY_LIMIT;
 use crate::read::{fill, number_at};
-use nc_names::{Bytes, Many, Memory};
+use nc_names::{BODY_LIMIT, Bytes, Many, Memory};
 use nc_outside::{Disk, byte_at};
 use std::alloc::Global;
 

@@ -3,7 +3,8 @@ use Rattle.std.proofs.Common.{◌≡◌, ◌≤◌, ◌&&◌, ℕ, Bool, true, f
 use Rattle.std.specs.Prelude.{IfOk, IfSome, OnErr}
 use Rattle.nc_names.specs.declared.memory.Memory.{Memory}
 use Rattle.nc_names.specs.declared.path.Row.{Row}
-use Rattle.nc_schema.specs.Record.{body_limit, record_size}
+use Rattle.nc_schema.specs.Record.{record_size}
+use Rattle.nc_names.specs.Limits.{body_limit}
 use Rattle.nc_schema.specs.Tables.{Tables}
 use Rattle.nc_schema.specs.Violations.{IsValid}
 use Rattle.nc_model.specs.declared.event.Event.{Event}

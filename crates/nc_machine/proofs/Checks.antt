@@ -6,7 +6,8 @@ use Rattle.std.proofs.lemmas.Bool.{le-ltb, lt-ltb}
 use Rattle.std.proofs.lemmas.Bool.Decides.{leb_tells}
 use Rattle.nc_names.specs.declared.cause.CauseKind.TheVariants.{Limit}
 use Rattle.nc_names.specs.declared.path.Row.{Row}
-use Rattle.nc_schema.specs.Record.{body_limit, record_size}
+use Rattle.nc_schema.specs.Record.{record_size}
+use Rattle.nc_names.specs.Limits.{body_limit}
 use Rattle.nc_protocol.specs.declared.datastore.Datastore.{Datastore}
 use Rattle.nc_protocol.specs.declared.datastore.Datastore.TheVariants.{Running, Candidate}
 use Rattle.nc_protocol.specs.declared.datastore.Origin.{Origin}

@@ -10,7 +10,8 @@ use Rattle.nc_names.specs.declared.path.Path.{Path}
 use Rattle.nc_names.specs.declared.path.Right.{Right}
 use Rattle.nc_names.specs.declared.path.Right.TheVariants.{Exec}
 use Rattle.nc_names.specs.declared.path.Row.{Row}
-use Rattle.nc_schema.specs.Record.{body_limit, record_size}
+use Rattle.nc_schema.specs.Record.{record_size}
+use Rattle.nc_names.specs.Limits.{body_limit}
 use Rattle.nc_schema.specs.Tables.{Tables}
 use Rattle.nc_schema.specs.Violations.{IsValid}
 use Rattle.nc_schema.specs.declared.violation.Violation.{Violation}

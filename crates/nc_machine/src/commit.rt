@@ -1,7 +1,8 @@
 //! The candidate is kept, and is then running (RFC 6241 8.3.4.1).
 ghost use Rattle.std.specs.Prelude.{◌≡◌, ◌≤◌, ℕ, IfOk, OnErr};
 ghost use Rattle.nc_schema.specs.Configuration.{IsConfiguration};
-ghost use Rattle.nc_schema.specs.Record.{body_limit, record_size};
+ghost use Rattle.nc_schema.specs.Record.{record_size};
+ghost use Rattle.nc_names.specs.Limits.{body_limit};
 ghost use Rattle.nc_schema.specs.Violations.{IsValid};
 ghost use Rattle.nc_model.specs.State.{base_of, candidate_in_force};
 ghost use Rattle.nc_machine.specs.inner.Turns.{Commits, IsKeeping};

@@ -6,12 +6,9 @@ ghost use Rattle.nc_machine.specs.inner.Courses as course;
 use crate::course::{Course, refused_course};
 use crate::server::Server;
 use nc_model::server_words::record_text;
-use nc_names::{CauseKind, Memory, Text};
+use nc_names::{BODY_LIMIT, CauseKind, Memory, Text};
 use nc_protocol::{Cause, Datastore};
 use nc_validate::violation_in;
-
-/// The most bytes of the record of a configuration.
-const BODY_LIMIT: u64 = 33_554_432;
 
 impl Server {
     // Why a session may not commit, whatever the candidate holds.

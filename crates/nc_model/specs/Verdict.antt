@@ -15,7 +15,8 @@ use Rattle.nc_message.specs.declared.tree.Elem.{Elem}
 use Rattle.nc_schema.specs.Blocks.{at_node}
 use Rattle.nc_schema.specs.InstancePaths.{instance_path}
 use Rattle.nc_schema.specs.Kinds.{is_plain_container}
-use Rattle.nc_schema.specs.Record.{body_limit, record_size}
+use Rattle.nc_schema.specs.Record.{record_size}
+use Rattle.nc_names.specs.Limits.{body_limit}
 use Rattle.nc_schema.specs.Standing.{exists, has_row}
 use Rattle.nc_schema.specs.Tables.{Tables}
 use Rattle.nc_schema.specs.Values.{canonical, canonical_steps}

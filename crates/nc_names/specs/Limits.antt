@@ -16,3 +16,7 @@ piece_limit = 16384
 -- the most requests that are ever answered, and the most entries of a history
 abbrev pub most_requests : ℕ
 most_requests = 2 ^ 62
+
+-- the most bytes of the body of a record, which is what is kept of a configuration
+abbrev pub body_limit : ℕ
+body_limit = 33554432

@@ -36,7 +36,7 @@ pub use cause::CauseKind;
 pub use copies::Copies;
 pub use decimal::parse_decimal;
 pub use laws::limits_are_as_stated;
-pub use limits::{ELEMENT_DEPTH, MESSAGE_LIMIT, MOST_REQUESTS, PIECE_LIMIT};
+pub use limits::{BODY_LIMIT, ELEMENT_DEPTH, MESSAGE_LIMIT, MOST_REQUESTS, PIECE_LIMIT};
 pub use many::Many;
 pub use memory::Memory;
 pub use name::{Bound, Module, QName, same_name};

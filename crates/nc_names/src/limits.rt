@@ -11,3 +11,6 @@ pub const PIECE_LIMIT: usize = 16_384;
 
 /// The most requests that are ever answered, and the most entries of a history.
 pub const MOST_REQUESTS: u64 = 1 << 62;
+
+/// The most bytes of the body of a record, which is what is kept of a configuration.
+pub const BODY_LIMIT: u64 = 33_554_432;

@@ -11,7 +11,8 @@ use Rattle.nc_schema.specs.Violations.{IsValid}
 use Rattle.nc_schema.specs.Paths.{NamesNodeOf}
 use Rattle.nc_schema.specs.PathTexts.{path_text_of}
 use Rattle.nc_schema.specs.Order.{IsSystemOrdered, IsBefore}
-use Rattle.nc_schema.specs.Record.{SpellsRecord, body_limit, record_body, record_size}
+use Rattle.nc_schema.specs.Record.{SpellsRecord, record_body, record_size}
+use Rattle.nc_names.specs.Limits.{body_limit}
 
 -- no path is before itself, and what is before a path is before all that the path is before
 pub record OrderIsStrict : Type 0 where

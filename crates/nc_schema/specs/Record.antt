@@ -7,10 +7,6 @@ use Rattle.nc_names.specs.declared.path.Row.{Row}
 use Rattle.nc_schema.specs.Configuration.{IsConfiguration}
 use Rattle.nc_schema.specs.Tables.{Tables}
 
--- the most bytes of a body
-abbrev pub body_limit : ℕ
-body_limit = 33554432
-
 -- what a body begins with: it holds a whole configuration
 abbrev pub whole_body : ℕ
 whole_body = 1

@@ -1,3 +1,4 @@
 pub mod Granted
 pub mod Laws
+pub mod Selects
 pub mod inner

@@ -1,5 +1,6 @@
 //! Partial locks (RFC 5717): which sessions hold them, with which lock-ids, and which nodes of running they
-//! lock. It stands on the definitions of `nc_model`.
+//! lock; and which nodes the selects of a request name. It stands on the definitions of `nc_model`, on the
+//! configurations of `nc_tree`, and on `nc_paths` and `nc_types` for the instance identifiers of selects.
 //!
 //! `PartialLocks` is seen as what the server's state has of partial locks, the list of them and the last
 //! lock-id that was given, and each call is the part of the state's definitions that it names: what is asked
@@ -8,6 +9,9 @@
 //!
 //! The nodes of all locks stand in one index besides, in the order of their steps. A look at a node is a
 //! binary search there for each node above it, and takes no memory.
+//!
+//! `paths_selected` reads the selects, and `nodes_among` gives those of the nodes that exist, each once: together they
+//! are `nodes_selected`.
 #![tactic(auto)]
 
 mod entry;
@@ -16,7 +20,9 @@ mod index;
 mod laws;
 mod locks;
 mod lowest;
+mod selects;
 
 pub use entry::Covered;
 pub use laws::refusal_as_stated;
 pub use locks::{PartialFault, PartialLocks};
+pub use selects::{nodes_among, paths_selected};

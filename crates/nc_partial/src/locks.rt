@@ -137,6 +137,13 @@ impl PartialLocks {
         lowest_above(self.index.as_slice(), path.steps.as_slice(), other_than)
     }
 
+    /// Whether a session has a partial lock of that lock-id. It takes no memory.
+    pub fn holds(&self, lock: u32, session: u32) -> bool
+        ensures { InStates self.now (λ s. result ≡ has_lock s session lock) }
+    {
+        has(self.locks.as_slice(), lock, session)
+    }
+
     // What a session is told that asks for nodes.
     fn told(&self, session: u32, nodes: &Many<Path>) -> Result<u32, PartialFault>
         ensures { result ≡ given_in self.now session nodes.now }

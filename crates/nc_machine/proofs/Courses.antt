@@ -1,9 +1,10 @@
 -- What a request comes to is its verdict, and what it changes is what the verdict says.
-use Rattle.std.proofs.Common.{◌≡◌, ◌≤◌, ◌&&◌, ℕ, Bool, true, false, not, cond, List, [], ◌∷◌, refl, sym, ap, ◌∙◌, Option, Some, None, Result, Ok, Err}
+use Rattle.std.proofs.Common.{◌≡◌, ◌≤◌, ◌&&◌, ◌+◌, ℕ, Bool, true, false, not, cond, List, [], ◌∷◌, refl, sym, ap, ◌∙◌, Option, Some, None, Result, Ok, Err}
 use Rattle.std.specs.Option.{option_or}
 use Rattle.std.specs.Prelude.{IfOk}
 use Rattle.nc_names.specs.declared.memory.Memory.{Memory}
 use Rattle.nc_names.specs.declared.cause.CauseKind.TheVariants.{DiskFault, UnknownOperation}
+use Rattle.nc_names.specs.declared.path.Path.{Path}
 use Rattle.nc_names.specs.declared.path.Row.{Row}
 use Rattle.nc_schema.specs.Record.{record_size}
 use Rattle.nc_names.specs.Limits.{body_limit}
@@ -15,25 +16,26 @@ use Rattle.nc_protocol.specs.declared.datastore.Datastore.TheVariants.{Candidate
 use Rattle.nc_protocol.specs.declared.request.Cause.{Cause}
 use Rattle.nc_protocol.specs.declared.request.Request.{Request}
 use Rattle.nc_protocol.specs.declared.verdict.Verdict.{Verdict}
-use Rattle.nc_protocol.specs.declared.verdict.Verdict.TheVariants.{Done, Refused}
+use Rattle.nc_protocol.specs.declared.verdict.Verdict.TheVariants.{Done, Locked, Refused}
 use Rattle.nc_model.specs.Access.{exec_of}
 use Rattle.nc_protocol.specs.Edited.{cause_where}
 use Rattle.nc_protocol.specs.Proper.{IsAskedOf, IsProper, operation_of}
 use Rattle.nc_model.specs.State.{State, candidate_in_force}
 use Rattle.nc_model.specs.Step.{answered, answered_unless, appends_record, committed, is_done, rows_of_ok, with_candidate}
 use Rattle.nc_protocol.specs.Asking.{plain_cause}
-use Rattle.nc_model.specs.Verdict.{commit_refusal, copied, edits_made, exec_denied, in_use, is_offered, kept_unless, kill_refusal, operation_refused, rows_set, verdict, verdict_on}
+use Rattle.nc_model.specs.Verdict.{commit_refusal, copied, edits_made, exec_denied, in_use, is_offered, kept_unless, kill_refusal, nodes_selected, operation_refused, partial_lock_refusal, partial_unlock_refusal, rows_set, verdict, verdict_on}
 use Rattle.nc_protocol.specs.Refusals.{checked, refused_for}
 use Rattle.nc_model.proofs.GoodLemmas.{commit_is_small, commit_is_valid}
 use Rattle.nc_model.proofs.SessionLemmas.{is_false_not}
 use Rattle.nc_machine.specs.declared.course.Change.{Change}
-use Rattle.nc_machine.specs.declared.course.Change.TheVariants.{Nothing, Discard, Grant, Release, Confirm, Revert, Over}
+use Rattle.nc_machine.specs.declared.course.Change.TheVariants.{Nothing, Discard, Grant, Release, Confirm, Revert, Over, GrantNodes, ReleaseNodes}
 use Rattle.nc_machine.specs.declared.course.Course.{Course}
 use Rattle.nc_machine.specs.declared.course.Course.TheVariants.{Answer, Commit}
-use Rattle.nc_machine.specs.inner.Courses.{asked_course, cancel_course, cancel_refused, changed_to, commit_asked_course, commit_course, commit_refused, copy_config_course, course, course_on, discard_course, done_unless, edit_config_course, edit_course, get_config_course, get_course, is_not_offered, kill_course, lock_course, lock_refused, made, unlock_course, unlock_refused, validate_course}
+use Rattle.nc_machine.specs.inner.Courses.{asked_course, cancel_course, cancel_refused, changed_to, commit_asked_course, commit_course, commit_refused, copy_config_course, course, course_on, discard_course, done_unless, edit_config_course, edit_course, get_config_course, get_course, is_not_offered, kill_course, lock_course, lock_refused, made, partial_lock_course, partial_unlock_course, unlock_course, unlock_refused, validate_course}
 use Rattle.nc_machine.proofs.Checks.{cancel_checked, commit_checked, lock_checked, unlock_checked}
 use Rattle.nc_machine.proofs.Confirmed.{confirmed_is}
 use Rattle.nc_machine.proofs.Held.{lock_granted, lock_released}
+use Rattle.nc_machine.proofs.NodeLocks.{locking, nodes_granted, nodes_released, partial_lock_is}
 
 -- what is asked for has that verdict and changes that, whatever the disk does
 pub record IsSettled (s : State) (session : ℕ) (asked : Result Asked Cause) (v : Verdict) (change : Change) : Type 0 where
@@ -114,6 +116,31 @@ checking s session asked (Some cause) v change c verdicts appends does stays is 
           ∙ (stays (cause ∷ []) ∙ ap (made s session) (change_same (Refused (cause ∷ [])) v Nothing c is));
     }
 
+-- one that locks nodes unless a check fails
+locking_nodes : (s : State) (session : ℕ) (asked : Result Asked Cause) (why : Option Cause) (v : Verdict) (lock : ℕ) (nodes : List Path)
+    (c : Change) → ((failed : Bool) → verdict_on s session asked failed ≡ checked why (Locked lock nodes)) →
+    appends_record asked ≡ false →
+    (why ≡ None → answered s session asked (Locked lock nodes) ≡ made s session (GrantNodes nodes)) →
+    ((causes : List Cause) → answered s session asked (Refused causes) ≡ s) → locking why lock nodes ≡ Answer v c →
+    IsSettled s session asked v c
+unfolding made
+locking_nodes s session asked None v lock nodes c verdicts appends locks stays is =
+    let same = verdict_same (Locked lock nodes) v (GrantNodes nodes) c is in
+    record {
+      verdict_is = λ failed. verdicts failed ∙ same;
+      disk = ap (λ (b : Bool). b && is_done v) appends;
+      state_is = ap (answered s session asked) (sym same)
+          ∙ (locks refl ∙ ap (made s session) (change_same (Locked lock nodes) v (GrantNodes nodes) c is));
+    }
+locking_nodes s session asked (Some cause) v lock nodes c verdicts appends locks stays is =
+    let same = verdict_same (Refused (cause ∷ [])) v Nothing c is in
+    record {
+      verdict_is = λ failed. verdicts failed ∙ same;
+      disk = ap (λ (b : Bool). b && is_done v) appends;
+      state_is = ap (answered s session asked) (sym same)
+          ∙ (stays (cause ∷ []) ∙ ap (made s session) (change_same (Refused (cause ∷ [])) v Nothing c is));
+    }
+
 -- a commit that is refused, whatever it would come to
 refused_commit : (s : State) (session : ℕ) (asked : Result Asked Cause) (why : Option Cause) (otherwise : Bool → Verdict) (v : Verdict)
     (c : Change) → ((failed : Bool) → verdict_on s session asked failed ≡ checked why (otherwise failed)) →
@@ -144,7 +171,7 @@ as_done (Some cause) change = refl
 
 asked_settles : (s : State) (session : ℕ) (asked : Asked) (v : Verdict) (c : Change) → is_offered (operation_of asked) ≡ true →
     asked_course s session asked ≡ Answer v c → IsSettled s session (Ok asked) v c
-unfolding asked_course get_course get_config_course edit_config_course edit_course copy_config_course commit_asked_course discard_course lock_course unlock_course kill_course cancel_course validate_course made
+unfolding asked_course get_course get_config_course edit_config_course edit_course copy_config_course commit_asked_course discard_course lock_course unlock_course kill_course cancel_course partial_unlock_course validate_course made
 asked_settles s session (Get filter) v c offered is =
     plain s session (Ok (Get filter)) _ v c (λ failed. refl) refl (λ w. refl) is
 asked_settles s session (GetConfig source filter) v c offered is =
@@ -190,8 +217,13 @@ asked_settles s session (CancelCommit persist_id) v c offered is =
     checking s session (Ok (CancelCommit persist_id)) (cancel_refused s session persist_id) v Revert c
     (λ failed. ap (λ (why : Option Cause). checked why Done) (cancel_checked s session persist_id)) refl (λ free. refl)
     (λ causes. refl) is
-asked_settles s session (PartialLock selects) v c offered is = absurd (not_true offered)
-asked_settles s session (PartialUnlock lock) v c offered is = absurd (not_true offered)
+asked_settles s session (PartialLock selects) v c offered is =
+    locking_nodes s session (Ok (PartialLock selects)) (partial_lock_refusal s session selects) v (s.last_lock + 1)
+    (nodes_selected s session selects) c (λ failed. refl) refl (nodes_granted s session selects) (λ causes. refl)
+    (partial_lock_is s session selects ∙ is)
+asked_settles s session (PartialUnlock lock) v c offered is =
+    checking s session (Ok (PartialUnlock lock)) (partial_unlock_refusal s session lock) v (ReleaseNodes lock) c (λ failed. refl) refl
+    (nodes_released s session lock) (λ causes. refl) is
 
 settles : (s : State) (session : ℕ) (operation : Option Operation) (asked : Result Asked Cause) (v : Verdict) (c : Change) →
     is_not_offered operation ≡ false → IsAskedOf operation asked → course_on s session asked ≡ Answer v c →
@@ -278,6 +310,10 @@ none_commits : (why : Option Cause) (change : Change) → done_unless why change
 none_commits None change is = cc
 none_commits (Some cause) change is = cc
 
+none_locks : (why : Option Cause) (lock : ℕ) (nodes : List Path) → locking why lock nodes ≡ Commit → ⊥
+none_locks None lock nodes is = cc
+none_locks (Some cause) lock nodes is = cc
+
 -- a commit that is not refused, and not confirmed
 committed_by : (s : State) (session : ℕ) (timeout : ℕ) (persist persist_id : Option (List ℕ)) (why : Option Cause) →
     commit_refusal s session persist_id ≡ why → commit_course why Commit ≡ Commit →
@@ -293,7 +329,7 @@ committed_by s session timeout persist persist_id None why_is is = record {
 committed_by s session timeout persist persist_id (Some cause) why_is is = absurd (no_commit (Refused (cause ∷ [])) Nothing is)
 
 asked_commits : (s : State) (session : ℕ) (asked : Asked) → asked_course s session asked ≡ Commit → IsCommitted s session (Ok asked)
-unfolding asked_course get_course get_config_course edit_config_course edit_course copy_config_course commit_asked_course discard_course lock_course unlock_course kill_course cancel_course validate_course
+unfolding asked_course get_course get_config_course edit_config_course edit_course copy_config_course commit_asked_course discard_course lock_course unlock_course kill_course cancel_course partial_unlock_course validate_course
 asked_commits s session (AsksCommit false timeout persist persist_id) is =
     committed_by s session timeout persist persist_id (commit_refused s session persist_id) (commit_checked s session persist_id) is
 asked_commits s session (AsksCommit true timeout persist persist_id) is =
@@ -311,8 +347,10 @@ asked_commits s session (Lock target) is = absurd (none_commits (lock_refused s 
 asked_commits s session (Unlock target) is = absurd (none_commits (unlock_refused s session target) (Release target) is)
 asked_commits s session (KillSession number) is = absurd (none_commits (kill_refusal s session number) (Over number) is)
 asked_commits s session (CancelCommit persist_id) is = absurd (none_commits (cancel_refused s session persist_id) Revert is)
-asked_commits s session (PartialLock selects) is = absurd (no_commit _ _ is)
-asked_commits s session (PartialUnlock lock) is = absurd (no_commit _ _ is)
+asked_commits s session (PartialLock selects) is =
+    absurd (none_locks (partial_lock_refusal s session selects) (s.last_lock + 1) (nodes_selected s session selects)
+    (partial_lock_is s session selects ∙ is))
+asked_commits s session (PartialUnlock lock) is = absurd (none_commits (partial_unlock_refusal s session lock) (ReleaseNodes lock) is)
 
 on_commits : (s : State) (session : ℕ) (asked : Result Asked Cause) → course_on s session asked ≡ Commit → IsCommitted s session asked
 on_commits s session (Ok asked) is = asked_commits s session asked is

@@ -1,7 +1,8 @@
 -- What a keeper keeps stays as it is, but at a commit.
-use Rattle.std.proofs.Common.{◌≡◌, ◌==◌, ◌+◌, ℕ, Bool, true, false, not, List, refl, sym, ◌∙◌, Option, Some, None}
+use Rattle.std.proofs.Common.{◌≡◌, ◌==◌, ◌+◌, ℕ, Bool, true, false, not, List, refl, sym, ◌∙◌, Option, Some, None, Result, Ok, Err}
 use Rattle.std.specs.Prelude.{if◌then◌else◌, is_some, IfSome}
 use Rattle.nc_names.specs.Same.{is_same_rows}
+use Rattle.nc_names.specs.declared.path.Path.{Path}
 use Rattle.nc_names.specs.declared.path.Row.{Row}
 use Rattle.nc_schema.specs.Tables.{Tables}
 use Rattle.nc_protocol.specs.declared.peer.Peer.{Peer}
@@ -9,11 +10,14 @@ use Rattle.nc_model.specs.declared.event.Event.TheVariants.{Start, End}
 use Rattle.nc_model.specs.declared.event.Outcome.{Outcome}
 use Rattle.nc_model.specs.declared.event.Outcome.TheVariants.{Started, Full, Answered, NotLive, Ended, Noted}
 use Rattle.nc_model.specs.State.{Pending, State, candidate_in_force, expired, is_due, left_by_end, read_at, reverted, session_ended}
-use Rattle.nc_model.specs.Step.{changed, milliseconds}
+use Rattle.nc_model.specs.Step.{changed, milliseconds, without_partial}
+use Rattle.nc_model.specs.Verdict.{has_lock}
 use Rattle.nc_model.proofs.RunningLemmas.{candidate_base, ended_base}
 use Rattle.nc_machine.specs.declared.course.Change.{Change}
-use Rattle.nc_machine.specs.declared.course.Change.TheVariants.{Nothing, Candidate, Discard, Grant, Release, Confirm, Revert, Over}
-use Rattle.nc_machine.specs.inner.Courses.{confirming, granted, made, unlocked}
+use Rattle.nc_machine.specs.declared.course.Change.TheVariants.{Nothing, Candidate, Discard, Grant, Release, Confirm, Revert, Over, GrantNodes, ReleaseNodes}
+use Rattle.nc_partial.specs.declared.locks.PartialFault.{PartialFault}
+use Rattle.nc_partial.specs.Granted.{lock_given}
+use Rattle.nc_machine.specs.inner.Courses.{confirming, granted, made, partly_granted, partly_released, unlocked, with_given}
 use Rattle.nc_machine.specs.inner.Turns.{IsKeeping, LeavesKept}
 use Rattle.nc_machine.proofs.Confirmed.{confirming_base}
 
@@ -72,8 +76,16 @@ candidate_faults : (s : State) (rows : List Row) (same : Bool) → (if same then
 candidate_faults s rows true = refl
 candidate_faults s rows false = refl
 
+given_keeps : (s : State) (session : ℕ) (nodes : List Path) (told : Result ℕ PartialFault) → LeavesKept s (with_given s session nodes told)
+given_keeps s session nodes (Ok lock) = record { schema_is = refl; base_is = refl; faults_is = refl }
+given_keeps s session nodes (Err fault) = all_kept s
+
+released_keeps : (s : State) (lock : ℕ) (has : Bool) → LeavesKept s (if has then without_partial s lock else s)
+released_keeps s lock true = record { schema_is = refl; base_is = refl; faults_is = refl }
+released_keeps s lock false = all_kept s
+
 pub made_keeps : (s : State) (session : ℕ) (change : Change) → LeavesKept s (made s session change)
-unfolding made granted unlocked confirming
+unfolding made granted unlocked confirming partly_granted partly_released
 made_keeps s session Nothing = all_kept s
 made_keeps s session (Candidate rows) = record {
   schema_is = candidate_schema s rows (is_same_rows rows (candidate_in_force s));
@@ -90,6 +102,8 @@ made_keeps s session (Confirm rows timeout persist) = record {
 }
 made_keeps s session Revert = record { schema_is = refl; base_is = refl; faults_is = refl }
 made_keeps s session (Over number) = end_keeps s number
+made_keeps s session (GrantNodes nodes) = given_keeps s session nodes (lock_given s session nodes)
+made_keeps s session (ReleaseNodes lock) = released_keeps s lock (has_lock s session lock)
 
 -- ---- sessions
 pub start_keeps : (s : State) (peer : Peer) (outcome : Outcome) → LeavesKept s (changed s (Start peer) outcome)

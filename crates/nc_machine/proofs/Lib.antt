@@ -1,7 +1,7 @@
 pub mod Told
 pub mod Checks
 pub mod Unchecked
-pub mod Unlocked
+pub mod NodeLocks
 pub mod Held
 pub mod Confirmed
 pub mod Edits

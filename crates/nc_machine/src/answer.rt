@@ -1,5 +1,5 @@
 //! Answers: the reply to a verdict, and what the verdict changes.
-ghost use Rattle.std.specs.Prelude.{◌≡◌, ℕ, IfOk, OnErr};
+ghost use Rattle.std.specs.Prelude.{◌≡◌, ℕ, IfOk, OnErr, OnOk};
 ghost use Rattle.nc_machine.specs.inner.Courses as course;
 ghost use Rattle.nc_protocol.specs.Reply.{reply_of};
 ghost use Rattle.nc_machine.specs.inner.Turns.{answered_by, every_node};
@@ -35,9 +35,11 @@ impl Server {
         Ok(Outcome::Answered { verdict, reply })
     }
 
+    // Changes what is to be changed: nothing, for want of memory.
     #[tactic(auto, unfolding(crate::specs::inner::Courses::made))]
-    fn change(&mut self, session: u32, change: Change)
-        ensures { self.new ≡ course.made self.old session change }
+    fn change(&mut self, session: u32, change: Change) -> Result<(), Memory>
+        ensures made { OnOk result (self.new ≡ course.made self.old session change) }
+        ensures memory { OnErr result (self.new ≡ self.old) }
     {
         match change {
             Change::Nothing => {}
@@ -52,7 +54,10 @@ impl Server {
             } => self.confirm(session, rows, timeout, persist),
             Change::Revert => self.revert(),
             Change::Over { session } => self.end_session(session),
+            Change::GrantNodes { nodes } => return self.grant_nodes(session, nodes),
+            Change::ReleaseNodes { lock } => self.release_nodes(session, lock),
         }
+        Ok(())
     }
 
     /// Answers a request, and then changes what it changes: nothing, for want of memory.
@@ -68,7 +73,7 @@ impl Server {
         ensures memory { OnErr result (self.new ≡ self.old) }
     {
         let outcome = self.answered(request, verdict)?;
-        self.change(session, change);
+        self.change(session, change)?;
         Ok(outcome)
     }
 }

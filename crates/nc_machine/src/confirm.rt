@@ -14,8 +14,8 @@ use nc_pending::{Pending, PendingFault};
 use nc_protocol::{Cause, Datastore};
 use std::alloc::Global;
 
-// A cause that names a session.
-fn session_cause(alloc: Global, kind: CauseKind, number: u32) -> Result<Cause, Memory>
+/// A cause that names a session.
+pub(crate) fn session_cause(alloc: Global, kind: CauseKind, number: u32) -> Result<Cause, Memory>
     ensures { IfOk result (λ it. it ≡ plain_cause kind (decimal number ∷ [])) }
 {
     let mut buffer = Buffer::new();

@@ -6,7 +6,7 @@ ghost use Rattle.nc_machine.specs.declared.course.Course.TheVariants.{Answer};
 ghost use Rattle.nc_machine.specs.inner.Courses as course;
 
 use crate::causes::refused;
-use nc_names::{Memory, Text};
+use nc_names::{Many, Memory, Path, Text};
 use nc_protocol::{Cause, Datastore, Verdict};
 use nc_tree::Config;
 use std::alloc::Global;
@@ -40,6 +40,14 @@ pub(crate) enum Change {
     // A session is over: the one that asks, or the one that it kills.
     Over {
         session: u32,
+    },
+    // The session that asks gets a partial lock on nodes. It is the one change that takes memory.
+    GrantNodes {
+        nodes: Many<Path>,
+    },
+    // Its partial lock of that lock-id is released.
+    ReleaseNodes {
+        lock: u32,
     },
 }
 

@@ -25,8 +25,9 @@ fn is_offered(operation: Operation) -> bool
         | Operation::Commit
         | Operation::DiscardChanges
         | Operation::CancelCommit
-        | Operation::Validate => true,
-        _ => false,
+        | Operation::Validate
+        | Operation::PartialLock
+        | Operation::PartialUnlock => true,
     }
 }
 
@@ -90,7 +91,10 @@ impl Server {
             Asked::DiscardChanges => self.discard_course(session),
             Asked::CancelCommit { persist_id } => self.cancel_course(session, persist_id),
             Asked::Validate { source } => self.validate_course(source),
-            _ => self.unknown_course(),
+            Asked::PartialLock { selects } => {
+                self.partial_lock_course(session, selects.as_slice())
+            }
+            Asked::PartialUnlock { lock } => self.partial_unlock_course(session, *lock),
         }
     }
 

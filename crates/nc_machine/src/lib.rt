@@ -27,6 +27,7 @@ mod laws;
 mod locks;
 mod machine;
 mod own;
+mod partial;
 mod payload;
 mod server;
 mod sessions;

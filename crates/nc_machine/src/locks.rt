@@ -1,5 +1,5 @@
-//! The locks of datastores, and what may stand in the way of a change (RFC 6241 7.5, 7.6, 8.4.1; RFC 5717 2.5).
-//! No session can ask for a partial lock yet, so that none is held.
+//! The locks of datastores, and what may stand in the way of a change (RFC 6241 7.5, 7.6, 8.4.1; RFC 5717
+//! 2.5).
 ghost use Rattle.std.specs.Prelude.{◌≡◌, IfOk};
 ghost use Rattle.nc_model.specs.State.{is_held_by};
 ghost use Rattle.nc_model.specs.Verdict as meant;
@@ -58,9 +58,9 @@ impl Server {
 
     // ---- lock and unlock (RFC 6241 7.5, 7.6)
 
-    // Why a lock is not granted: a session holds it, also the same one.
+    /// Why a lock is not granted: a session holds it, also the same one.
     #[tactic(auto, using(crate::proofs::Held::not_held_yet, crate::proofs::Held::held_already))]
-    fn held_refusal(&self, target: Datastore) -> Result<Option<Cause>, Memory>
+    pub(crate) fn held_refusal(&self, target: Datastore) -> Result<Option<Cause>, Memory>
         ensures { IfOk result (λ it. it ≡ course.held_refusal self.now target) }
     {
         match self.holder(target) {
@@ -87,15 +87,23 @@ impl Server {
         }
     }
 
-    // Why running's is not granted: another session's commit is pending, or another session has a partial lock.
-    // None has.
-    #[tactic(auto, using(crate::proofs::Unlocked::running_by, crate::proofs::Unlocked::other_by))]
+    // Why running's is not granted: another session's commit is pending, or another session has a partial
+    // lock.
+    fn running_opposed(&self, session: u32) -> Result<Option<Cause>, Memory>
+        ensures { IfOk result (λ it. it ≡ course.running_opposed self.now session) }
+    {
+        if let Some(cause) = self.pending_of_other(session)? {
+            return Ok(Some(cause));
+        }
+        self.partly_locked(session)
+    }
+
+    #[tactic(auto, using(crate::proofs::NodeLocks::running_by, crate::proofs::NodeLocks::other_by))]
     fn running_refusal(&self, session: u32, target: Datastore) -> Result<Option<Cause>, Memory>
         ensures { IfOk result (λ it. it ≡ course.running_refusal self.now session target) }
     {
-        self.none_covers();
         match target {
-            Datastore::Running => self.pending_of_other(session),
+            Datastore::Running => self.running_opposed(session),
             _ => Ok(None),
         }
     }
@@ -158,21 +166,18 @@ impl Server {
     // ---- partial locks in the way
 
     /// Why a commit may not change what it changes: another session's partial lock has a node of it, or the
-    /// session has no right to it. No session has a partial lock, and no change is denied.
-    #[tactic(auto, using(crate::proofs::Unlocked::changes_are_free))]
+    /// session has no right to it. No change is denied.
+    #[tactic(auto, using(crate::proofs::NodeLocks::changes_by))]
     pub(crate) fn changes_refusal(&self, session: u32) -> Result<Option<Cause>, Memory>
         ensures { IfOk result (λ it. it ≡ course.changes_refusal self.now session) }
     {
-        self.none_covers();
-        Ok(None)
+        self.in_use_between(session, self.in_force())
     }
 
-    /// Why a cancel-commit may not change what it changes: another session's partial lock has a node of it. No
-    /// session has one.
+    /// Why a cancel-commit may not change what it changes: another session's partial lock has a node of it.
     pub(crate) fn reversion_refusal(&self, session: u32) -> Result<Option<Cause>, Memory>
         ensures { IfOk result (λ it. it ≡ course.reversion_refusal self.now session) }
     {
-        self.none_covers();
-        Ok(None)
+        self.in_use_between(session, self.base())
     }
 }

@@ -1,16 +1,16 @@
 //! The datastores, locks and sessions of the server, seen as the state of the definitions (RFC 6241 5.1,
-//! 7.5, 8.1, 8.3 and 8.4). Partial locks are not offered yet: in what is seen no session has one.
+//! 7.5, 8.1, 8.3 and 8.4; RFC 5717 2.1).
 ghost use Rattle.std.specs.Prelude.{◌≡◌, ◌≤◌, None, Some, IfOk, is_some, if◌then◌else◌};
 ghost use Rattle.nc_model.specs.State as state;
 ghost use Rattle.nc_model.specs.Step.{committed, with_candidate};
 ghost use Rattle.nc_model.specs.Verdict.{holder_of, is_candidate, stored};
 ghost use Rattle.nc_outside.specs.Clocks.{last_reading};
 ghost use Rattle.nc_machine.specs.inner.Courses as course;
-ghost use Rattle.nc_machine.specs.inner.Turns.{NoneCovers};
 
 use nc_locks::Locks;
 use nc_model::Session;
 use nc_names::{Many, Memory, Text};
+use nc_partial::PartialLocks;
 use nc_pending::{Pending, deadline_after};
 use nc_protocol::Datastore;
 use nc_schema::Schema;
@@ -34,11 +34,12 @@ pub(crate) struct Server {
     pub(crate) last: u32,
     faults: u64,
     locks: Locks,
+    pub(crate) partial: PartialLocks,
     pending: Option<Pending>,
 }
 
 impl Model for Server {
-    ghost use Rattle.std.specs.Prelude.{◌≤◌, [], length};
+    ghost use Rattle.std.specs.Prelude.{◌≤◌, length};
     ghost use Rattle.nc_model.specs.State.{State, most_sessions};
     ghost use Rattle.nc_outside.specs.Clocks.{last_reading};
 
@@ -53,9 +54,9 @@ impl Model for Server {
       last = s.last;
       faults = s.faults;
       holders = s.locks;
-      partial = [];
+      partial = s.partial.locks;
       pending = s.pending;
-      last_lock = 0;
+      last_lock = s.partial.last;
     } };
 
     ghost invariant = { λ s. (length s.sessions ≤ most_sessions) × (s.latest ≤ last_reading) };
@@ -82,6 +83,7 @@ impl Server {
             last: 0,
             faults,
             locks: Locks::new(),
+            partial: PartialLocks::new(alloc),
             pending: None,
         })
     }
@@ -96,13 +98,6 @@ impl Server {
         ensures { result.now ≡ self.now.schema }
     {
         &self.schema
-    }
-
-    /// Partial locks are not offered yet, so that none stands in the way.
-    pub(crate) fn none_covers(&self)
-        ensures { NoneCovers self.now }
-    {
-        let _ = &self.alloc;
     }
 
     /// The configuration of running.
@@ -272,6 +267,7 @@ impl Server {
     {
         self.discard_by(number);
         self.locks.end(number);
+        self.end_nodes(number);
     }
 
     // The pending commit, with the session that is over.

@@ -26,7 +26,7 @@ use Rattle.nc_protocol.specs.declared.asked.Asked.TheVariants.{Get, GetConfig, E
 use Rattle.nc_protocol.specs.declared.asked.Default3.{Default3}
 use Rattle.nc_protocol.specs.declared.asked.ErrorOption.{ErrorOption}
 use Rattle.nc_protocol.specs.declared.asked.Operation.{Operation}
-use Rattle.nc_protocol.specs.declared.asked.Operation.TheVariants.{Get as GetOperation, GetConfig as GetConfigOperation, EditConfig as EditConfigOperation, CopyConfig as CopyConfigOperation, DeleteConfig as DeleteConfigOperation, Lock as LockOperation, Unlock as UnlockOperation, CloseSession as CloseSessionOperation, KillSession as KillSessionOperation, Commit as CommitOperation, DiscardChanges as DiscardChangesOperation, CancelCommit as CancelCommitOperation, Validate as ValidateOperation}
+use Rattle.nc_protocol.specs.declared.asked.Operation.TheVariants.{Get as GetOperation, GetConfig as GetConfigOperation, EditConfig as EditConfigOperation, CopyConfig as CopyConfigOperation, DeleteConfig as DeleteConfigOperation, Lock as LockOperation, Unlock as UnlockOperation, CloseSession as CloseSessionOperation, KillSession as KillSessionOperation, Commit as CommitOperation, DiscardChanges as DiscardChangesOperation, CancelCommit as CancelCommitOperation, Validate as ValidateOperation, PartialLock as PartialLockOperation, PartialUnlock as PartialUnlockOperation}
 use Rattle.nc_protocol.specs.declared.asked.Select.{Select}
 use Rattle.nc_protocol.specs.declared.asked.TestOption.{TestOption}
 use Rattle.nc_protocol.specs.declared.asked.TestOption.TheVariants.{TestThenSet, Set, TestOnly}
@@ -69,7 +69,8 @@ is_offered CommitOperation = true
 is_offered DiscardChangesOperation = true
 is_offered CancelCommitOperation = true
 is_offered ValidateOperation = true
-is_offered operation = false
+is_offered PartialLockOperation = true
+is_offered PartialUnlockOperation = true
 
 -- the record of a configuration is larger than the server keeps
 abbrev pub is_too_large : List Row → Bool

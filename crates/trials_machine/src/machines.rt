@@ -9,6 +9,7 @@ mod confirm_tests;
 mod keeper_tests;
 mod locks_tests;
 mod named_tests;
+mod partial_tests;
 mod replies_tests;
 mod seats_tests;
 mod solo_tests;

@@ -1,15 +1,17 @@
 -- What a request comes to, and what that changes.
 use Rattle.std.specs.Prelude.{◌+◌, ◌&&◌, ℕ, Bool, true, false, not, if◌then◌else◌, List, [], ◌∷◌, Option, Some, None, is_some, option_map, Result, Ok, Err}
 use Rattle.std.specs.Option.{option_or}
-use Rattle.nc_names.specs.declared.cause.CauseKind.TheVariants.{UnknownOperation, UnsupportedTarget, BadParameter, BadToken, LockHeld, LockModified, NotHeld}
+use Rattle.nc_names.specs.declared.cause.CauseKind.TheVariants.{UnknownOperation, UnsupportedTarget, BadParameter, BadSelect, BadToken, LockHeld, LockModified, LockPending, NoMatch, NotHeld}
 use Rattle.nc_message.specs.declared.tree.Elem.{Elem}
+use Rattle.nc_names.specs.declared.path.Path.{Path}
 use Rattle.nc_names.specs.declared.path.Row.{Row}
 use Rattle.nc_schema.specs.Tables.{Tables}
 use Rattle.nc_protocol.specs.declared.asked.Asked.{Asked}
-use Rattle.nc_protocol.specs.declared.asked.Asked.TheVariants.{Get, GetConfig, EditConfig, CopyConfig, DeleteConfig, Lock, Unlock, CloseSession, KillSession, Commit as AsksCommit, DiscardChanges, CancelCommit, Validate}
+use Rattle.nc_protocol.specs.declared.asked.Asked.TheVariants.{Get, GetConfig, EditConfig, CopyConfig, DeleteConfig, Lock, Unlock, CloseSession, KillSession, Commit as AsksCommit, DiscardChanges, CancelCommit, Validate, PartialLock, PartialUnlock}
 use Rattle.nc_protocol.specs.declared.asked.Default3.{Default3}
 use Rattle.nc_protocol.specs.declared.asked.ErrorOption.{ErrorOption}
 use Rattle.nc_protocol.specs.declared.asked.Operation.{Operation}
+use Rattle.nc_protocol.specs.declared.asked.Select.{Select}
 use Rattle.nc_protocol.specs.declared.asked.TestOption.{TestOption}
 use Rattle.nc_protocol.specs.declared.asked.TestOption.TheVariants.{TestThenSet, Set, TestOnly}
 use Rattle.nc_protocol.specs.declared.datastore.Datastore.{Datastore}
@@ -17,19 +19,24 @@ use Rattle.nc_protocol.specs.declared.datastore.Datastore.TheVariants.{Running, 
 use Rattle.nc_protocol.specs.declared.datastore.Origin.{Origin}
 use Rattle.nc_protocol.specs.declared.request.Cause.{Cause}
 use Rattle.nc_protocol.specs.declared.request.Request.{Request}
-use Rattle.nc_protocol.specs.declared.verdict.Verdict.TheVariants.{Done, Selected, Refused}
+use Rattle.nc_protocol.specs.declared.verdict.Verdict.TheVariants.{Done, Selected, Locked, Refused}
 use Rattle.nc_protocol.specs.Applied.{Applied}
 use Rattle.nc_protocol.specs.Asking.{plain_cause}
 use Rattle.nc_protocol.specs.Edited.{cause_where}
-use Rattle.nc_model.specs.Access.{rights_of}
+use Rattle.nc_model.specs.Access.{rights_of, visible}
 use Rattle.nc_model.specs.State.{Pending, State, candidate_in_force, is_held_by, reverted, session_ended}
-use Rattle.nc_model.specs.Step.{milliseconds, rows_of_ok, with_candidate, with_holder}
+use Rattle.nc_model.specs.Step.{milliseconds, rows_of_ok, with_candidate, with_holder, with_partial, without_partial}
 use Rattle.nc_protocol.specs.Refusals as refusal
 use Rattle.nc_model.specs.Verdict as meant
 use Rattle.nc_protocol.specs.Words.{source_word}
+use Rattle.nc_partial.specs.declared.locks.PartialFault.{PartialFault}
+use Rattle.nc_partial.specs.declared.locks.PartialFault.TheVariants.{Memory as NoMemory}
+use Rattle.nc_partial.specs.Granted.{lock_given}
+use Rattle.nc_partial.specs.Granted as granting
+use Rattle.nc_partial.specs.Selects.{nodes_among, paths_of}
 use Rattle.nc_pending.specs.Pending as calls
 use Rattle.nc_machine.specs.declared.course.Change.{Change}
-use Rattle.nc_machine.specs.declared.course.Change.TheVariants.{Nothing, Candidate, Discard, Grant, Release, Confirm, Revert, Over}
+use Rattle.nc_machine.specs.declared.course.Change.TheVariants.{Nothing, Candidate, Discard, Grant, Release, Confirm, Revert, Over, GrantNodes, ReleaseNodes}
 use Rattle.nc_machine.specs.declared.course.Course.{Course}
 use Rattle.nc_machine.specs.declared.course.Course.TheVariants.{Answer, Commit}
 
@@ -84,7 +91,11 @@ held_refusal s target = option_map (meant.global_lock_cause LockHeld target) (me
 abbrev pub modified_refusal : State → Datastore → Option Cause
 modified_refusal s target = cause_where (meant.is_candidate target && is_some s.candidate) (plain_cause LockModified [])
 
--- or it is running's, and another session has a pending commit or a partial lock
+-- or another session has a pending commit or a partial lock
+abbrev pub running_opposed : State → ℕ → Option Cause
+running_opposed s session = option_or (meant.pending_of_other session s.pending) (meant.partly_locked s session)
+
+-- so it is where it is running's
 abbrev pub running_refusal : State → ℕ → Datastore → Option Cause
 running_refusal s session target =
     option_or (if meant.is_running target then meant.pending_of_other session s.pending else None)
@@ -163,6 +174,30 @@ abbrev pub done_unless : Option Cause → Change → Course
 done_unless None change = Answer Done change
 done_unless (Some cause) change = refused_course cause
 
+-- ---- partial locks
+
+-- why no node is locked, whichever they are: a commit is pending, or a session holds running's lock
+abbrev pub partly_hindered : State → Option Cause
+partly_hindered s =
+    option_or (option_map (meant.pending_cause LockPending) s.pending) (held_refusal s Running)
+
+-- what nodes come to, by what is told of them: they are locked, or that is refused
+abbrev pub told_course : List Path → Result ℕ PartialFault → Course
+told_course nodes (Ok lock) = Answer (Locked lock nodes) (GrantNodes nodes)
+told_course nodes (Err fault) = done_unless (granting.refusal (Err fault)) Nothing
+
+-- what the nodes that exist come to
+abbrev pub nodes_course : State → ℕ → List Path → Course
+nodes_course s session nodes =
+    if meant.is_none_of nodes then refused_course (plain_cause NoMatch [])
+    else told_course nodes (lock_given s session nodes)
+
+-- what the nodes that selects name come to, where each select names one
+abbrev pub selects_course : State → ℕ → Option (List Path) → Course
+selects_course s session None = refused_course (plain_cause BadSelect [])
+selects_course s session (Some paths) =
+    nodes_course s session (nodes_among s.schema (visible s session s.running) paths)
+
 -- each operation; the words are opaque, so that what is made of several of them stays short
 
 unfoldable pub get_course : State → ℕ → Option Elem → Course
@@ -199,6 +234,14 @@ unlock_course s session target = done_unless (unlock_refused s session target) (
 unfoldable pub kill_course : State → ℕ → ℕ → Course
 kill_course s session number = done_unless (meant.kill_refusal s session number) (Over number)
 
+unfoldable pub partial_lock_course : State → ℕ → List Select → Course
+partial_lock_course s session selects =
+    commit_course (partly_hindered s) (selects_course s session (paths_of s.schema selects))
+
+unfoldable pub partial_unlock_course : State → ℕ → ℕ → Course
+partial_unlock_course s session lock =
+    done_unless (meant.partial_unlock_refusal s session lock) (ReleaseNodes lock)
+
 unfoldable pub validate_course : State → Origin → Course
 validate_course s source = Answer (meant.validated s.schema (meant.rows_to_validate s source)) Nothing
 
@@ -225,7 +268,8 @@ asked_course s session (AsksCommit confirmed timeout persist persist_id) =
 asked_course s session (CancelCommit persist_id) = cancel_course s session persist_id
 asked_course s session DiscardChanges = discard_course s session
 asked_course s session (Validate source) = validate_course s source
-asked_course s session asked = unknown_course
+asked_course s session (PartialLock selects) = partial_lock_course s session selects
+asked_course s session (PartialUnlock lock) = partial_unlock_course s session lock
 
 abbrev pub course_on : State → ℕ → Result Asked Cause → Course
 course_on s session (Err cause) = refused_course cause
@@ -254,6 +298,23 @@ unlocked s session target = record s {
       if is_held_by session (meant.holder_of s.holders target) then with_holder s.holders target None else s.holders;
   candidate = if meant.is_candidate target then None else s.candidate;
 }
+
+-- memory was wanted: every other refusal is told before
+abbrev pub wants_memory : Result ℕ PartialFault → Bool
+wants_memory (Err NoMemory) = true
+wants_memory told = false
+
+-- the session has one partial lock more, where it gets one
+abbrev pub with_given : State → ℕ → List Path → Result ℕ PartialFault → State
+with_given s session nodes (Ok lock) = with_partial s session lock nodes
+with_given s session nodes (Err fault) = s
+
+unfoldable pub partly_granted : State → ℕ → List Path → State
+partly_granted s session nodes = with_given s session nodes (lock_given s session nodes)
+
+-- the partial lock is released, if it is the session's
+unfoldable pub partly_released : State → ℕ → ℕ → State
+partly_released s session lock = if meant.has_lock s session lock then without_partial s lock else s
 
 -- whether the end of a session reverts the pending commit
 abbrev pub is_reverted_by : Option Pending → ℕ → Bool
@@ -289,3 +350,5 @@ made s session (Release target) = unlocked s session target
 made s session (Confirm rows timeout persist) = confirming s session rows timeout persist
 made s session Revert = reverted s
 made s session (Over number) = session_ended s number
+made s session (GrantNodes nodes) = partly_granted s session nodes
+made s session (ReleaseNodes lock) = partly_released s session lock

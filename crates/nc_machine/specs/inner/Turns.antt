@@ -20,10 +20,6 @@ use Rattle.nc_model.specs.State.{State, base_of}
 use Rattle.nc_model.specs.Step.{CountsFaults, Fits, changed, committed, has_failed, next, outcome_of, reaches_disk}
 use Rattle.nc_protocol.specs.Refusals.{refused_for}
 
--- no partial lock is held
-pub record NoneCovers (s : State) : Type 0 where
-  pub partial : s.partial ≡ []
-
 -- a keeper keeps what the state says: it reads by the state's schema, where it has one; its base is what running is
 -- once no commit is pending; and the faults are its own
 pub record IsKeeping {K : Type 0} (schema : K → Option Tables) (base : K → List Row) (failures : K → ℕ) (s : State)

@@ -1,0 +1,6 @@
+use Rattle.std.proofs.Common.{ap, sym}
+use Rattle.nc_partial.specs.Granted.{granted_of}
+use Rattle.nc_machine.proofs.server.Server.next_lock.Goals as goal
+
+pub returns : goal.returns
+returns c = c.next_id.ensures c.args.self.now (ap granted_of (sym c.self.view_is))

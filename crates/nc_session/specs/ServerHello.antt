@@ -11,7 +11,7 @@ use Rattle.nc_message.specs.declared.tree.Tree.{Tree}
 use Rattle.nc_message.specs.Written.{written}
 use Rattle.nc_protocol.specs.Content.{base_name, made_element}
 use Rattle.nc_protocol.specs.Words.{session_id_word}
-use Rattle.nc_session.specs.Words.{hello_word, capabilities_word, capability_word, base_10, base_11, candidate_capability, confirmed_capability, rollback_capability, validate_capability, module_query, revision_query, features_query}
+use Rattle.nc_session.specs.Words.{hello_word, capabilities_word, capability_word, base_10, base_11, candidate_capability, confirmed_capability, rollback_capability, validate_capability, partial_lock_capability, module_query, revision_query, features_query}
 
 -- an element of the base namespace, without attributes; one round a text, as a part
 abbrev pub base_elem : List ℕ → List Part → Elem
@@ -23,7 +23,8 @@ text_elem name text = Child (base_elem name (Chars text ∷ []))
 -- the capabilities that are built
 abbrev pub built : List (List ℕ)
 built =
-    base_10 ∷ base_11 ∷ candidate_capability ∷ confirmed_capability ∷ rollback_capability ∷ validate_capability ∷ []
+    base_10 ∷ base_11 ∷ candidate_capability ∷ confirmed_capability ∷ rollback_capability ∷ validate_capability
+    ∷ partial_lock_capability ∷ []
 
 -- `&revision=..` where the module has a revision
 abbrev pub revision_part : List ℕ → List ℕ

@@ -31,6 +31,9 @@ rollback_capability = codes "urn:ietf:params:netconf:capability:rollback-on-erro
 unfoldable pub validate_capability : List ℕ
 validate_capability = codes "urn:ietf:params:netconf:capability:validate:1.1"
 
+unfoldable pub partial_lock_capability : List ℕ
+partial_lock_capability = codes "urn:ietf:params:netconf:capability:partial-lock:1.0"
+
 -- what a module's capability has after its namespace (RFC 6020 5.6.4)
 unfoldable pub module_query : List ℕ
 module_query = codes "?module="

@@ -104,6 +104,7 @@ fn built(alloc: Global) -> Result<Many<Part>, Memory>
     push_built(alloc, words::confirmed_commit(), &mut parts)?;
     push_built(alloc, words::rollback_on_error(), &mut parts)?;
     push_built(alloc, words::validate(), &mut parts)?;
+    push_built(alloc, words::partial_lock(), &mut parts)?;
     Ok(parts)
 }
 

@@ -74,6 +74,14 @@ pub(crate) fn validate() -> &'static str
     "urn:ietf:params:netconf:capability:validate:1.1"
 }
 
+// `urn:ietf:params:netconf:capability:partial-lock:1.0`
+#[tactic(auto, unfolding(crate::specs::Words::partial_lock_capability))]
+pub(crate) fn partial_lock() -> &'static str
+    ensures { result.now ≡ words.partial_lock_capability }
+{
+    "urn:ietf:params:netconf:capability:partial-lock:1.0"
+}
+
 // `?module=`
 #[tactic(auto, unfolding(crate::specs::Words::module_query))]
 pub(crate) fn module_query() -> &'static str

@@ -22,6 +22,7 @@ const SERVER_HELLO: &str = "<hello xmlns=\"urn:ietf:params:xml:ns:netconf:base:1
     <capability>urn:ietf:params:netconf:capability:confirmed-commit:1.1</capability>\
     <capability>urn:ietf:params:netconf:capability:rollback-on-error:1.0</capability>\
     <capability>urn:ietf:params:netconf:capability:validate:1.1</capability>\
+    <capability>urn:ietf:params:netconf:capability:partial-lock:1.0</capability>\
     </capabilities><session-id>1</session-id></hello>]]>]]>";
 
 // The reply of the small desk, which repeats no attributes.

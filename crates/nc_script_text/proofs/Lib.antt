@@ -1,0 +1,8 @@
+mod Cuts
+mod Named
+mod Feeds
+mod Mores
+mod Bodies
+mod Firsts
+mod Namings
+mod Ahead

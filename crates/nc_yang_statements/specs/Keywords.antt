@@ -112,7 +112,6 @@ is_refused Anydata = true
 is_refused Anyxml = true
 is_refused Must = true
 is_refused When = true
-is_refused Pattern = true
 is_refused Modifier = true
 is_refused Input = true
 is_refused Output = true

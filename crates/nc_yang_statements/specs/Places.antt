@@ -1,7 +1,7 @@
 -- Which statements may stand below which, and how often (RFC 7950 7, 14).
 use Rattle.std.specs.Prelude.{Bool, true, false}
 use Rattle.nc_yang_statements.specs.declared.keyword.Keyword.{Keyword}
-use Rattle.nc_yang_statements.specs.declared.keyword.Keyword.TheVariants.{Action, Base, Bit, Case, Choice, Config, Contact, Container, Default, Description, EnumName, ErrorAppTag, ErrorMessage, Extension, Feature, FractionDigits, Grouping, Identity, IfFeature, Import, Key, Leaf, LeafList, Length, List as ListWord, Mandatory, MaxElements, MinElements, Module, Namespace, Notification, OrderedBy, Organization, Path, Position, Prefix, Presence, Range, Reference, RequireInstance, Revision, RevisionDate, Rpc, Status, TypeName, Typedef, Unique, Units, Uses, Value, YangVersion}
+use Rattle.nc_yang_statements.specs.declared.keyword.Keyword.TheVariants.{Action, Base, Bit, Case, Choice, Config, Contact, Container, Default, Description, EnumName, ErrorAppTag, ErrorMessage, Extension, Feature, FractionDigits, Grouping, Identity, IfFeature, Import, Key, Leaf, LeafList, Length, List as ListWord, Mandatory, MaxElements, MinElements, Module, Namespace, Notification, OrderedBy, Organization, Path, Pattern, Position, Prefix, Presence, Range, Reference, RequireInstance, Revision, RevisionDate, Rpc, Status, TypeName, Typedef, Unique, Units, Uses, Value, YangVersion}
 use Rattle.nc_yang_statements.specs.declared.place.Count.{Count}
 use Rattle.nc_yang_statements.specs.declared.place.Count.TheVariants.{Never, Optional, Once, Any}
 
@@ -88,6 +88,7 @@ in_type RequireInstance = Optional
 in_type Base = Any
 in_type Bit = Any
 in_type EnumName = Any
+in_type Pattern = Any
 in_type TypeName = Any
 in_type keyword = Never
 
@@ -149,7 +150,7 @@ abbrev pub in_identity : Keyword → Count
 in_identity Base = Any
 in_identity keyword = guarded keyword
 
--- what may stand in a range or a length (RFC 7950 9.2.4, 9.4.4)
+-- what may stand in a range, a length or a pattern, but for a modifier (RFC 7950 9.2.4, 9.4.4, 9.4.5.1)
 abbrev pub in_restriction : Keyword → Count
 in_restriction ErrorMessage = Optional
 in_restriction ErrorAppTag = Optional
@@ -184,6 +185,7 @@ count_of Identity keyword = in_identity keyword
 count_of Feature keyword = guarded keyword
 count_of Range keyword = in_restriction keyword
 count_of Length keyword = in_restriction keyword
+count_of Pattern keyword = in_restriction keyword
 count_of EnumName keyword = in_enum keyword
 count_of Bit keyword = in_bit keyword
 count_of above keyword = Never

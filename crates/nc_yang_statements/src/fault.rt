@@ -23,6 +23,8 @@ pub enum ModuleWhy {
     BadArgument,
     /// It is past a limit of the server.
     TooMany,
+    /// The expression of a `pattern` that can be read is larger than the server takes (RFC 7950 9.4.5).
+    PatternRefused,
 }
 
 /// A rule that a module text breaks.

@@ -360,7 +360,6 @@ pub fn is_refused(keyword: Keyword) -> bool
         | Keyword::Anyxml
         | Keyword::Must
         | Keyword::When
-        | Keyword::Pattern
         | Keyword::Modifier
         | Keyword::Input
         | Keyword::Output

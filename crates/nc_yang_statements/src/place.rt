@@ -139,7 +139,8 @@ fn in_type(keyword: Keyword) -> Count
         | Keyword::Path
         | Keyword::Range
         | Keyword::RequireInstance => Count::Optional,
-        Keyword::Base | Keyword::Bit | Keyword::EnumName | Keyword::TypeName => Count::Any,
+        Keyword::Base | Keyword::Bit | Keyword::EnumName | Keyword::Pattern | Keyword::TypeName =>
+            Count::Any,
         _ => Count::Never,
     }
 }
@@ -234,7 +235,8 @@ fn in_identity(keyword: Keyword) -> Count
     }
 }
 
-// How often it may stand there: what may stand in a range or a length (RFC 7950 9.2.4, 9.4.4).
+// How often it may stand there: what may stand in a range, a length or a pattern, but for a modifier
+// (RFC 7950 9.2.4, 9.4.4, 9.4.5.1).
 fn in_restriction(keyword: Keyword) -> Count
     ensures { result ≡ places.in_restriction keyword }
 {
@@ -283,7 +285,7 @@ pub fn count_of(above: Keyword, keyword: Keyword) -> Count
         Keyword::Grouping => in_grouping(keyword),
         Keyword::Uses | Keyword::Feature => guarded(keyword),
         Keyword::Identity => in_identity(keyword),
-        Keyword::Range | Keyword::Length => in_restriction(keyword),
+        Keyword::Range | Keyword::Length | Keyword::Pattern => in_restriction(keyword),
         Keyword::EnumName => in_enum(keyword),
         Keyword::Bit => in_bit(keyword),
         _ => Count::Never,

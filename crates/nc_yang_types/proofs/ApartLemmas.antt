@@ -18,6 +18,7 @@ use Rattle.nc_yang_statements.specs.Statements.{below, name}
 use Rattle.nc_yang_types.specs.declared.member.Listed.TheVariants.{Flags}
 use Rattle.nc_yang_types.specs.Entries.{misused, own_faults}
 use Rattle.nc_yang_types.specs.Parts.{misshapen}
+use Rattle.nc_yang_types.specs.Patterns.{ill_patterns}
 use Rattle.nc_yang_types.specs.Members.{bit_names, gives_name, has_name, higher, ill_listed, is_member, misnumbered, number_at, numbered, renamed, with_bit, with_bits}
 
 abbrev names : List (ℤ × List ℕ) → List (List ℕ)
@@ -156,6 +157,6 @@ more_apart stands (s ∷ ss) before high bits off stand h =
 -- the names of the bits of a type that breaks no rule
 pub names_apart : (stands : Statement → Bool) (s : Statement) → own_faults Bits s ≡ [] → AllPairs (λ one later. one ≢ later) (bit_names stands (below s))
 names_apart stands s off =
-    let ill : ill_listed Flags (below s) ≡ [] = right_none (misshapen Bits s) (misused Bits (below s)) off in
+    let ill : ill_listed Flags (below s) ≡ [] = right_none (ill_patterns (below s)) (misused Bits (below s)) (right_none (misshapen Bits s) (ill_patterns (below s) ++ misused Bits (below s)) off) in
     all_apart (bit_names stands (below s))
     (more_apart stands (below s) [] None [] (left_none (renamed Flags [] (below s)) (misnumbered Flags [] (numbered Flags None (below s))) ill) tt tt)

@@ -22,6 +22,7 @@ use Rattle.nc_yang_types.specs.declared.bound.Counted.TheVariants.{Units, Length
 use Rattle.nc_yang_types.specs.Entries.{decimal, decimals, digits_by, digits_in, digits_of, ill_digits, ill_digits_by, integers, lengths, misnarrowed, misread_by, misread_units, misused, narrowed, narrowed_faults, own, own_faults, restricted_by}
 use Rattle.nc_yang_types.specs.Laws.{needs_names}
 use Rattle.nc_yang_types.specs.Parts.{foreign, foreign_over, lacking, misshapen}
+use Rattle.nc_yang_types.specs.Patterns.{ill_patterns}
 use Rattle.nc_yang_types.specs.Ranges.{are_ascending, are_parts, holds, is_tight, lies_in, parts_of, restriction, whole_of}
 
 empty_left : {A : Type 0} (xs ys : List A) → xs ++ ys ≡ [] → xs ≡ []
@@ -67,10 +68,13 @@ decimal_gives None ss some e = absurd (cc)
 decimal_gives (Some digits) ss some e =
     map_gives (λ among. Decimal digits among) (restricted_by (Units digits) decimals (part Range ss)) (misread_gives (Units digits) decimals (part Range ss) e)
 
+used : (built_in : BuiltIn) (s : Statement) → own_faults built_in s ≡ [] → misused built_in (below s) ≡ []
+used built_in s e = empty_right (ill_patterns (below s)) (misused built_in (below s)) (empty_right (misshapen built_in s) (ill_patterns (below s) ++ misused built_in (below s)) e)
+
 over_decimal : (s : Statement) → own_faults Decimal64 s ≡ [] → IsSome (decimal (digits_of (below s)) (below s))
 over_decimal s e =
-    let shape : misshapen Decimal64 s ≡ [] = empty_left (misshapen Decimal64 s) (misused Decimal64 (below s)) e in
-    let asked : misused Decimal64 (below s) ≡ [] = empty_right (misshapen Decimal64 s) (misused Decimal64 (below s)) e in
+    let shape : misshapen Decimal64 s ≡ [] = empty_left (misshapen Decimal64 s) (ill_patterns (below s) ++ misused Decimal64 (below s)) e in
+    let asked : misused Decimal64 (below s) ≡ [] = used Decimal64 s e in
     let lacks : lacking Decimal64 s ≡ [] = empty_right (foreign Decimal64 (below s)) (lacking Decimal64 s) shape in
     let stands : has FractionDigits (below s) ≡ true = stands_there (has FractionDigits (below s)) s lacks in
     decimal_gives (digits_of (below s)) (below s)
@@ -79,9 +83,6 @@ over_decimal s e =
 
 integer_gives : (built_in : BuiltIn) (ss : List Statement) → misread_by (Units 0) (integers built_in) (part Range ss) ≡ [] → IsSome (option_map Whole (restricted_by (Units 0) (integers built_in) (part Range ss)))
 integer_gives built_in ss e = map_gives Whole (restricted_by (Units 0) (integers built_in) (part Range ss)) (misread_gives (Units 0) (integers built_in) (part Range ss) e)
-
-used : (built_in : BuiltIn) (s : Statement) → own_faults built_in s ≡ [] → misused built_in (below s) ≡ []
-used built_in s e = empty_right (misshapen built_in s) (misused built_in (below s)) e
 
 pub own_gives : (stands : Statement → Bool) (built_in : BuiltIn) (s : Statement) → needs_names built_in ≡ false → own_faults built_in s ≡ [] → IsSome (own stands built_in (below s))
 own_gives stands Binary s free e = map_gives Octets (restricted_by Lengths lengths (part Length (below s))) (misread_gives Lengths lengths (part Length (below s)) (used Binary s e))
@@ -105,7 +106,7 @@ own_gives stands Uint64 s free e = integer_gives Uint64 (below s) (used Uint64 s
 own_gives stands Union s free e = absurd (cc)
 
 narrow_used : (base : ValueType) (ss : List Statement) → narrowed_faults base ss ≡ [] → misnarrowed base ss ≡ []
-narrow_used base ss e = empty_right (foreign_over base ss) (misnarrowed base ss) e
+narrow_used base ss e = empty_right (ill_patterns ss) (misnarrowed base ss) (empty_right (foreign_over base ss) (ill_patterns ss ++ misnarrowed base ss) e)
 
 pub narrowed_gives : (base : ValueType) (ss : List Statement) → narrowed_faults base ss ≡ [] → IsSome (narrowed base ss)
 narrowed_gives (Whole among) ss e = map_gives Whole (restricted_by (Units 0) among (part Range ss)) (misread_gives (Units 0) among (part Range ss) (narrow_used (Whole among) ss e))

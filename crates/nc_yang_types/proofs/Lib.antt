@@ -6,3 +6,4 @@ pub mod InsideLemmas
 pub mod LawLemmas
 pub mod OrderLemmas
 pub mod ApartLemmas
+pub mod PatternLemmas

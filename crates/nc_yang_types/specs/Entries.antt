@@ -20,6 +20,7 @@ use Rattle.nc_yang_types.specs.declared.bound.Counted.TheVariants.{Units, Length
 use Rattle.nc_yang_types.specs.declared.member.Listed.TheVariants.{Enums, Flags}
 use Rattle.nc_yang_types.specs.Members.{bit_names, enum_names, ill_listed}
 use Rattle.nc_yang_types.specs.Parts.{foreign_over, misshapen}
+use Rattle.nc_yang_types.specs.Patterns.{ill_patterns}
 use Rattle.nc_yang_types.specs.Ranges.{restriction}
 
 -- the numbers from one to another
@@ -113,14 +114,15 @@ misused Union ss = []
 misused built_in ss = misread (Units 0) Range (integers built_in) ss
 
 abbrev pub own_faults : BuiltIn → Statement → List Fault
-own_faults built_in s = misshapen built_in s ++ misused built_in (below s)
+own_faults built_in s = misshapen built_in s ++ (ill_patterns (below s) ++ misused built_in (below s))
 
 abbrev pub decimal : Option ℕ → List Statement → Option ValueType
 decimal None ss = None
 decimal (Some digits) ss = option_map (λ among. Decimal digits among) (restricted (Units digits) Range decimals ss)
 
 -- the entry of a built-in type with these parts; a type over identities, paths or other types has none by itself.
--- `stands` are the conditions of names (RFC 7950 7.20.2)
+-- `stands` are the conditions of names (RFC 7950 7.20.2). The patterns of a string are no part of it: they have no
+-- numbers yet
 abbrev pub own : (stands : Statement → Bool) → BuiltIn → List Statement → Option ValueType
 own stands Binary ss = option_map Octets (restricted Lengths Length lengths ss)
 own stands Bits ss = Some (Set (bit_names stands ss))
@@ -144,7 +146,7 @@ misnarrowed (Octets among) ss = misread Lengths Length among ss
 misnarrowed base ss = []
 
 abbrev pub narrowed_faults : ValueType → List Statement → List Fault
-narrowed_faults base ss = foreign_over base ss ++ misnarrowed base ss
+narrowed_faults base ss = foreign_over base ss ++ (ill_patterns ss ++ misnarrowed base ss)
 
 -- the entry of a type over another
 abbrev pub narrowed : ValueType → List Statement → Option ValueType

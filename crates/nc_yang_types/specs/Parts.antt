@@ -10,7 +10,7 @@ use Rattle.nc_yang_statements.specs.declared.fault.Fault.{Fault}
 use Rattle.nc_yang_statements.specs.declared.fault.ModuleWhy.{ModuleWhy}
 use Rattle.nc_yang_statements.specs.declared.fault.ModuleWhy.TheVariants.{UnknownStatement, Unsupported, Missing}
 use Rattle.nc_yang_statements.specs.declared.keyword.Keyword.{Keyword}
-use Rattle.nc_yang_statements.specs.declared.keyword.Keyword.TheVariants.{Base, TypeName, Range, Length, EnumName, Bit, FractionDigits, Path, RequireInstance}
+use Rattle.nc_yang_statements.specs.declared.keyword.Keyword.TheVariants.{Base, TypeName, Range, Length, Pattern, EnumName, Bit, FractionDigits, Path, RequireInstance}
 use Rattle.nc_yang_statements.specs.Keywords.{is_closed, is_same_keyword}
 use Rattle.nc_yang_statements.specs.Rules.{at, at_if}
 use Rattle.nc_yang_statements.specs.Statements.{below, has, kind}
@@ -26,7 +26,7 @@ takes Enumeration keyword = is_same_keyword EnumName keyword
 takes IdentityRef keyword = is_same_keyword Base keyword
 takes InstanceIdentifier keyword = is_same_keyword RequireInstance keyword
 takes LeafRef keyword = is_same_keyword Path keyword || is_same_keyword RequireInstance keyword
-takes Chars keyword = is_same_keyword Length keyword
+takes Chars keyword = is_same_keyword Length keyword || is_same_keyword Pattern keyword
 takes Union keyword = is_same_keyword TypeName keyword
 takes built_in keyword = is_same_keyword Range keyword
 
@@ -44,7 +44,8 @@ needs built_in = None
 abbrev pub narrows : ValueType → Keyword → Bool
 narrows (Whole among) keyword = is_same_keyword Range keyword
 narrows (Decimal digits among) keyword = is_same_keyword Range keyword
-narrows (String lengths starless patterns) keyword = is_same_keyword Length keyword
+narrows (String lengths starless patterns) keyword =
+    is_same_keyword Length keyword || is_same_keyword Pattern keyword
 narrows (Octets lengths) keyword = is_same_keyword Length keyword
 narrows (Leafref target above required) keyword = is_same_keyword RequireInstance keyword
 narrows (Instance required) keyword = is_same_keyword RequireInstance keyword

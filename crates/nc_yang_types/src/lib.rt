@@ -4,10 +4,11 @@
 //! another type.
 //!
 //! It stands on the statements of nc_yang_words, the rules of single ones in nc_yang_statements, which are
-//! kept, on the types of nc_schema, and on nc_types for the numbers in a range. Nothing here looks a name up.
+//! kept, on the types of nc_schema, on nc_types for the numbers in a range, and on nc_patterns, by which each
+//! `pattern` statement is read. Nothing here looks a name up.
 //!
-//! `own` and `narrowed` promise the entry exactly where the definitions list no fault, and else the first
-//! fault of their list. The folders of cases/ test them.
+//! `own` and `narrowed` promise the entry, without patterns, exactly where the definitions list no fault, and
+//! else the first fault of their list. The folders of cases/ test them.
 #![tactic(auto)]
 
 mod bound;
@@ -22,6 +23,7 @@ mod numbers;
 mod over_built_in;
 mod over_type;
 mod part;
+mod patterns;
 mod range;
 mod restricted;
 

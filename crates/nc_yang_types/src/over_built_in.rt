@@ -15,6 +15,7 @@ use crate::integer::{decimals, integers, lengths};
 use crate::listed::{bit_names, enum_names, ill_listed};
 use crate::member::Listed;
 use crate::part::misshapen;
+use crate::patterns::keep_patterns;
 use crate::restricted::{digits_of, required, restricted};
 use nc_names::{Many, Text};
 use nc_schema::{Between, ValueType};
@@ -156,8 +157,9 @@ fn entry<'a, C: Conditions<'a>>(
 
 /// The entry of a `type` statement over a built-in type, by its own parts; `None` of `identityref`,
 /// `leafref` and `union`, which need what other names mean (RFC 7950 9). The fault is the first of those
-/// that it has: of what parts stand there, and then of what they say. Of an enumeration and of bits those
-/// names are left out whose conditions do not hold.
+/// that it has: of what parts stand there, then a pattern that cannot be read, and then of what the others
+/// say. Of an enumeration and of bits those names are left out whose conditions do not hold; a string has no
+/// patterns yet, since these have no numbers.
 #[tactic(auto, using(crate::proofs::Firsts::first_some, crate::proofs::Firsts::first_none, crate::proofs::Firsts::nothing_first, crate::proofs::Firsts::nothing_more))]
 pub fn own<'a, C: Conditions<'a>>(
     alloc: Global,
@@ -174,5 +176,7 @@ pub fn own<'a, C: Conditions<'a>>(
     if let Some(fault) = misshapen(built_in, statement) {
         return Err(Stop::Broken(fault));
     }
-    entry(alloc, conditions, built_in, statement.below.as_slice())
+    let below = statement.below.as_slice();
+    keep_patterns(alloc, below)?;
+    entry(alloc, conditions, built_in, below)
 }

@@ -7,6 +7,7 @@ ghost use Rattle.nc_yang_statements.specs.Stops.{OnBroken};
 
 use crate::bound::Counted;
 use crate::part::foreign_over;
+use crate::patterns::keep_patterns;
 use crate::restricted::{narrower, required};
 use nc_names::{Copies, Many};
 use nc_schema::{Between, ValueType};
@@ -137,8 +138,8 @@ fn entry_over(
 
 /// The entry of a `type` statement over another type whose entry is `base`, by its own parts; `None` where
 /// nothing narrows it, and it is that of the other type (RFC 7950 9.2.3, 9.3.3, 9.4.3, 9.8.1, 9.9.3,
-/// 9.13.1). The fault is the first of those that it has: a part that the type has not, and then a range or
-/// a length that may not stand there.
+/// 9.13.1). The patterns are those of the base. The fault is the first of those that it has: a part that the
+/// type has not, then a pattern that cannot be read, and then a range or a length that may not stand there.
 #[tactic(auto, using(crate::proofs::Firsts::first_some, crate::proofs::Firsts::first_none, crate::proofs::Firsts::nothing_first, crate::proofs::Firsts::nothing_more))]
 pub fn narrowed(
     alloc: Global,
@@ -153,5 +154,6 @@ pub fn narrowed(
     if let Some(fault) = foreign_over(base, below) {
         return Err(Stop::Broken(fault));
     }
+    keep_patterns(alloc, below)?;
     entry_over(alloc, base, below)
 }

@@ -25,7 +25,10 @@ pub fn takes(built_in: BuiltIn, keyword: Keyword) -> bool
     ensures { result ≡ parts.takes built_in keyword }
 {
     match built_in {
-        BuiltIn::Binary | BuiltIn::Chars => is_same_keyword(Keyword::Length, keyword),
+        BuiltIn::Binary => is_same_keyword(Keyword::Length, keyword),
+        BuiltIn::Chars => {
+            is_same_keyword(Keyword::Length, keyword) || is_same_keyword(Keyword::Pattern, keyword)
+        }
         BuiltIn::Bits => is_same_keyword(Keyword::Bit, keyword),
         BuiltIn::Boolean | BuiltIn::Empty => false,
         BuiltIn::Decimal64 => {
@@ -67,9 +70,10 @@ pub fn narrows(base: &ValueType, keyword: Keyword) -> bool
         ValueType::Whole { .. } | ValueType::Decimal { .. } => {
             is_same_keyword(Keyword::Range, keyword)
         }
-        ValueType::Chars { .. } | ValueType::Binary { .. } => {
-            is_same_keyword(Keyword::Length, keyword)
+        ValueType::Chars { .. } => {
+            is_same_keyword(Keyword::Length, keyword) || is_same_keyword(Keyword::Pattern, keyword)
         }
+        ValueType::Binary { .. } => is_same_keyword(Keyword::Length, keyword),
         ValueType::Leafref { .. } | ValueType::Instance { .. } => {
             is_same_keyword(Keyword::RequireInstance, keyword)
         }

@@ -8,6 +8,7 @@ use Rattle.nc_schema.specs.declared.value_type.ValueType.{ValueType}
 use Rattle.nc_yang_words.specs.declared.statement.Statement.{Statement}
 use Rattle.nc_yang_statements.specs.declared.built_in.BuiltIn.{BuiltIn}
 use Rattle.nc_yang_statements.specs.declared.built_in.BuiltIn.TheVariants.{IdentityRef, LeafRef, Union}
+use Rattle.nc_yang_statements.specs.declared.keyword.Keyword.TheVariants.{Pattern}
 use Rattle.nc_yang_statements.specs.declared.fault.Fault.{Fault}
 use Rattle.nc_yang_statements.specs.Rules.{first}
 use Rattle.nc_yang_statements.specs.Statements.{below}
@@ -21,8 +22,8 @@ use Rattle.nc_yang_statements.specs.declared.stop.Stop.{Stop}
 use Rattle.nc_yang_statements.specs.declared.stop.Stop.TheVariants.{Broken as BrokenType}
 use Rattle.nc_yang_meanings.specs.Features.{stands}
 use Rattle.nc_yang_meanings.specs.Meanings.{meant}
-use Rattle.nc_yang_meanings.specs.Numbers.{OnNumber}
-use Rattle.nc_yang_meanings.specs.Places.{built_in}
+use Rattle.nc_yang_meanings.specs.Numbers.{AreNumbers, OnNumber}
+use Rattle.nc_yang_meanings.specs.Places.{built_in, parts_of}
 use Rattle.nc_yang_meanings.specs.inner.Footings.{AreFootings, IsFooting}
 use Rattle.nc_yang_meanings.specs.inner.Planning.{ArePlan, AreSoFar, HasBase, IsFound, IsOverBase, IsReady, StandsInText, Steps, footing_at, meant_with}
 use Rattle.nc_yang_meanings.specs.declared.footing.Footing.{Footing}
@@ -66,14 +67,15 @@ module _ (scoping : Scoping) (n : ℕ) (s : Statement) (number : HasNumber scopi
         (subst (λ z. first (own_faults one z) ≡ Some fault) (sym (statement_is scoping n s l number here)) (subst (λ z. OnBroken (λ (f : Fault). first (own_faults one s) ≡ Some f) z) field_is is))
 
   -- of a type over another
-  pub look_type : (on : ℕ → List ℕ → Bool) (meanings : Meanings) (base : ℕ) (footing : Footing) → footing ≡ OnType base → (ss : List Statement) → ss ≡ below s → (r : Result Found Memory) → IfOk r (IsOverBase meanings base ss) →
+  pub look_type : (on : ℕ → List ℕ → Bool) (meanings : Meanings) (base : ℕ) (footing : Footing) → footing ≡ OnType base → (own : List ℕ) →
+      OnNumber scoping n (λ l. AreNumbers scoping.located own (parts_of Pattern l)) → (ss : List Statement) → ss ≡ below s → (r : Result Found Memory) → IfOk r (IsOverBase meanings base own ss) →
       IfOk r (λ it. OnNumber scoping n (λ l. IsFooting scoping l footing → HasBase on scoping meanings footing → IsFound on scoping meanings.plans l it))
-  look_type on meanings base footing is ss ss_is (Err e) h = tt
-  look_type on meanings base footing is ss ss_is (Ok it) h = λ l here foot has.
+  look_type on meanings base footing is own are ss ss_is (Err e) h = tt
+  look_type on meanings base footing is own are ss ss_is (Ok it) h = λ l here foot has.
       let f = subst (IsFooting scoping l) is foot in
       let same = statement_is scoping n s l number here in
-      over_number on scoping l f.1.0 f.1.2 meanings base it
-      (subst (λ z. IsOverBase meanings base z it) (ss_is ∙ ap below (sym same)) h)
+      over_number on scoping l f.1.0 f.1.2 own (are l here) meanings base it
+      (subst (λ z. IsOverBase meanings base own z it) (ss_is ∙ ap below (sym same)) h)
       (subst (HasBase on scoping meanings) is has f.1.0 f.1.1)
 
 pub look_nothing : (on : ℕ → List ℕ → Bool) (scoping : Scoping) (meanings : Meanings) (n : ℕ) (footing : Footing) → footing ≡ OnNothing →

@@ -1,12 +1,13 @@
 -- Meanings and faults of `type` statements.
-use Rattle.std.proofs.Common.{inl, inr, ◌≡◌, ℕ, true, false, cond, List, [], refl, sym, ap, ◌∙◌, subst}
+use Rattle.std.proofs.Common.{inl, inr, ◌≡◌, ℕ, true, false, cond, List, [], ◌++◌, map, refl, sym, ap, ◌∙◌, subst}
 use Rattle.std.specs.Prelude.{Bool, is_some, Option, Some, None, IsSomeAnd, option_map, slice_get, Contains, ◌⊎◌}
+use Rattle.std.proofs.lemmas.List.{map-append}
 use Rattle.nc_schema.specs.declared.value_type.ValueType.{ValueType}
 use Rattle.nc_yang_words.specs.declared.statement.Statement.{Statement}
 use Rattle.nc_yang_statements.specs.declared.built_in.BuiltIn.{BuiltIn}
 use Rattle.nc_yang_statements.specs.declared.fault.Fault.{Fault}
 use Rattle.nc_yang_statements.specs.Rules.{first}
-use Rattle.nc_yang_statements.specs.declared.keyword.Keyword.TheVariants.{TypeName}
+use Rattle.nc_yang_statements.specs.declared.keyword.Keyword.TheVariants.{Pattern, TypeName}
 use Rattle.nc_yang_statements.specs.BuiltIns.{built_in_of}
 use Rattle.nc_yang_statements.specs.Keywords.{is_same_keyword}
 use Rattle.nc_yang_statements.specs.Statements.{below, kind, name}
@@ -15,7 +16,8 @@ use Rattle.nc_yang_order.proofs.Lists.{contains_none}
 use Rattle.nc_yang_scopes.specs.Scopes.{Located, Scoping}
 use Rattle.nc_yang_types.specs.Entries.{narrowed, narrowed_faults, own_faults, required}
 use Rattle.nc_yang_meanings.specs.Meanings.{Breaks, DerivedFrom, Entry, Meaning, Means, OneOf, Refers, by_itself, in_itself, meant, over, over_base, shape, with_parts}
-use Rattle.nc_yang_meanings.specs.Places.{base_of, built_in, of_typedef}
+use Rattle.nc_yang_meanings.specs.Numbers.{AreNumbers}
+use Rattle.nc_yang_meanings.specs.Places.{base_of, built_in, of_typedef, parts_of}
 use Rattle.nc_yang_meanings.specs.Plans.{IsFinding, IsPlan, MeansNothing}
 use Rattle.nc_yang_meanings.specs.inner.Planning.{ArePlan, IsFound, IsOver, IsOverBase, planned_over, shape_of}
 use Rattle.nc_yang_meanings.specs.declared.found.Found.{Found}
@@ -47,7 +49,7 @@ pub record OverBase (on : ℕ → List ℕ → Bool) (texts : List Statement) (l
   pub meaning : Meaning
   pub means : Means on texts base meaning
   pub kept : narrowed_faults (shape meaning) (below l.statement) ≡ []
-  pub is : with_parts meaning (below l.statement) ≡ Some m
+  pub is : with_parts meaning l ≡ Some m
 
 pub how_means : (on : ℕ → List ℕ → Bool) (texts : List Statement) (l : Located) (m : Meaning) → Means on texts l m → ByItself on texts l m ⊎ OverBase on texts l m
 how_means on texts _ _ (by_itself l one m built kept is) = inl (record { one = one; built = built; kept = kept; is = is })
@@ -64,7 +66,7 @@ means_one on texts _ _ n (over l base k m base_is means kept is) other = elim (h
   | inr z ↦
       let same : z.base ≡ base = (let a = z.base_is in cc) in
       let one : k ≡ z.meaning = means_one on texts base k z.meaning means (subst (λ b. Means on texts b z.meaning) same z.means) in
-      let e : with_parts z.meaning (below l.statement) ≡ Some m = subst (λ j. with_parts j (below l.statement) ≡ Some m) one is in
+      let e : with_parts z.meaning l ≡ Some m = subst (λ j. with_parts j l ≡ Some m) one is in
       let f = z.is in cc
 ]
 
@@ -138,53 +140,64 @@ module _ (on : ℕ → List ℕ → Bool) (scoping : Scoping) (l : Located) (one
 
 -- a plan over another
 same_shape : (located : List Located) (planned : Planned) (m : Meaning) → IsPlan located planned m → shape_of planned ≡ shape m
-same_shape located (Finished entry) (Entry other) is = is
-same_shape located (Finished entry) (OneOf ls) is = absurd is
-same_shape located (Finished entry) (DerivedFrom ls) is = absurd is
-same_shape located (Finished entry) (Refers path need) is = absurd is
-same_shape located (Members ns) (Entry other) is = absurd is
+same_shape located (Finished entry ns) (Entry other ps) is = is.0
+same_shape located (Finished entry ns) (OneOf ls) is = absurd is
+same_shape located (Finished entry ns) (DerivedFrom ls) is = absurd is
+same_shape located (Finished entry ns) (Refers path need) is = absurd is
+same_shape located (Members ns) (Entry other ps) is = absurd is
 same_shape located (Members ns) (OneOf ls) is = refl
 same_shape located (Members ns) (DerivedFrom ls) is = absurd is
 same_shape located (Members ns) (Refers path need) is = absurd is
-same_shape located (Bases ns) (Entry other) is = absurd is
+same_shape located (Bases ns) (Entry other ps) is = absurd is
 same_shape located (Bases ns) (OneOf ls) is = absurd is
 same_shape located (Bases ns) (DerivedFrom ls) is = refl
 same_shape located (Bases ns) (Refers path need) is = absurd is
-same_shape located (Leafref n b) (Entry other) is = absurd is
+same_shape located (Leafref n b) (Entry other ps) is = absurd is
 same_shape located (Leafref n b) (OneOf ls) is = absurd is
 same_shape located (Leafref n b) (DerivedFrom ls) is = absurd is
 same_shape located (Leafref n b) (Refers path need) is = ap (λ z. shape (Refers path z)) is.1
 
--- with the parts of a type over it
-with_plan : (located : List Located) (ss : List Statement) (planned other : Planned) (n : Meaning) → IsPlan located planned n → planned_over planned ss ≡ Some other →
-    (m : Meaning) × (with_parts n ss ≡ Some m) × IsPlan located other m
-with_plan located ss (Finished entry) other (Entry base) is e = by (narrowed entry ss) refl e
+-- the numbers of statements, and of others after them
+numbers_more : (located : List Located) (ns ms : List ℕ) (ls ks : List Located) → AreNumbers located ns ls → AreNumbers located ms ks → AreNumbers located (ns ++ ms) (ls ++ ks)
+numbers_more located ns ms ls ks first more =
+    map-append (slice_get located) ns ms ∙ ap (λ z. z ++ map (slice_get located) ms) first ∙ ap (λ z. map Some ls ++ z) more
+    ∙ sym (map-append Some ls ks)
+
+-- with the patterns and the parts of a type over it
+with_plan : (located : List Located) (l : Located) (own : List ℕ) (planned other : Planned) (n : Meaning) → AreNumbers located own (parts_of Pattern l) → IsPlan located planned n →
+    planned_over planned own (below l.statement) ≡ Some other → (m : Meaning) × (with_parts n l ≡ Some m) × IsPlan located other m
+with_plan located l own (Finished entry ns) other (Entry base ps) are is e = by (narrowed entry (below l.statement)) refl e
   where
-    by : (o : Option ValueType) → narrowed entry ss ≡ o → option_map Finished o ≡ Some other → (m : Meaning) × (with_parts (Entry base) ss ≡ Some m) × IsPlan located other m
+    by : (o : Option ValueType) → narrowed entry (below l.statement) ≡ o → option_map (λ left. Finished left (ns ++ own)) o ≡ Some other →
+        (m : Meaning) × (with_parts (Entry base ps) l ≡ Some m) × IsPlan located other m
     by None f e = absurd (cc)
     by (Some v) f e =
-        let same : Finished v ≡ other = cc in
-        (Entry v, ap (λ z. option_map Entry (narrowed z ss)) (sym is) ∙ ap (option_map Entry) f, subst (λ z. IsPlan located z (Entry v)) same refl)
-with_plan located ss (Finished entry) other (OneOf ls) is e = absurd is
-with_plan located ss (Finished entry) other (DerivedFrom ls) is e = absurd is
-with_plan located ss (Finished entry) other (Refers path need) is e = absurd is
-with_plan located ss (Members ns) other (Entry base) is e = absurd is
-with_plan located ss (Members ns) other (OneOf ls) is e = let same : Members ns ≡ other = cc in (OneOf ls, refl, subst (λ z. IsPlan located z (OneOf ls)) same is)
-with_plan located ss (Members ns) other (DerivedFrom ls) is e = absurd is
-with_plan located ss (Members ns) other (Refers path need) is e = absurd is
-with_plan located ss (Bases ns) other (Entry base) is e = absurd is
-with_plan located ss (Bases ns) other (OneOf ls) is e = absurd is
-with_plan located ss (Bases ns) other (DerivedFrom ls) is e = let same : Bases ns ≡ other = cc in (DerivedFrom ls, refl, subst (λ z. IsPlan located z (DerivedFrom ls)) same is)
-with_plan located ss (Bases ns) other (Refers path need) is e = absurd is
-with_plan located ss (Leafref n b) other (Entry base) is e = absurd is
-with_plan located ss (Leafref n b) other (OneOf ls) is e = absurd is
-with_plan located ss (Leafref n b) other (DerivedFrom ls) is e = absurd is
-with_plan located ss (Leafref n b) other (Refers path need) is e =
-    let same : Leafref n (required b ss) ≡ other = cc in
-    (Refers path (required need ss), refl, subst (λ z. IsPlan located z (Refers path (required need ss))) same (is.0, ap (λ z. required z ss) is.1))
+        let same : Finished v (ns ++ own) ≡ other = cc in
+        let all : List Located = ps ++ parts_of Pattern l in (
+          Entry v all,
+          ap (λ z. option_map (λ left. Entry left all) (narrowed z (below l.statement))) (sym is.0) ∙ ap (option_map (λ left. Entry left all)) f,
+          subst (λ z. IsPlan located z (Entry v all)) same (refl, numbers_more located ns own ps (parts_of Pattern l) is.1 are),
+        )
+with_plan located l own (Finished entry ns) other (OneOf ls) are is e = absurd is
+with_plan located l own (Finished entry ns) other (DerivedFrom ls) are is e = absurd is
+with_plan located l own (Finished entry ns) other (Refers path need) are is e = absurd is
+with_plan located l own (Members ns) other (Entry base ps) are is e = absurd is
+with_plan located l own (Members ns) other (OneOf ls) are is e = let same : Members ns ≡ other = cc in (OneOf ls, refl, subst (λ z. IsPlan located z (OneOf ls)) same is)
+with_plan located l own (Members ns) other (DerivedFrom ls) are is e = absurd is
+with_plan located l own (Members ns) other (Refers path need) are is e = absurd is
+with_plan located l own (Bases ns) other (Entry base ps) are is e = absurd is
+with_plan located l own (Bases ns) other (OneOf ls) are is e = absurd is
+with_plan located l own (Bases ns) other (DerivedFrom ls) are is e = let same : Bases ns ≡ other = cc in (DerivedFrom ls, refl, subst (λ z. IsPlan located z (DerivedFrom ls)) same is)
+with_plan located l own (Bases ns) other (Refers path need) are is e = absurd is
+with_plan located l own (Leafref n b) other (Entry base ps) are is e = absurd is
+with_plan located l own (Leafref n b) other (OneOf ls) are is e = absurd is
+with_plan located l own (Leafref n b) other (DerivedFrom ls) are is e = absurd is
+with_plan located l own (Leafref n b) other (Refers path need) are is e =
+    let same : Leafref n (required b (below l.statement)) ≡ other = cc in
+    (Refers path (required need (below l.statement)), refl, subst (λ z. IsPlan located z (Refers path (required need (below l.statement)))) same (is.0, ap (λ z. required z (below l.statement)) is.1))
 
--- what is found of a type over another
-module _ (on : ℕ → List ℕ → Bool) (scoping : Scoping) (l base : Located) (base_is : base_of scoping.texts l ≡ Some base) where
+-- what is found of a type over another, whose own `pattern` statements have these numbers
+module _ (on : ℕ → List ℕ → Bool) (scoping : Scoping) (l base : Located) (base_is : base_of scoping.texts l ≡ Some base) (own : List ℕ) (are : AreNumbers scoping.located own (parts_of Pattern l)) where
   means_over : (m : Meaning) → Means on scoping.texts l m → OverBase on scoping.texts l m
   means_over m means = elim (how_means on scoping.texts l m means) [
     | inl z ↦ absurd (built_or_base scoping.texts l z.one base z.built base_is)
@@ -208,10 +221,10 @@ module _ (on : ℕ → List ℕ → Bool) (scoping : Scoping) (l base : Located)
     kept_too : narrowed_faults (shape_of planned) (below l.statement) ≡ [] → narrowed_faults (shape n) (below l.statement) ≡ []
     kept_too kept = subst (λ k. narrowed_faults k (below l.statement) ≡ []) (same_shape scoping.located planned n is) kept
 
-    new_plan : (other : Planned) → planned_over planned (below l.statement) ≡ Some other → narrowed_faults (shape_of planned) (below l.statement) ≡ [] →
+    new_plan : (other : Planned) → planned_over planned own (below l.statement) ≡ Some other → narrowed_faults (shape_of planned) (below l.statement) ≡ [] →
         (m : Meaning) × IsPlan scoping.located other m × Means on scoping.texts l m
     new_plan other e kept =
-        let w = with_plan scoping.located (below l.statement) planned other n is e in
+        let w = with_plan scoping.located l own planned other n are is e in
         (w.0, w.2, over l base n w.0 base_is means (kept_too kept) w.1)
 
     broken : (fault : Fault) → first (narrowed_faults (shape_of planned) (below l.statement)) ≡ Some fault → IsFinding on scoping plans l (Broken fault)
@@ -225,7 +238,7 @@ module _ (on : ℕ → List ℕ → Bool) (scoping : Scoping) (l base : Located)
               first_some_not_none (narrowed_faults (shape n) (below l.statement)) fault e' (subst (λ k. narrowed_faults (shape k) (below l.statement) ≡ []) one z.kept)),
         )
 
-    pub over_plan : (found : Found) → IsOver place planned (below l.statement) found → IsFound on scoping plans l found
+    pub over_plan : (found : Found) → IsOver place planned own (below l.statement) found → IsFound on scoping plans l found
     over_plan (New other) h = new_plan other h.0 h.1
     over_plan (Same Nothing) h = absurd h
     over_plan (Same (Broken fault)) h = broken fault h
@@ -234,14 +247,14 @@ module _ (on : ℕ → List ℕ → Bool) (scoping : Scoping) (l base : Located)
         record { plan = planned; there = subst (λ z. slice_get plans z ≡ Some planned) (sym h.0) there; meaning = w.0; is = w.1; means = w.2 }
 
   -- a base of which it is known what was found
-  pub over_number : (meanings : Meanings) (number : ℕ) (found : Found) → IsOverBase meanings number (below l.statement) found →
+  pub over_number : (meanings : Meanings) (number : ℕ) (found : Found) → IsOverBase meanings number own (below l.statement) found →
       IsSomeAnd (slice_get meanings.findings number) (IsFinding on scoping meanings.plans base) → IsFound on scoping meanings.plans l found
   over_number meanings number found h known = by (slice_get meanings.findings number) refl known h
     where
       lacking : (found : Found) → found ≡ Same Nothing → MeansNothing on scoping base → IsFound on scoping meanings.plans l found
       lacking found same none = subst (IsFound on scoping meanings.plans l) (sym same) (over_nothing none)
 
-      by : (o : Option Finding) → slice_get meanings.findings number ≡ o → IsSomeAnd o (IsFinding on scoping meanings.plans base) → IsOverBase meanings number (below l.statement) found → IsFound on scoping meanings.plans l found
+      by : (o : Option Finding) → slice_get meanings.findings number ≡ o → IsSomeAnd o (IsFinding on scoping meanings.plans base) → IsOverBase meanings number own (below l.statement) found → IsFound on scoping meanings.plans l found
       by None e known h = absurd known
       by (Some Nothing) e known (inl p) = absurd (let f = p.2.0 in cc)
       by (Some Nothing) e known (inr none) = lacking found none.1 known.1

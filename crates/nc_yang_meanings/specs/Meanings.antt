@@ -1,6 +1,6 @@
 -- What a `type` statement means (RFC 7950 7.3, 7.4, 9). Types whose parts break a rule mean nothing, and neither does one
 -- that leads to such a type, to no type, or back to itself.
-use Rattle.std.specs.Prelude.{◌≡◌, ℕ, Bool, true, List, [], Option, Some, None, option_map, Contains}
+use Rattle.std.specs.Prelude.{◌≡◌, ℕ, Bool, true, List, [], ◌++◌, Option, Some, None, option_map, Contains}
 use Rattle.nc_schema.specs.declared.value_type.ValueType.{ValueType}
 use Rattle.nc_schema.specs.declared.value_type.ValueType.TheVariants.{Union as UnionType, Identity as IdentityType}
 use Rattle.nc_schema.specs.declared.value_type.ValueType.TheVariants.{Leafref as LeafrefType}
@@ -8,18 +8,18 @@ use Rattle.nc_yang_words.specs.declared.statement.Statement.{Statement}
 use Rattle.nc_yang_statements.specs.declared.built_in.BuiltIn.{BuiltIn}
 use Rattle.nc_yang_statements.specs.declared.built_in.BuiltIn.TheVariants.{IdentityRef, LeafRef, Union}
 use Rattle.nc_yang_statements.specs.declared.fault.Fault.{Fault}
-use Rattle.nc_yang_statements.specs.declared.keyword.Keyword.TheVariants.{Base, Path, TypeName}
+use Rattle.nc_yang_statements.specs.declared.keyword.Keyword.TheVariants.{Base, Path, Pattern, TypeName}
 use Rattle.nc_yang_statements.specs.Statements.{below}
 use Rattle.nc_yang_scopes.specs.Scopes.{Located}
 use Rattle.nc_yang_types.specs.Entries.{narrowed, narrowed_faults, own, own_faults, required}
 use Rattle.nc_yang_meanings.specs.Features.{stands}
 use Rattle.nc_yang_meanings.specs.Places.{base_of, built_in, part_of, parts_of}
 
--- an entry that names no other; a value of one of these types (RFC 7950 9.12); an identity derived from each that these
--- `base` statements name (RFC 7950 9.10.2); a value of the leaf to which this `path` leads, which has to be there or not
--- (RFC 7950 9.9)
+-- an entry that names no other, with the `pattern` statements that all have to admit its values (RFC 7950 9.4.5); a value
+-- of one of these types (RFC 7950 9.12); an identity derived from each that these `base` statements name (RFC 7950
+-- 9.10.2); a value of the leaf to which this `path` leads, which has to be there or not (RFC 7950 9.9)
 pub data Meaning : Type 0 where
-  Entry : ValueType → Meaning
+  Entry : ValueType → List Located → Meaning
   OneOf : List Located → Meaning
   DerivedFrom : List Located → Meaning
   Refers : Located → Bool → Meaning
@@ -29,28 +29,29 @@ abbrev pub meant : (on : ℕ → List ℕ → Bool) → BuiltIn → Located → 
 meant on Union l = Some (OneOf (parts_of TypeName l))
 meant on IdentityRef l = Some (DerivedFrom (parts_of Base l))
 meant on LeafRef l = option_map (λ path. Refers path (required true (below l.statement))) (part_of Path l)
-meant on one l = option_map Entry (own (stands on l.place.text) one (below l.statement))
+meant on one l = option_map (λ entry. Entry entry (parts_of Pattern l)) (own (stands on l.place.text) one (below l.statement))
 
 -- its kind, by which it is known which parts may stand in a type over it
 abbrev pub shape : Meaning → ValueType
-shape (Entry entry) = entry
+shape (Entry entry patterns) = entry
 shape (OneOf members) = UnionType []
 shape (DerivedFrom bases) = IdentityType []
 shape (Refers path need) = LeafrefType 0 None need
 
--- what a type over it means, with these parts
-abbrev pub with_parts : Meaning → List Statement → Option Meaning
-with_parts (Entry entry) ss = option_map Entry (narrowed entry ss)
-with_parts (OneOf members) ss = Some (OneOf members)
-with_parts (DerivedFrom bases) ss = Some (DerivedFrom bases)
-with_parts (Refers path need) ss = Some (Refers path (required need ss))
+-- what a type over it means, with the parts of a statement; the patterns of the type on which it rests come first
+abbrev pub with_parts : Meaning → Located → Option Meaning
+with_parts (Entry entry patterns) l =
+    option_map (λ left. Entry left (patterns ++ parts_of Pattern l)) (narrowed entry (below l.statement))
+with_parts (OneOf members) l = Some (OneOf members)
+with_parts (DerivedFrom bases) l = Some (DerivedFrom bases)
+with_parts (Refers path need) l = Some (Refers path (required need (below l.statement)))
 
 -- a `type` statement means this
 pub data Means (on : ℕ → List ℕ → Bool) (texts : List Statement) : Located → Meaning → Type 0 where
   by_itself : (l : Located) (one : BuiltIn) (m : Meaning) → built_in l ≡ Some one → own_faults one l.statement ≡ [] →
       meant on one l ≡ Some m → Means on texts l m
   over : (l base : Located) (n m : Meaning) → base_of texts l ≡ Some base → Means on texts base n →
-      narrowed_faults (shape n) (below l.statement) ≡ [] → with_parts n (below l.statement) ≡ Some m → Means on texts l m
+      narrowed_faults (shape n) (below l.statement) ≡ [] → with_parts n l ≡ Some m → Means on texts l m
 
 -- a rule that a `type` statement breaks by its parts: those of a type over one that means nothing are not asked
 pub data Breaks (on : ℕ → List ℕ → Bool) (texts : List Statement) : Located → Fault → Type 0 where

@@ -59,7 +59,10 @@ fn plan_of(
         }
         BuiltIn::LeafRef => Ok(leafref(scopes, number, statement)),
         _ => match entry {
-            Some(entry) => Ok(Some(Planned::Finished(entry))),
+            Some(entry) => Ok(Some(Planned::Finished {
+                entry,
+                patterns: parts_of(alloc, scopes, number, Keyword::Pattern)?,
+            })),
             None => Ok(None),
         },
     }

@@ -12,9 +12,9 @@ use crate::features::Features;
 use crate::footing::Footing;
 use crate::over::over;
 use crate::planned::{Finding, Meanings, Planned};
-use nc_names::Memory;
-use nc_yang_scopes::Scopes;
-use nc_yang_statements::{BuiltIn, Stop};
+use nc_names::{Many, Memory};
+use nc_yang_scopes::{Scopes, parts_of};
+use nc_yang_statements::{BuiltIn, Keyword, Stop};
 use nc_yang_words::Statement;
 use std::alloc::Global;
 
@@ -69,11 +69,12 @@ fn on_plan(
     alloc: Global,
     place: usize,
     planned: &Planned,
+    own: Many<usize>,
     below: &[Statement],
 ) -> Result<Found, Memory>
-    ensures { IfOk result (IsOver place planned.now below.now) }
+    ensures { IfOk result (IsOver place planned.now own below.now) }
 {
-    match over(alloc, planned, below) {
+    match over(alloc, planned, own, below) {
         Ok(Some(planned)) => Ok(Found::New(planned)),
         Ok(None) => Ok(Found::Same(Finding::Plan(place))),
         Err(Stop::Broken(fault)) => Ok(Found::Same(Finding::Broken(fault))),
@@ -81,17 +82,18 @@ fn on_plan(
     }
 }
 
-// What is found of a type over that of a number.
+// What is found of a type with the `pattern` statements of these numbers over that of a number.
 fn on_type(
     alloc: Global,
     meanings: &Meanings,
     base: usize,
+    own: Many<usize>,
     below: &[Statement],
 ) -> Result<Found, Memory>
-    ensures { IfOk result (IsOverBase meanings.now base below.now) }
+    ensures { IfOk result (IsOverBase meanings.now base own below.now) }
 {
     match plan(meanings, base) {
-        Some((place, planned)) => on_plan(alloc, place, planned, below),
+        Some((place, planned)) => on_plan(alloc, place, planned, own, below),
         None => Ok(Found::Same(Finding::Nothing)),
     }
 }
@@ -119,7 +121,10 @@ pub(crate) fn look<'a, F: Features<'a>>(
         Footing::OnBuiltIn(one) => {
             on_built_in(alloc, scopes, features, number, text, one, statement)
         }
-        Footing::OnType(base) => on_type(alloc, meanings, base, statement.below.as_slice()),
+        Footing::OnType(base) => {
+            let own = parts_of(alloc, scopes, number, Keyword::Pattern)?;
+            on_type(alloc, meanings, base, own, statement.below.as_slice())
+        }
         Footing::OnNothing => Ok(Found::Same(Finding::Nothing)),
     }
 }

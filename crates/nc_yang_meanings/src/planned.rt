@@ -7,15 +7,22 @@ use nc_yang_statements::Fault;
 /// What a `type` statement means. Other statements are named by their numbers in the `Scopes`.
 #[derive(Debug, Drop, PartialEq, Eq)]
 pub enum Planned {
-    /// The entry of a type that names no other.
-    Finished(ValueType),
+    /// The entry of a type that names no other, without its patterns, and the `pattern` statements that all
+    /// have to admit its values (RFC 7950 9.4.5).
+    Finished {
+        entry: ValueType,
+        patterns: Many<usize>,
+    },
     /// A value of one of the types that these `type` statements mean, in their order (RFC 7950 9.12).
     Members(Many<usize>),
     /// An identity that is derived from each of those that these `base` statements name (RFC 7950 9.10.2).
     Bases(Many<usize>),
     /// A value of the leaf or leaf-list to which that `path` statement leads (RFC 7950 9.9). `required` is
     /// `require-instance`.
-    Leafref { path: usize, required: bool },
+    Leafref {
+        path: usize,
+        required: bool,
+    },
 }
 
 /// What is found of a statement.

@@ -7,7 +7,7 @@ use Rattle.nc_schema.specs.declared.value_type.ValueType.TheVariants.{Leafref as
 use Rattle.nc_yang_words.specs.declared.statement.Statement.{Statement}
 use Rattle.nc_yang_statements.specs.declared.built_in.BuiltIn.{BuiltIn}
 use Rattle.nc_yang_statements.specs.declared.built_in.BuiltIn.TheVariants.{IdentityRef, LeafRef, Union}
-use Rattle.nc_yang_statements.specs.declared.keyword.Keyword.TheVariants.{Base, Path, TypeName}
+use Rattle.nc_yang_statements.specs.declared.keyword.Keyword.TheVariants.{Base, Path, Pattern, TypeName}
 use Rattle.nc_yang_statements.specs.Rules.{first}
 use Rattle.nc_yang_statements.specs.Statements.{below}
 use Rattle.nc_yang_scopes.specs.Scopes.{Located, Scoping}
@@ -37,7 +37,7 @@ abbrev pub meant_with : Option ValueType → BuiltIn → Located → Option Mean
 meant_with entry Union l = Some (OneOf (parts_of TypeName l))
 meant_with entry IdentityRef l = Some (DerivedFrom (parts_of Base l))
 meant_with entry LeafRef l = option_map (λ path. Refers path (required true (below l.statement))) (part_of Path l)
-meant_with entry one l = option_map Entry entry
+meant_with entry one l = option_map (λ it. Entry it (parts_of Pattern l)) entry
 
 abbrev pub ArePlan : List Located → Option Planned → Option Meaning → Type 0
 ArePlan located None None = Unit {0}
@@ -46,17 +46,17 @@ ArePlan located planned m = ⊥
 
 -- its kind, by which it is known which parts may stand in a type over it
 abbrev pub shape_of : Planned → ValueType
-shape_of (Finished entry) = entry
+shape_of (Finished entry patterns) = entry
 shape_of (Members numbers) = UnionType []
 shape_of (Bases numbers) = IdentityType []
 shape_of (Leafref path need) = LeafrefType 0 None need
 
--- the plan of a type over it, with these parts
-abbrev pub planned_over : Planned → List Statement → Option Planned
-planned_over (Finished entry) ss = option_map Finished (narrowed entry ss)
-planned_over (Members numbers) ss = Some (Members numbers)
-planned_over (Bases numbers) ss = Some (Bases numbers)
-planned_over (Leafref path need) ss = Some (Leafref path (required need ss))
+-- the plan of a type over it, with the `pattern` statements of these numbers and these parts
+abbrev pub planned_over : Planned → (own : List ℕ) → List Statement → Option Planned
+planned_over (Finished entry patterns) own ss = option_map (λ left. Finished left (patterns ++ own)) (narrowed entry ss)
+planned_over (Members numbers) own ss = Some (Members numbers)
+planned_over (Bases numbers) own ss = Some (Bases numbers)
+planned_over (Leafref path need) own ss = Some (Leafref path (required need ss))
 
 -- what was found of a statement, whose plan may be new
 abbrev pub IsFound : (on : ℕ → List ℕ → Bool) → Scoping → List Planned → Located → Found → Type 0
@@ -77,18 +77,19 @@ FindsPlan meanings number place planned =
 abbrev pub LacksPlan : Meanings → ℕ → Type 0
 LacksPlan meanings number = (place : ℕ) (planned : Planned) → FindsPlan meanings number place planned → ⊥
 
--- what is found of a type with these parts over one of a plan
-abbrev pub IsOver : ℕ → Planned → List Statement → Found → Type 0
-IsOver place planned ss (New other) = (planned_over planned ss ≡ Some other) × (narrowed_faults (shape_of planned) ss ≡ [])
-IsOver place planned ss (Same Nothing) = ⊥
-IsOver place planned ss (Same (Broken fault)) = first (narrowed_faults (shape_of planned) ss) ≡ Some fault
-IsOver place planned ss (Same (Plan number)) =
-    (number ≡ place) × (planned_over planned ss ≡ Some planned) × (narrowed_faults (shape_of planned) ss ≡ [])
+-- what is found of a type with these patterns and parts over one of a plan
+abbrev pub IsOver : ℕ → Planned → (own : List ℕ) → List Statement → Found → Type 0
+IsOver place planned own ss (New other) =
+    (planned_over planned own ss ≡ Some other) × (narrowed_faults (shape_of planned) ss ≡ [])
+IsOver place planned own ss (Same Nothing) = ⊥
+IsOver place planned own ss (Same (Broken fault)) = first (narrowed_faults (shape_of planned) ss) ≡ Some fault
+IsOver place planned own ss (Same (Plan number)) =
+    (number ≡ place) × (planned_over planned own ss ≡ Some planned) × (narrowed_faults (shape_of planned) ss ≡ [])
 
 -- over that of a number
-abbrev pub IsOverBase : Meanings → ℕ → List Statement → Found → Type 0
-IsOverBase meanings base ss found =
-    ((place : ℕ) × (planned : Planned) × FindsPlan meanings base place planned × IsOver place planned ss found)
+abbrev pub IsOverBase : Meanings → ℕ → (own : List ℕ) → List Statement → Found → Type 0
+IsOverBase meanings base own ss found =
+    ((place : ℕ) × (planned : Planned) × FindsPlan meanings base place planned × IsOver place planned own ss found)
     ⊎ (LacksPlan meanings base × (found ≡ Same Nothing))
 
 -- with what was found of a number

@@ -87,7 +87,7 @@ impl Walk {
                 self.with_members(meanings, marks, members.as_slice())?;
                 Ok(())
             }
-            Planned::Finished(_) | Planned::Bases(_) => Ok(()),
+            Planned::Finished { .. } | Planned::Bases(_) => Ok(()),
         }
     }
 }

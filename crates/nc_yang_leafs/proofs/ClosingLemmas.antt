@@ -4,10 +4,12 @@ use Rattle.std.specs.Prelude.{Option, Some, None, slice_get, option_and_then, Co
 use Rattle.std.proofs.lemmas.Option.{slice_get_within, slice_get-get_or}
 use Rattle.nc_names.specs.declared.name.QName.{QName}
 use Rattle.nc_schema.specs.declared.value_type.ValueType.{ValueType}
+use Rattle.nc_schema.specs.declared.value_type.ValueType.TheVariants.{Whole, Decimal, Chars as String, Boolean as Truth, Enumeration as Names, Bits as Set, Binary as Octets, Empty as Nothing, Instance, NodeInstance}
 use Rattle.nc_schema.specs.declared.value_type.ValueType.TheVariants.{Union as UnionType, Identity as IdentityType}
 use Rattle.nc_schema.specs.declared.value_type.ValueType.TheVariants.{Leafref as LeafrefType}
 use Rattle.nc_yang_order.proofs.Lists.{contains_at, get_none}
 use Rattle.nc_yang_scopes.proofs.Lists.{get_left}
+use Rattle.nc_yang_scopes.specs.Numbers.{AreNumbers}
 use Rattle.nc_yang_scopes.specs.Scopes.{Located}
 use Rattle.nc_yang_meanings.specs.declared.planned.Planned.{Planned}
 use Rattle.nc_yang_meanings.specs.declared.planned.Planned.TheVariants.{Bases, Finished, Leafref, Members}
@@ -17,8 +19,9 @@ use Rattle.nc_yang_meanings.specs.Wholes.{MeansWhole, members_of, whole}
 use Rattle.nc_yang_meanings.proofs.MeaningLemmas.{means_one}
 use Rattle.nc_yang_leafs.specs.declared.table.Table.{Table}
 use Rattle.nc_yang_leafs.specs.Bases.{leads}
-use Rattle.nc_yang_leafs.specs.Typings.{HasTypes, IsEntry, none, numbers_of, one_more}
+use Rattle.nc_yang_leafs.specs.Typings.{HasTypes, IsEntry, IsPatterned, none, numbers_of, one_more}
 use Rattle.nc_yang_leafs.specs.inner.Firsts.{first_in, plan_for}
+use Rattle.nc_yang_leafs.specs.Patterns.{with_numbers}
 use Rattle.nc_yang_leafs.specs.inner.Tables.{Fits, IsSettled, Work, number_at, number_of}
 use Rattle.nc_yang_leafs.proofs.FirstLemmas.{own_fits, own_of}
 use Rattle.nc_yang_leafs.proofs.StepLemmas.{has_plan_at}
@@ -43,12 +46,31 @@ module _ (means : Located → Meaning → Type 0) (is : Meaning → ValueType �
   pub one_and : (types : List ValueType) (l : Located) (ls : List Located) (number : ℕ) (numbers : List ℕ) → IsOne types l number → HasTypes means is types ls numbers → HasTypes means is types (l ∷ ls) (number ∷ numbers)
   one_and types l ls number numbers one rest = one_more l ls number numbers one.m one.entry one.means_it one.at one.is_it one.members rest
 
+-- an entry with the numbers of its `pattern` statements
+patterned : (located : List Located) (ns : List ℕ) (ps : List Located) (one entry made : ValueType) → one ≡ entry → AreNumbers located ns ps → made ≡ with_numbers ns one → IsPatterned (AreNumbers located) entry ps made
+patterned located ns ps one entry made same are is = by entry (is ∙ ap (with_numbers ns) same)
+  where
+    by : (entry : ValueType) → made ≡ with_numbers ns entry → IsPatterned (AreNumbers located) entry ps made
+    by (String lengths starless others) e = (ns, are, e)
+    by (Whole among) e = sym e
+    by (Decimal digits among) e = sym e
+    by Truth e = sym e
+    by (Names names) e = sym e
+    by (Set names) e = sym e
+    by (Octets among) e = sym e
+    by Nothing e = sym e
+    by (UnionType members) e = sym e
+    by (IdentityType among) e = sym e
+    by (LeafrefType target above need) e = sym e
+    by (Instance need) e = sym e
+    by NodeInstance e = sym e
+
 module _ (derived : List Located → List QName → Type 0) (on : ℕ → List ℕ → Bool) (w : Work) (are : AreMeanings on w.scoping w.meanings) (table : Table) (settled : IsSettled derived w table) where
   abbrev pub One : Located → ℕ → Type 0
-  One l number = IsOne (Means on w.scoping.texts) (IsEntry derived (leads w.scoping w.given w.node)) table.types l number
+  One l number = IsOne (Means on w.scoping.texts) (IsEntry derived (AreNumbers w.scoping.located) (leads w.scoping w.given w.node)) table.types l number
 
   abbrev pub Typed : List Located → List ℕ → Type 0
-  Typed ls numbers = HasTypes (Means on w.scoping.texts) (IsEntry derived (leads w.scoping w.given w.node)) table.types ls numbers
+  Typed ls numbers = HasTypes (Means on w.scoping.texts) (IsEntry derived (AreNumbers w.scoping.located) (leads w.scoping w.given w.node)) table.types ls numbers
 
   abbrev pub Closes : Located → Type 0
   Closes l = (m plan number : ℕ) → slice_get w.scoping.located m ≡ Some l → plan_for w.meanings.findings w.firsts m ≡ Some plan → number_of w.marks table.known w.node plan ≡ Some number → One l number
@@ -61,7 +83,7 @@ module _ (derived : List Located → List QName → Type 0) (on : ℕ → List �
   all_close (n ∷ numbers) [] types a b close = absurd (cc)
   all_close (n ∷ numbers) (l ∷ ls) [] a b close = absurd (cc)
   all_close (n ∷ numbers) (l ∷ ls) (t ∷ types) a b close =
-      one_and (Means on w.scoping.texts) (IsEntry derived (leads w.scoping w.given w.node)) table.types l ls t types (by (plan_for w.meanings.findings w.firsts n) refl (cc))
+      one_and (Means on w.scoping.texts) (IsEntry derived (AreNumbers w.scoping.located) (leads w.scoping w.given w.node)) table.types l ls t types (by (plan_for w.meanings.findings w.firsts n) refl (cc))
       (all_close numbers ls types (cc) (cc) (λ other c. close other (later other c)))
     where
       here : slice_get w.scoping.located n ≡ Some l
@@ -92,7 +114,7 @@ module _ (derived : List Located → List QName → Type 0) (on : ℕ → List �
 
       by : (planned : Planned) (m : Meaning) → IsPlan w.scoping.located planned m → Means on w.scoping.texts l m → ((member : Located) → Contains (members_of m) member → Closes member) →
           Fits derived w table.known planned entry.0 → One l given
-      by (Finished one) (Entry t) is means members fits = record { m = Entry t; entry = entry.0; means_it = means; at = entry.1; is_it = sym is ∙ sym fits; members = none }
+      by (Finished one ns) (Entry t ps) is means members fits = record { m = Entry t ps; entry = entry.0; means_it = means; at = entry.1; is_it = patterned w.scoping.located ns ps one t entry.0 is.0 is.1 fits; members = none }
       by (Members numbers) (OneOf ls) is means members fits = record {
         m = OneOf ls;
         entry = UnionType fits.0;
@@ -110,16 +132,16 @@ module _ (derived : List Located → List QName → Type 0) (on : ℕ → List �
         is_it = (fits.leads l is.0, is.1);
         members = none;
       }
-      by (Finished one) (OneOf ls) is means members fits = absurd is
-      by (Finished one) (DerivedFrom ls) is means members fits = absurd is
-      by (Finished one) (Refers l other) is means members fits = absurd is
-      by (Members numbers) (Entry t) is means members fits = absurd is
+      by (Finished one ns) (OneOf ls) is means members fits = absurd is
+      by (Finished one ns) (DerivedFrom ls) is means members fits = absurd is
+      by (Finished one ns) (Refers l other) is means members fits = absurd is
+      by (Members numbers) (Entry t ps) is means members fits = absurd is
       by (Members numbers) (DerivedFrom ls) is means members fits = absurd is
       by (Members numbers) (Refers l other) is means members fits = absurd is
-      by (Bases bases) (Entry t) is means members fits = absurd is
+      by (Bases bases) (Entry t ps) is means members fits = absurd is
       by (Bases bases) (OneOf ls) is means members fits = absurd is
       by (Bases bases) (Refers l other) is means members fits = absurd is
-      by (Leafref path need) (Entry t) is means members fits = absurd is
+      by (Leafref path need) (Entry t ps) is means members fits = absurd is
       by (Leafref path need) (OneOf ls) is means members fits = absurd is
       by (Leafref path need) (DerivedFrom ls) is means members fits = absurd is
 

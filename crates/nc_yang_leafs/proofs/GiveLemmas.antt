@@ -16,7 +16,7 @@ use Rattle.nc_yang_scopes.specs.declared.naming.TextFault.{TextFault}
 use Rattle.nc_yang_scopes.specs.Scopes.{Located}
 use Rattle.nc_yang_nodes.specs.declared.planned.Plan.{Plan}
 use Rattle.nc_yang_meanings.specs.Meanings.{Means}
-use Rattle.nc_yang_scopes.specs.Numbers.{OnNumber}
+use Rattle.nc_yang_scopes.specs.Numbers.{AreNumbers, OnNumber}
 use Rattle.nc_yang_meanings.specs.Plans.{AreMeanings}
 use Rattle.nc_yang_meanings.specs.Wholes.{MeansWhole}
 use Rattle.nc_yang_leafs.specs.declared.site.Site.{Site}
@@ -26,7 +26,7 @@ use Rattle.nc_yang_leafs.specs.declared.table.Table.{Table}
 use Rattle.nc_yang_leafs.specs.Bases.{Basis, leads, type_of}
 use Rattle.nc_yang_statements.specs.Stops.{OnBroken}
 use Rattle.nc_yang_leafs.specs.Faults.{BreaksLeafref}
-use Rattle.nc_yang_leafs.specs.Typings.{HasItsType, HasTypes, IsAmong, IsEntry, IsInUse, IsOfType, IsTyped, itself, none}
+use Rattle.nc_yang_leafs.specs.Typings.{HasItsType, HasTypes, IsAmong, IsEntry, IsInUse, IsOfType, HasTypings, itself, none}
 use Rattle.nc_yang_leafs.specs.inner.Assembly.{HasKinds, HasSome, node_with, with_kind}
 use Rattle.nc_yang_leafs.specs.inner.Firsts.{plan_for}
 use Rattle.nc_yang_leafs.specs.inner.Nodes.{AreGiven, BreaksAt, Gives, GivesNumber, HaveKinds, IsKnown, MayGive, basis_of, blank}
@@ -107,13 +107,13 @@ module _ (derived : List Located → List QName → Type 0) (w : Work) (statemen
     gives_number last fills = record {
       adds = (fills.adds.0, fills.adds.1 ∙ ap (λ z. z ++ fills.adds.0) asked.types);
       settled = fills.settled;
-      means = λ whole. one_and (Means on w.scoping.texts) (IsEntry derived (leads w.scoping w.given w.node)) last.types top [] number []
+      means = λ whole. one_and (Means on w.scoping.texts) (IsEntry derived (AreNumbers w.scoping.located) (leads w.scoping w.given w.node)) last.types top [] number []
           (closes derived on w are last fills.settled top whole statement plan number here at (fills.kept plan number known)) none;
       fresh = λ whole other le less. (
           let u = fills.used other (let same = ap length asked.types in omega (arith, le, same)) less in (
             u.1.statement,
             u.1.among,
-            one_and (Means on w.scoping.texts) (IsEntry derived (leads w.scoping w.given w.node)) last.types u.1.statement [] other []
+            one_and (Means on w.scoping.texts) (IsEntry derived (AreNumbers w.scoping.located) (leads w.scoping w.given w.node)) last.types u.1.statement [] other []
                 (closes_plan derived on w are last fills.settled u.1.statement (among_whole on w.scoping.texts top u.1.statement whole u.1.among) u.1.own u.0 other u.1.has u.1.first u.2) none,
           ));
     }
@@ -131,9 +131,9 @@ module _ (derived : List Located → List QName → Type 0) (b : Basis) (w : Wor
         has = record {
           valued = λ t l e. (
               let one : m.0 ≡ l = (let f = m.1 in cc) in
-              subst (λ z. HasTypes (Means b.on b.scoping.texts) (IsEntry derived (leads b.scoping b.given w.node)) new.types (z ∷ []) (number ∷ [])) one
-              (subst (λ z. HasTypes (Means b.on z.texts) (IsEntry derived (leads z b.given w.node)) new.types (m.0 ∷ []) (number ∷ [])) (sym same)
-              (subst (λ z. HasTypes (Means b.on w.scoping.texts) (IsEntry derived (leads w.scoping z w.node)) new.types (m.0 ∷ []) (number ∷ [])) (sym same_given)
+              subst (λ z. HasTypes (Means b.on b.scoping.texts) (IsEntry derived (AreNumbers b.scoping.located) (leads b.scoping b.given w.node)) new.types (z ∷ []) (number ∷ [])) one
+              (subst (λ z. HasTypes (Means b.on z.texts) (IsEntry derived (AreNumbers z.located) (leads z b.given w.node)) new.types (m.0 ∷ []) (number ∷ [])) (sym same)
+              (subst (λ z. HasTypes (Means b.on w.scoping.texts) (IsEntry derived (AreNumbers w.scoping.located) (leads w.scoping z w.node)) new.types (m.0 ∷ []) (number ∷ [])) (sym same_given)
               (g.means (subst (λ z. MeansWhole b.on z.texts m.0) same m.2)))));
           other = λ f. absurd (let t = valued in cc);
         };
@@ -145,8 +145,8 @@ module _ (derived : List Located → List QName → Type 0) (b : Basis) (w : Wor
               is = m.1;
               one = f.0;
               among = subst (λ z. IsAmong b.on z.texts m.0 f.0) (sym same) f.1;
-              has = subst (λ z. HasTypes (Means b.on z.texts) (IsEntry derived (leads z b.given w.node)) new.types (f.0 ∷ []) (other ∷ [])) (sym same)
-                  (subst (λ z. HasTypes (Means b.on w.scoping.texts) (IsEntry derived (leads w.scoping z w.node)) new.types (f.0 ∷ []) (other ∷ [])) (sym same_given) f.2);
+              has = subst (λ z. HasTypes (Means b.on z.texts) (IsEntry derived (AreNumbers z.located) (leads z b.given w.node)) new.types (f.0 ∷ []) (other ∷ [])) (sym same)
+                  (subst (λ z. HasTypes (Means b.on w.scoping.texts) (IsEntry derived (AreNumbers w.scoping.located) (leads w.scoping z w.node)) new.types (f.0 ∷ []) (other ∷ [])) (sym same_given) f.2);
             });
       }
 
@@ -157,13 +157,13 @@ module _ (derived : List Located → List QName → Type 0) (b : Basis) (w : Wor
 
 -- all data nodes
 module _ (derived : List Located → List QName → Type 0) (b : Basis) where
-  pub type_kept : (types more : List ValueType) (number : ℕ) (kind : Kind) (given : ℕ) → HasItsType derived b types number kind given → HasItsType derived b (types ++ more) number kind given
+  pub type_kept : (types more : List ValueType) (number : ℕ) (kind : Kind) (given : ℕ) → HasItsType derived (AreNumbers b.scoping.located) b types number kind given → HasItsType derived (AreNumbers b.scoping.located) b (types ++ more) number kind given
   type_kept types more number kind given has = record {
-    valued = λ t l e. types_kept (Means b.on b.scoping.texts) (IsEntry derived (leads b.scoping b.given number)) types more (l ∷ []) (given ∷ []) (has.valued t l e);
+    valued = λ t l e. types_kept (Means b.on b.scoping.texts) (IsEntry derived (AreNumbers b.scoping.located) (leads b.scoping b.given number)) types more (l ∷ []) (given ∷ []) (has.valued t l e);
     other = has.other;
   }
 
-  pub use_kept : (types more : List ValueType) (number : ℕ) → IsInUse derived b types number → IsInUse derived b (types ++ more) number
+  pub use_kept : (types more : List ValueType) (number : ℕ) → IsInUse derived (AreNumbers b.scoping.located) b types number → IsInUse derived (AreNumbers b.scoping.located) b (types ++ more) number
   use_kept types more number (place, node, there, use_of) = (
     place,
     node,
@@ -174,23 +174,23 @@ module _ (derived : List Located → List QName → Type 0) (b : Basis) where
       is = use_of.is;
       one = use_of.one;
       among = use_of.among;
-      has = types_kept (Means b.on b.scoping.texts) (IsEntry derived (leads b.scoping b.given place)) types more (use_of.one ∷ []) (number ∷ []) use_of.has;
+      has = types_kept (Means b.on b.scoping.texts) (IsEntry derived (AreNumbers b.scoping.located) (leads b.scoping b.given place)) types more (use_of.one ∷ []) (number ∷ []) use_of.has;
     },
   )
 
   pub have_more : (old new : List ValueType) (count : ℕ) (kinds : List ℕ) (given : ℕ) (node : Node) → HaveKinds derived b old count kinds → (more : List ValueType) → new ≡ old ++ more →
-      slice_get b.given.nodes count ≡ Some node → HasItsType derived b new count node.kind given →
-      ((number : ℕ) → length old ≤ number → number < length new → IsOfType derived b new count node.kind number) → HaveKinds derived b new (count + 1) (kinds ++ given ∷ [])
+      slice_get b.given.nodes count ≡ Some node → HasItsType derived (AreNumbers b.scoping.located) b new count node.kind given →
+      ((number : ℕ) → length old ≤ number → number < length new → IsOfType derived (AreNumbers b.scoping.located) b new count node.kind number) → HaveKinds derived b new (count + 1) (kinds ++ given ∷ [])
   have_more old new count kinds given node have more grown there has fresh = record {
     counted = length-append kinds (given ∷ []) ∙ ap (λ z. z + 1) have.counted;
     each = each;
     used = λ number less. elim (cases_lt number (length old)) [
-      | inl earlier ↦ subst (λ z. IsInUse derived b z number) (sym grown) (use_kept old more number (have.used number earlier))
+      | inl earlier ↦ subst (λ z. IsInUse derived (AreNumbers b.scoping.located) b z number) (sym grown) (use_kept old more number (have.used number earlier))
       | inr le ↦ (count, node, there, fresh number le less)
     ];
   }
     where
-      each : (number kind : ℕ) (other : Node) → slice_get (kinds ++ given ∷ []) number ≡ Some kind → slice_get b.given.nodes number ≡ Some other → HasItsType derived b new number other.kind kind
+      each : (number kind : ℕ) (other : Node) → slice_get (kinds ++ given ∷ []) number ≡ Some kind → slice_get b.given.nodes number ≡ Some other → HasItsType derived (AreNumbers b.scoping.located) b new number other.kind kind
       each number kind other at is = elim (cases_eq number count) [
         | inl now ↦
             let here : slice_get (kinds ++ given ∷ []) number ≡ Some given =
@@ -198,10 +198,10 @@ module _ (derived : List Located → List QName → Type 0) (b : Basis) where
             let same_kind : given ≡ kind = cc in
             let found : slice_get b.given.nodes number ≡ Some node = subst (λ z. slice_get b.given.nodes z ≡ Some node) (sym now) there in
             let same_node : node ≡ other = cc in
-            subst (λ z. HasItsType derived b new number other.kind z) same_kind (subst (λ z. HasItsType derived b new number z.kind given) same_node (subst (λ z. HasItsType derived b new z node.kind given) (sym now) has))
+            subst (λ z. HasItsType derived (AreNumbers b.scoping.located) b new number other.kind z) same_kind (subst (λ z. HasItsType derived (AreNumbers b.scoping.located) b new number z.kind given) same_node (subst (λ z. HasItsType derived (AreNumbers b.scoping.located) b new z node.kind given) (sym now) has))
         | inr apart ↦
             let less : number < length kinds = (let l = slice_get_within (kinds ++ given ∷ []) number kind at in let c = length-append kinds (given ∷ []) in let d = have.counted in omega (arith, l, c, d, apart)) in
-            subst (λ z. HasItsType derived b z number other.kind kind) (sym grown) (type_kept old more number other.kind kind (have.each number kind other (sym (get_left kinds (given ∷ []) number less) ∙ at) is))
+            subst (λ z. HasItsType derived (AreNumbers b.scoping.located) b z number other.kind kind) (sym grown) (type_kept old more number other.kind kind (have.each number kind other (sym (get_left kinds (given ∷ []) number less) ∙ at) is))
       ]
 
 module _ (derived : List Located → List QName → Type 0) (on : ℕ → List ℕ → Bool) (site : Site) (plan : Plan) (known : IsKnown (basis_of on site plan) site.meanings.now site.marks.now) where
@@ -291,31 +291,30 @@ pub some_turn : (old mid new : Tables) (kinds : List ℕ) (i kind : ℕ) → i <
 some_turn old mid new kinds i kind less is place same has made =
     some_more old mid new kinds i kind has (slice_get-get_or kinds i 0 less ∙ ap Some (sym is)) (subst (λ z. new ≡ with_kind mid z kind) same made)
 
-pub all_typed : (derived : List Located → List QName → Type 0) (b : Basis) (mid new : Tables) (types : List ValueType) (kinds : List ℕ) → b.given.types ≡ [] → mid ≡ record b.given { types = b.given.types ++ types } →
-    HaveKinds derived b types (length b.given.nodes) kinds → HasKinds mid kinds new → IsTyped derived b new
-all_typed derived b mid new types kinds blank mid_is have has = record {
+pub all_typed : (derived : List Located → List QName → Type 0) (b : Basis) (mid new : Tables) (types some : List ValueType) (kinds : List ℕ) → mid ≡ record b.given { types = some } →
+    HaveKinds derived b types (length b.given.nodes) kinds → HasKinds mid kinds new → HasTypings derived (AreNumbers b.scoping.located) b (record new { types = types })
+all_typed derived b mid new types some kinds mid_is have has = record {
   modules = has.modules ∙ ap (λ (z : Tables). z.modules) mid_is;
   choices = has.choices ∙ ap (λ (z : Tables). z.choices) mid_is;
-  patterns = has.patterns ∙ ap (λ (z : Tables). z.patterns) mid_is;
   counted = has.counted ∙ ap (λ (z : Tables). length z.nodes) mid_is;
   nodes = nodes;
-  entries = λ number less. subst (λ z. IsInUse derived b z number) (sym types_are) (have.used number (let same = ap length types_are in omega (arith, less, same)));
+  entries = have.used;
 }
   where
-    types_are : new.types ≡ types
-    types_are = has.types ∙ ap (λ (z : Tables). z.types) mid_is ∙ ap (λ z. z ++ types) blank
-
     nodes : (number : ℕ) (node : Node) → slice_get b.given.nodes number ≡ Some node →
-        IsSomeAnd (slice_get new.nodes number) (λ other. (other ≡ record node { kind_of_value = other.kind_of_value }) × HasItsType derived b new.types number other.kind other.kind_of_value)
+        IsSomeAnd (slice_get new.nodes number) (λ other. (other ≡ record node { kind_of_value = other.kind_of_value })
+        × HasItsType derived (AreNumbers b.scoping.located) b types number other.kind other.kind_of_value)
     nodes number node there = by (slice_get kinds number) refl
       where
         within : number < length kinds
         within = let l = slice_get_within b.given.nodes number node there in let c = have.counted in omega (arith, l, c)
 
         by : (o : Option ℕ) → slice_get kinds number ≡ o →
-            IsSomeAnd (slice_get new.nodes number) (λ other. (other ≡ record node { kind_of_value = other.kind_of_value }) × HasItsType derived b new.types number other.kind other.kind_of_value)
+            IsSomeAnd (slice_get new.nodes number) (λ other. (other ≡ record node { kind_of_value = other.kind_of_value })
+            × HasItsType derived (AreNumbers b.scoping.located) b types number other.kind other.kind_of_value)
         by None e = absurd (let past = get_none kinds number e in let l = within in omega (arith, past, l))
         by (Some kind) e =
             let found : slice_get mid.nodes number ≡ Some node = ap (λ (z : Tables). slice_get z.nodes number) mid_is ∙ there in
-            subst (λ o. IsSomeAnd o (λ other. (other ≡ record node { kind_of_value = other.kind_of_value }) × HasItsType derived b new.types number other.kind other.kind_of_value)) (sym (has.set number kind node within e found))
-            (refl, subst (λ z. HasItsType derived b z number node.kind kind) (sym types_are) (have.each number kind node e there))
+            subst (λ o. IsSomeAnd o (λ other. (other ≡ record node { kind_of_value = other.kind_of_value })
+            × HasItsType derived (AreNumbers b.scoping.located) b types number other.kind other.kind_of_value)) (sym (has.set number kind node within e found))
+            (refl, have.each number kind node e there)

@@ -10,3 +10,4 @@ pub mod SoundLemmas
 pub mod LeafrefLemmas
 pub mod ProperLemmas
 pub mod PatternLemmas
+pub mod AddingLemmas

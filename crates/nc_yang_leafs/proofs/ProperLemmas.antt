@@ -18,10 +18,10 @@ use Rattle.nc_yang_scopes.specs.Scopes.{Located}
 use Rattle.nc_yang_meanings.specs.Meanings.{DerivedFrom, Entry, Meaning, Means, OneOf, Refers}
 use Rattle.nc_yang_meanings.specs.Wholes.{members_of}
 use Rattle.nc_yang_leafs.specs.Bases.{AllMeanWhole, Basis, leads}
-use Rattle.nc_yang_leafs.specs.Typings.{HasItsType, HasTypes, IsEntry, IsSameNode, IsTyped, none, numbers_of, one_more}
+use Rattle.nc_yang_leafs.specs.Typings.{HasItsType, HasTypes, IsEntry, IsSameNode, IsTyped, NameEach, none, numbers_of, one_more}
 use Rattle.nc_yang_leafs.proofs.ClosingLemmas.{IsOne}
 use Rattle.nc_yang_leafs.proofs.LeafrefLemmas.{IsEnd, path_end}
-use Rattle.nc_yang_leafs.proofs.SoundLemmas.{IsSound, means_sound, sound_proper}
+use Rattle.nc_yang_leafs.proofs.SoundLemmas.{means_sound, patterned_apart, patterned_proper}
 
 is_there : (types : List ValueType) (number : ℕ) (entry : ValueType) → slice_get types number ≡ Some entry → IsSome (slice_get types number)
 is_there types number entry e = subst IsSome (sym e) refl
@@ -52,7 +52,7 @@ module _ (derived : List Located → List QName → Type 0) (b : Basis) (tables 
     pub old : Node
     pub there : slice_get b.given.nodes number ≡ Some old
     pub same : IsSameNode old node
-    pub has : HasItsType derived b tables.types number node.kind node.kind_of_value
+    pub has : HasItsType derived (NameEach tables.patterns) b tables.types number node.kind node.kind_of_value
 
   was_there : (number : ℕ) (node : Node) → slice_get tables.nodes number ≡ Some node → WasThere number node
   was_there number node there = by (slice_get b.given.nodes number) refl
@@ -60,8 +60,8 @@ module _ (derived : List Located → List QName → Type 0) (b : Basis) (tables 
       by : (o : Option Node) → slice_get b.given.nodes number ≡ o → WasThere number node
       by None e = absurd (let past = get_none b.given.nodes number e in let l = slice_get_within tables.nodes number node there in let c = typed.counted in omega (arith, past, l, c))
       by (Some old) e =
-          let h : IsSameNode old node × HasItsType derived b tables.types number node.kind node.kind_of_value =
-          subst (λ o. IsSomeAnd o (λ new. IsSameNode old new × HasItsType derived b tables.types number new.kind new.kind_of_value)) there (typed.nodes number old e) in
+          let h : IsSameNode old node × HasItsType derived (NameEach tables.patterns) b tables.types number node.kind node.kind_of_value =
+          subst (λ o. IsSomeAnd o (λ new. IsSameNode old new × HasItsType derived (NameEach tables.patterns) b tables.types number new.kind new.kind_of_value)) there (typed.nodes number old e) in
           record { old = old; there = e; same = h.0; has = h.1 }
 
   -- what is so of a data node for its kind and parent is so of it with its type
@@ -69,7 +69,7 @@ module _ (derived : List Located → List QName → Type 0) (b : Basis) (tables 
       (number : ℕ) → IsSomeAnd (slice_get b.given.nodes number) P → IsSomeAnd (slice_get tables.nodes number) P
   still_there P keeps number h = by (slice_get b.given.nodes number) refl h
     where
-      find : (old : Node) (o : Option Node) → P old → IsSomeAnd o (λ new. IsSameNode old new × HasItsType derived b tables.types number new.kind new.kind_of_value) → IsSomeAnd o P
+      find : (old : Node) (o : Option Node) → P old → IsSomeAnd o (λ new. IsSameNode old new × HasItsType derived (NameEach tables.patterns) b tables.types number new.kind new.kind_of_value) → IsSomeAnd o P
       find old None p found = absurd found
       find old (Some new) p found = subst P (sym found.0) (keeps old new.kind_of_value p)
 
@@ -87,20 +87,21 @@ module _ (derived : List Located → List QName → Type 0) (b : Basis) (tables 
   module _ (whole : AllMeanWhole b) where
     -- what the type of a data node is of
     type_is : (number : ℕ) (node : Node) → slice_get tables.nodes number ≡ Some node → IsTrue (has_value node.kind) →
-        (l : Located) × IsOne (Means b.on b.scoping.texts) (IsEntry derived (leads b.scoping b.given number)) tables.types l node.kind_of_value
+        (l : Located) × IsOne (Means b.on b.scoping.texts) (IsEntry derived (NameEach tables.patterns) (leads b.scoping b.given number)) tables.types l node.kind_of_value
     type_is number node there valued =
         let was = was_there number node there in
         let before : IsTrue (has_value was.old.kind) = ap (λ (z : Node). has_value z.kind) (sym was.same) ∙ valued in
         let w = whole number was.old was.there before in
-        (w.0, one_of (Means b.on b.scoping.texts) (IsEntry derived (leads b.scoping b.given number)) tables.types w.0 node.kind_of_value (was.has.valued valued w.0 w.1))
+        (w.0, one_of (Means b.on b.scoping.texts) (IsEntry derived (NameEach tables.patterns) (leads b.scoping b.given number)) tables.types w.0 node.kind_of_value (was.has.valued valued w.0 w.1))
 
     are_typed : EachNode tables (λ number node. IsTrue (has_value node.kind) → IsSome (slice_get tables.types node.kind_of_value))
     are_typed number node there valued = let t = type_is number node there valued in is_there tables.types node.kind_of_value t.1.entry t.1.at
 
     -- where a leafref of a meaning ends
     leafref_is : (number : ℕ) (l : Located) (m : Meaning) (target : ℕ) (above : Option ℕ) (need : Bool) → Means b.on b.scoping.texts l m →
-        IsEntry derived (leads b.scoping b.given number) m (Leafref target above need) → IsEnd b.given number (record { target = target; above = above })
-    leafref_is number l (Entry entry) target above need means is = absurd (subst IsSound is (means_sound b.on b.scoping.texts l (Entry entry) means))
+        IsEntry derived (NameEach tables.patterns) (leads b.scoping b.given number) m (Leafref target above need) → IsEnd b.given number (record { target = target; above = above })
+    leafref_is number l (Entry entry ps) target above need means is =
+        absurd (patterned_apart (NameEach tables.patterns) entry ps target above need (means_sound b.on b.scoping.texts l (Entry entry ps) means) is)
     leafref_is number l (OneOf members) target above need means is = absurd is
     leafref_is number l (DerivedFrom bases) target above need means is = absurd is
     leafref_is number l (Refers path required) target above need means is =
@@ -110,15 +111,15 @@ module _ (derived : List Located → List QName → Type 0) (b : Basis) (tables 
     turn_above number node there target above need is valued =
         let t = type_is number node there valued in
         let same : t.1.entry ≡ Leafref target (Some above) need = (let f = t.1.at in cc) in
-        let end = leafref_is number t.0 t.1.m target (Some above) need t.1.means_it (subst (IsEntry derived (leads b.scoping b.given number) t.1.m) same t.1.is_it) in
+        let end = leafref_is number t.0 t.1.m target (Some above) need t.1.means_it (subst (IsEntry derived (NameEach tables.patterns) (leads b.scoping b.given number) t.1.m) same t.1.is_it) in
         let chain = end.turns above refl in
         (chain.0, chain_kept above (chain.0 ++ number ∷ []) chain.1)
 
     module _ (named : (bases : List Located) (names : List QName) → derived bases names → All (IsIdentityOf tables) names) where
-      entry_proper : (number : ℕ) (l : Located) (m : Meaning) (entry : ValueType) → Means b.on b.scoping.texts l m → IsEntry derived (leads b.scoping b.given number) m entry →
-          HasTypes (Means b.on b.scoping.texts) (IsEntry derived (leads b.scoping b.given number)) tables.types (members_of m) (numbers_of m entry) → IsProperType tables entry
-      entry_proper number l (Entry one) entry means is members = sound_proper tables entry (subst IsSound is (means_sound b.on b.scoping.texts l (Entry one) means))
-      entry_proper number l (OneOf ls) (Members numbers) means is members = all_there (Means b.on b.scoping.texts) (IsEntry derived (leads b.scoping b.given number)) tables.types ls numbers members
+      entry_proper : (number : ℕ) (l : Located) (m : Meaning) (entry : ValueType) → Means b.on b.scoping.texts l m → IsEntry derived (NameEach tables.patterns) (leads b.scoping b.given number) m entry →
+          HasTypes (Means b.on b.scoping.texts) (IsEntry derived (NameEach tables.patterns) (leads b.scoping b.given number)) tables.types (members_of m) (numbers_of m entry) → IsProperType tables entry
+      entry_proper number l (Entry one ps) entry means is members = patterned_proper (NameEach tables.patterns) tables one ps entry (means_sound b.on b.scoping.texts l (Entry one ps) means) is
+      entry_proper number l (OneOf ls) (Members numbers) means is members = all_there (Means b.on b.scoping.texts) (IsEntry derived (NameEach tables.patterns) (leads b.scoping b.given number)) tables.types ls numbers members
       entry_proper number l (OneOf ls) (Whole among) means is members = absurd is
       entry_proper number l (OneOf ls) (Decimal digits among) means is members = absurd is
       entry_proper number l (OneOf ls) (String among starless patterns) means is members = absurd is
@@ -162,7 +163,7 @@ module _ (derived : List Located → List QName → Type 0) (b : Basis) (tables 
       each_proper : All (IsProperType tables) tables.types
       each_proper number d less =
           let u = typed.entries number less in
-          let one = one_of (Means b.on b.scoping.texts) (IsEntry derived (leads b.scoping b.given u.0)) tables.types u.3.one number u.3.has in
+          let one = one_of (Means b.on b.scoping.texts) (IsEntry derived (NameEach tables.patterns) (leads b.scoping b.given u.0)) tables.types u.3.one number u.3.has in
           let same : one.entry ≡ get_or tables.types number d = (let e = slice_get-get_or tables.types number d less in let f = one.at in cc) in
           subst (IsProperType tables) same (entry_proper u.0 u.3.one one.m one.entry one.means_it one.is_it one.members)
 

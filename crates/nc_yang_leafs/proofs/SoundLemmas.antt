@@ -1,17 +1,16 @@
 -- What a `type` statement says by its own parts is in order: digits of decimals, names of bits.
-use Rattle.std.proofs.Common.{◌≡◌, ◌≢◌, ◌<◌, ◌≤◌, sym, ◌&&◌, ℕ, Bool, true, false, cond, List, [], Option, Some, None, refl, subst, arith}
+use Rattle.std.proofs.Common.{◌≡◌, ◌≢◌, ◌≤◌, sym, ◌++◌, ◌&&◌, ℕ, Bool, true, false, cond, List, [], Option, Some, None, refl, subst, arith}
 use Rattle.std.specs.Prelude.{ℤ, pos, negsuc, nat_le, option_map}
-use Rattle.std.specs.List.{All, AllPairs}
-use Rattle.std.proofs.lemmas.List.Elements.{All-nil}
+use Rattle.std.specs.List.{AllPairs}
 use Rattle.nc_schema.specs.NumberTexts.{number_of}
 use Rattle.nc_schema.specs.Proper.{IsProperType}
-use Rattle.nc_schema.specs.Tables.{NamesPatterns, Tables}
+use Rattle.nc_schema.specs.Tables.{Tables}
 use Rattle.nc_schema.specs.declared.value_type.ValueType.{ValueType}
 use Rattle.nc_schema.specs.declared.value_type.ValueType.TheVariants.{Whole, Decimal, Chars as String, Boolean as Truth, Enumeration as Names, Bits as Set, Binary as Octets, Empty as Nothing, Union as Members, Identity, Leafref, Instance, NodeInstance}
 use Rattle.nc_yang_words.specs.declared.statement.Statement.{Statement}
 use Rattle.nc_yang_statements.specs.declared.built_in.BuiltIn.{BuiltIn}
 use Rattle.nc_yang_statements.specs.declared.built_in.BuiltIn.TheVariants.{Binary, Bits, Boolean, Decimal64, Empty, Enumeration, IdentityRef, InstanceIdentifier, Int8, Int16, Int32, Int64, LeafRef, Chars, Uint8, Uint16, Uint32, Uint64, Union}
-use Rattle.nc_yang_statements.specs.declared.keyword.Keyword.TheVariants.{Base, FractionDigits, Length, Path, Range, TypeName}
+use Rattle.nc_yang_statements.specs.declared.keyword.Keyword.TheVariants.{Base, FractionDigits, Length, Path, Pattern, Range, TypeName}
 use Rattle.nc_yang_statements.specs.Statements.{below, name, part}
 use Rattle.nc_yang_scopes.specs.Scopes.{Located}
 use Rattle.nc_yang_types.specs.declared.bound.Counted.TheVariants.{Units, Lengths}
@@ -20,6 +19,7 @@ use Rattle.nc_yang_types.specs.Members.{bit_names, enum_names}
 use Rattle.nc_yang_meanings.specs.Features.{stands}
 use Rattle.nc_yang_meanings.specs.Meanings.{DerivedFrom, Entry, Meaning, Means, OneOf, Refers, by_itself, meant, over, with_parts}
 use Rattle.nc_yang_meanings.specs.Places.{part_of, parts_of}
+use Rattle.nc_yang_leafs.specs.Typings.{IsPatterned}
 use Rattle.nc_yang_types.proofs.ApartLemmas.{names_apart}
 
 -- an entry that names no other is in order
@@ -29,39 +29,7 @@ IsSound (Set names) = AllPairs (λ name later. name ≢ later) names
 IsSound (Members members) = ⊥
 IsSound (Identity among) = ⊥
 IsSound (Leafref target above need) = ⊥
-IsSound (String among starless patterns) = patterns ≡ []
 IsSound other = Unit {0}
-
-pub sound_proper : (tables : Tables) (entry : ValueType) → IsSound entry → IsProperType tables entry
-sound_proper tables (Decimal digits among) h = h
-sound_proper tables (Set names) h = h
-sound_proper tables (Members members) h = absurd h
-sound_proper tables (Identity among) h = absurd h
-sound_proper tables (Leafref target above need) h = absurd h
-sound_proper tables (Whole among) h = tt
-sound_proper tables (String among starless patterns) h = tt
-sound_proper tables Truth h = tt
-sound_proper tables (Names names) h = tt
-sound_proper tables (Octets among) h = tt
-sound_proper tables Nothing h = tt
-sound_proper tables (Instance need) h = tt
-sound_proper tables NodeInstance h = tt
-
--- it names no pattern
-pub sound_named : (count : ℕ) (entry : ValueType) → IsSound entry → NamesPatterns count entry
-sound_named count (String among starless patterns) h = subst (All (λ number. number < count)) (sym h) (All-nil (λ number. number < count))
-sound_named count (Decimal digits among) h = tt
-sound_named count (Set names) h = tt
-sound_named count (Members members) h = tt
-sound_named count (Identity among) h = tt
-sound_named count (Leafref target above need) h = tt
-sound_named count (Whole among) h = tt
-sound_named count Truth h = tt
-sound_named count (Names names) h = tt
-sound_named count (Octets among) h = tt
-sound_named count Nothing h = tt
-sound_named count (Instance need) h = tt
-sound_named count NodeInstance h = tt
 
 -- an entry that is made of what may be there
 made : {A : Type 0} (f : A → ValueType) → ((x : A) → IsSound (f x)) → (o : Option A) (entry : ValueType) → option_map f o ≡ Some entry → IsSound entry
@@ -104,7 +72,7 @@ own_sound holds Int16 s entry off e = made Whole (λ among. tt) (restricted (Uni
 own_sound holds Int32 s entry off e = made Whole (λ among. tt) (restricted (Units 0) Range (integers Int32) (below s)) entry e
 own_sound holds Int64 s entry off e = made Whole (λ among. tt) (restricted (Units 0) Range (integers Int64) (below s)) entry e
 own_sound holds LeafRef s entry off e = absurd (cc)
-own_sound holds Chars s entry off e = made (λ among. String among false []) (λ among. refl) (restricted Lengths Length lengths (below s)) entry e
+own_sound holds Chars s entry off e = made (λ among. String among false []) (λ among. tt) (restricted Lengths Length lengths (below s)) entry e
 own_sound holds Uint8 s entry off e = made Whole (λ among. tt) (restricted (Units 0) Range (integers Uint8) (below s)) entry e
 own_sound holds Uint16 s entry off e = made Whole (λ among. tt) (restricted (Units 0) Range (integers Uint16) (below s)) entry e
 own_sound holds Uint32 s entry off e = made Whole (λ among. tt) (restricted (Units 0) Range (integers Uint32) (below s)) entry e
@@ -115,7 +83,7 @@ own_sound holds Union s entry off e = absurd (cc)
 narrowed_sound : (base entry : ValueType) (ss : List Statement) → IsSound base → narrowed base ss ≡ Some entry → IsSound entry
 narrowed_sound (Whole among) entry ss h e = made Whole (λ left. tt) (restricted (Units 0) Range among ss) entry e
 narrowed_sound (Decimal digits among) entry ss h e = made (λ left. Decimal digits left) (λ left. h) (restricted (Units digits) Range among ss) entry e
-narrowed_sound (String among starless patterns) entry ss h e = made (λ left. String left starless patterns) (λ left. h) (restricted Lengths Length among ss) entry e
+narrowed_sound (String among starless patterns) entry ss h e = made (λ left. String left starless patterns) (λ left. tt) (restricted Lengths Length among ss) entry e
 narrowed_sound (Octets among) entry ss h e = made Octets (λ left. tt) (restricted Lengths Length among ss) entry e
 narrowed_sound (Leafref target above need) entry ss h e = absurd h
 narrowed_sound (Instance need) entry ss h e = given (Instance (required need ss)) entry tt e
@@ -129,7 +97,7 @@ narrowed_sound NodeInstance entry ss h e = given NodeInstance entry tt e
 
 -- of a meaning
 abbrev pub IsSoundMeaning : Meaning → Type 0
-IsSoundMeaning (Entry entry) = IsSound entry
+IsSoundMeaning (Entry entry patterns) = IsSound entry
 IsSoundMeaning (OneOf members) = Unit {0}
 IsSoundMeaning (DerivedFrom bases) = Unit {0}
 IsSoundMeaning (Refers path need) = Unit {0}
@@ -145,29 +113,64 @@ meant_sound : (on : ℕ → List ℕ → Bool) (one : BuiltIn) (l : Located) (m 
 meant_sound on Union l m off e = is_meant (OneOf (parts_of TypeName l)) m tt e
 meant_sound on IdentityRef l m off e = is_meant (DerivedFrom (parts_of Base l)) m tt e
 meant_sound on LeafRef l m off e = as_meant (λ path. Refers path (required true (below l.statement))) (part_of Path l) m (λ path f. tt) e
-meant_sound on Binary l m off e = as_meant Entry (own (stands on l.place.text) Binary (below l.statement)) m (λ entry f. own_sound (stands on l.place.text) Binary l.statement entry off f) e
-meant_sound on Bits l m off e = as_meant Entry (own (stands on l.place.text) Bits (below l.statement)) m (λ entry f. own_sound (stands on l.place.text) Bits l.statement entry off f) e
-meant_sound on Boolean l m off e = as_meant Entry (own (stands on l.place.text) Boolean (below l.statement)) m (λ entry f. own_sound (stands on l.place.text) Boolean l.statement entry off f) e
-meant_sound on Decimal64 l m off e = as_meant Entry (own (stands on l.place.text) Decimal64 (below l.statement)) m (λ entry f. own_sound (stands on l.place.text) Decimal64 l.statement entry off f) e
-meant_sound on Empty l m off e = as_meant Entry (own (stands on l.place.text) Empty (below l.statement)) m (λ entry f. own_sound (stands on l.place.text) Empty l.statement entry off f) e
-meant_sound on Enumeration l m off e = as_meant Entry (own (stands on l.place.text) Enumeration (below l.statement)) m (λ entry f. own_sound (stands on l.place.text) Enumeration l.statement entry off f) e
-meant_sound on InstanceIdentifier l m off e = as_meant Entry (own (stands on l.place.text) InstanceIdentifier (below l.statement)) m (λ entry f. own_sound (stands on l.place.text) InstanceIdentifier l.statement entry off f) e
-meant_sound on Int8 l m off e = as_meant Entry (own (stands on l.place.text) Int8 (below l.statement)) m (λ entry f. own_sound (stands on l.place.text) Int8 l.statement entry off f) e
-meant_sound on Int16 l m off e = as_meant Entry (own (stands on l.place.text) Int16 (below l.statement)) m (λ entry f. own_sound (stands on l.place.text) Int16 l.statement entry off f) e
-meant_sound on Int32 l m off e = as_meant Entry (own (stands on l.place.text) Int32 (below l.statement)) m (λ entry f. own_sound (stands on l.place.text) Int32 l.statement entry off f) e
-meant_sound on Int64 l m off e = as_meant Entry (own (stands on l.place.text) Int64 (below l.statement)) m (λ entry f. own_sound (stands on l.place.text) Int64 l.statement entry off f) e
-meant_sound on Chars l m off e = as_meant Entry (own (stands on l.place.text) Chars (below l.statement)) m (λ entry f. own_sound (stands on l.place.text) Chars l.statement entry off f) e
-meant_sound on Uint8 l m off e = as_meant Entry (own (stands on l.place.text) Uint8 (below l.statement)) m (λ entry f. own_sound (stands on l.place.text) Uint8 l.statement entry off f) e
-meant_sound on Uint16 l m off e = as_meant Entry (own (stands on l.place.text) Uint16 (below l.statement)) m (λ entry f. own_sound (stands on l.place.text) Uint16 l.statement entry off f) e
-meant_sound on Uint32 l m off e = as_meant Entry (own (stands on l.place.text) Uint32 (below l.statement)) m (λ entry f. own_sound (stands on l.place.text) Uint32 l.statement entry off f) e
-meant_sound on Uint64 l m off e = as_meant Entry (own (stands on l.place.text) Uint64 (below l.statement)) m (λ entry f. own_sound (stands on l.place.text) Uint64 l.statement entry off f) e
+meant_sound on Binary l m off e = as_meant (λ entry. Entry entry (parts_of Pattern l)) (own (stands on l.place.text) Binary (below l.statement)) m (λ entry f. own_sound (stands on l.place.text) Binary l.statement entry off f) e
+meant_sound on Bits l m off e = as_meant (λ entry. Entry entry (parts_of Pattern l)) (own (stands on l.place.text) Bits (below l.statement)) m (λ entry f. own_sound (stands on l.place.text) Bits l.statement entry off f) e
+meant_sound on Boolean l m off e = as_meant (λ entry. Entry entry (parts_of Pattern l)) (own (stands on l.place.text) Boolean (below l.statement)) m (λ entry f. own_sound (stands on l.place.text) Boolean l.statement entry off f) e
+meant_sound on Decimal64 l m off e = as_meant (λ entry. Entry entry (parts_of Pattern l)) (own (stands on l.place.text) Decimal64 (below l.statement)) m (λ entry f. own_sound (stands on l.place.text) Decimal64 l.statement entry off f) e
+meant_sound on Empty l m off e = as_meant (λ entry. Entry entry (parts_of Pattern l)) (own (stands on l.place.text) Empty (below l.statement)) m (λ entry f. own_sound (stands on l.place.text) Empty l.statement entry off f) e
+meant_sound on Enumeration l m off e = as_meant (λ entry. Entry entry (parts_of Pattern l)) (own (stands on l.place.text) Enumeration (below l.statement)) m (λ entry f. own_sound (stands on l.place.text) Enumeration l.statement entry off f) e
+meant_sound on InstanceIdentifier l m off e = as_meant (λ entry. Entry entry (parts_of Pattern l)) (own (stands on l.place.text) InstanceIdentifier (below l.statement)) m (λ entry f. own_sound (stands on l.place.text) InstanceIdentifier l.statement entry off f) e
+meant_sound on Int8 l m off e = as_meant (λ entry. Entry entry (parts_of Pattern l)) (own (stands on l.place.text) Int8 (below l.statement)) m (λ entry f. own_sound (stands on l.place.text) Int8 l.statement entry off f) e
+meant_sound on Int16 l m off e = as_meant (λ entry. Entry entry (parts_of Pattern l)) (own (stands on l.place.text) Int16 (below l.statement)) m (λ entry f. own_sound (stands on l.place.text) Int16 l.statement entry off f) e
+meant_sound on Int32 l m off e = as_meant (λ entry. Entry entry (parts_of Pattern l)) (own (stands on l.place.text) Int32 (below l.statement)) m (λ entry f. own_sound (stands on l.place.text) Int32 l.statement entry off f) e
+meant_sound on Int64 l m off e = as_meant (λ entry. Entry entry (parts_of Pattern l)) (own (stands on l.place.text) Int64 (below l.statement)) m (λ entry f. own_sound (stands on l.place.text) Int64 l.statement entry off f) e
+meant_sound on Chars l m off e = as_meant (λ entry. Entry entry (parts_of Pattern l)) (own (stands on l.place.text) Chars (below l.statement)) m (λ entry f. own_sound (stands on l.place.text) Chars l.statement entry off f) e
+meant_sound on Uint8 l m off e = as_meant (λ entry. Entry entry (parts_of Pattern l)) (own (stands on l.place.text) Uint8 (below l.statement)) m (λ entry f. own_sound (stands on l.place.text) Uint8 l.statement entry off f) e
+meant_sound on Uint16 l m off e = as_meant (λ entry. Entry entry (parts_of Pattern l)) (own (stands on l.place.text) Uint16 (below l.statement)) m (λ entry f. own_sound (stands on l.place.text) Uint16 l.statement entry off f) e
+meant_sound on Uint32 l m off e = as_meant (λ entry. Entry entry (parts_of Pattern l)) (own (stands on l.place.text) Uint32 (below l.statement)) m (λ entry f. own_sound (stands on l.place.text) Uint32 l.statement entry off f) e
+meant_sound on Uint64 l m off e = as_meant (λ entry. Entry entry (parts_of Pattern l)) (own (stands on l.place.text) Uint64 (below l.statement)) m (λ entry f. own_sound (stands on l.place.text) Uint64 l.statement entry off f) e
 
-parts_sound : (n m : Meaning) (ss : List Statement) → IsSoundMeaning n → with_parts n ss ≡ Some m → IsSoundMeaning m
-parts_sound (Entry base) m ss h e = as_meant Entry (narrowed base ss) m (λ entry f. narrowed_sound base entry ss h f) e
-parts_sound (OneOf members) m ss h e = is_meant (OneOf members) m tt e
-parts_sound (DerivedFrom bases) m ss h e = is_meant (DerivedFrom bases) m tt e
-parts_sound (Refers path need) m ss h e = is_meant (Refers path (required need ss)) m tt e
+parts_sound : (n m : Meaning) (l : Located) → IsSoundMeaning n → with_parts n l ≡ Some m → IsSoundMeaning m
+parts_sound (Entry base patterns) m l h e =
+    as_meant (λ left. Entry left (patterns ++ parts_of Pattern l)) (narrowed base (below l.statement)) m (λ entry f. narrowed_sound base entry (below l.statement) h f) e
+parts_sound (OneOf members) m l h e = is_meant (OneOf members) m tt e
+parts_sound (DerivedFrom bases) m l h e = is_meant (DerivedFrom bases) m tt e
+parts_sound (Refers path need) m l h e = is_meant (Refers path (required need (below l.statement))) m tt e
 
 pub means_sound : (on : ℕ → List ℕ → Bool) (texts : List Statement) (l : Located) (m : Meaning) → Means on texts l m → IsSoundMeaning m
 means_sound on texts _ _ (by_itself l one m built kept is) = meant_sound on one l m kept is
-means_sound on texts _ _ (over l base n m base_is means kept is) = parts_sound n m (below l.statement) (means_sound on texts base n means) is
+means_sound on texts _ _ (over l base n m base_is means kept is) = parts_sound n m l (means_sound on texts base n means) is
+
+-- an entry of such a meaning is in order, whatever the numbers of its patterns
+pub patterned_proper : (named : List ℕ → List Located → Type 0) (tables : Tables) (one : ValueType) (patterns : List Located) (entry : ValueType) → IsSound one → IsPatterned named one patterns entry →
+    IsProperType tables entry
+patterned_proper named tables (String lengths starless none) patterns entry sound is = subst (IsProperType tables) (sym is.2) tt
+patterned_proper named tables (Decimal digits among) patterns entry sound is = subst (IsProperType tables) is sound
+patterned_proper named tables (Set names) patterns entry sound is = subst (IsProperType tables) is sound
+patterned_proper named tables (Members members) patterns entry sound is = absurd sound
+patterned_proper named tables (Identity among) patterns entry sound is = absurd sound
+patterned_proper named tables (Leafref target above need) patterns entry sound is = absurd sound
+patterned_proper named tables (Whole among) patterns entry sound is = subst (IsProperType tables) is tt
+patterned_proper named tables Truth patterns entry sound is = subst (IsProperType tables) is tt
+patterned_proper named tables (Names names) patterns entry sound is = subst (IsProperType tables) is tt
+patterned_proper named tables (Octets among) patterns entry sound is = subst (IsProperType tables) is tt
+patterned_proper named tables Nothing patterns entry sound is = subst (IsProperType tables) is tt
+patterned_proper named tables (Instance need) patterns entry sound is = subst (IsProperType tables) is tt
+patterned_proper named tables NodeInstance patterns entry sound is = subst (IsProperType tables) is tt
+
+-- and is no leafref
+pub patterned_apart : (named : List ℕ → List Located → Type 0) (one : ValueType) (patterns : List Located) (target : ℕ) (above : Option ℕ) (need : Bool) → IsSound one →
+    IsPatterned named one patterns (Leafref target above need) → ⊥
+patterned_apart named (String lengths starless none) patterns target above need sound is = let e = is.2 in absurd (cc)
+patterned_apart named (Decimal digits among) patterns target above need sound is = absurd (cc)
+patterned_apart named (Set names) patterns target above need sound is = absurd (cc)
+patterned_apart named (Members members) patterns target above need sound is = absurd sound
+patterned_apart named (Identity among) patterns target above need sound is = absurd sound
+patterned_apart named (Leafref to outer asked) patterns target above need sound is = absurd sound
+patterned_apart named (Whole among) patterns target above need sound is = absurd (cc)
+patterned_apart named Truth patterns target above need sound is = absurd (cc)
+patterned_apart named (Names names) patterns target above need sound is = absurd (cc)
+patterned_apart named (Octets among) patterns target above need sound is = absurd (cc)
+patterned_apart named Nothing patterns target above need sound is = absurd (cc)
+patterned_apart named (Instance asked) patterns target above need sound is = absurd (cc)
+patterned_apart named NodeInstance patterns target above need sound is = absurd (cc)

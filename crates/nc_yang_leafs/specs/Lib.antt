@@ -1,6 +1,7 @@
 pub mod Conditions
 pub mod Bases
 pub mod Typings
+pub mod Patterns
 pub mod Faults
 pub mod Marks
 pub mod Named

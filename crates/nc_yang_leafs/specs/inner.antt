@@ -3,3 +3,4 @@ pub mod Tables
 pub mod Sites
 pub mod Nodes
 pub mod Assembly
+pub mod Adding

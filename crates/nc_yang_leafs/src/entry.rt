@@ -1,13 +1,14 @@
 //! Entries of the table of types.
 ghost use Rattle.std.specs.Prelude.{◌≡◌, IfOk, IfErr};
 ghost use Rattle.nc_yang_statements.specs.Stops.{OnBroken};
+ghost use Rattle.nc_yang_leafs.specs.Patterns.{with_numbers};
 ghost use Rattle.nc_yang_leafs.specs.inner.Sites.{HasPrefixes, work};
 ghost use Rattle.nc_yang_leafs.specs.inner.Tables as words;
 
 use crate::derives::Derives;
 use crate::site::Site;
 use crate::table::Table;
-use nc_names::{Copies, Memory};
+use nc_names::{Copies, Many, Memory};
 use nc_paths::leafref_end;
 use nc_schema::{LeafrefEnd, ValueType};
 use nc_yang_meanings::Planned;
@@ -71,6 +72,38 @@ fn leafref(
     }
 }
 
+// As numbers of 32 bits.
+fn narrow(alloc: Global, numbers: &[usize]) -> Result<Many<u32>, Memory>
+    ensures { IfOk result (λ it. it ≡ numbers.now) }
+{
+    let mut all = Many::new(alloc);
+    for number in numbers {
+        let Ok(one) = u32::try_from(*number) else {
+            return Err(Memory);
+        };
+        all.push(one)?;
+    }
+    Ok(all)
+}
+
+// An entry with the numbers of its `pattern` statements, where it is of a string.
+fn finished(alloc: Global, entry: &ValueType, patterns: &[usize]) -> Result<ValueType, Memory>
+    ensures { IfOk result (λ it. it ≡ with_numbers patterns.now entry.now) }
+{
+    match entry {
+        ValueType::Chars {
+            lengths,
+            starless,
+            ..
+        } => Ok(ValueType::Chars {
+            lengths: lengths.copy()?,
+            starless: *starless,
+            patterns: narrow(alloc, patterns)?,
+        }),
+        other => other.copy(),
+    }
+}
+
 /// The entry of a plan for a data node. The plans of a union's members get numbers.
 pub(crate) fn entry<D: Derives>(
     alloc: Global,
@@ -86,7 +119,10 @@ pub(crate) fn entry<D: Derives>(
     ensures fault { IfErr result (OnBroken (words.IsLost (work site.now node) planned.now)) }
 {
     match planned {
-        Planned::Finished(one) => Ok(one.copy()?),
+        Planned::Finished {
+            entry: one,
+            patterns,
+        } => Ok(finished(alloc, one, patterns.as_slice())?),
         Planned::Members(members) => Ok(ValueType::Union {
             members: table.ask_all(alloc, site, node, members.as_slice())?,
         }),

@@ -54,7 +54,7 @@ fn is_plain(meanings: &Meanings, marks: &[bool], planned: &Planned) -> bool
     ensures { result ≡ words.is_plain meanings.now.findings marks.now planned.now }
 {
     match planned {
-        Planned::Finished(_) | Planned::Bases(_) => true,
+        Planned::Finished { .. } | Planned::Bases(_) => true,
         Planned::Leafref { .. } => false,
         Planned::Members(members) => are_unmarked(meanings, marks, members.as_slice()),
     }

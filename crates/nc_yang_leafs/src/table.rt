@@ -24,7 +24,8 @@ pub(crate) struct Table {
     pub known: Many<Option<Slot>>,
     /// For each number that was given its plan.
     pub plans: Many<usize>,
-    /// The types of the first of these numbers.
+    /// The types of the first of these numbers. The patterns of strings are named by the numbers of their
+    /// statements.
     pub types: Many<ValueType>,
 }
 

@@ -1,6 +1,5 @@
 //! A schema with the types of its leafs and leaf-lists.
-ghost use Rattle.std.specs.Prelude.{◌≡◌, ◌++◌, ℕ, All, Bool, List, [], length, IfOk, IfErr, OnOk, MatchResult};
-ghost use Rattle.nc_schema.specs.Tables.{NamesPatterns};
+ghost use Rattle.std.specs.Prelude.{◌≡◌, ℕ, Bool, List, [], length, IfOk, IfErr, OnOk, MatchResult};
 ghost use Rattle.nc_yang_meanings.specs.Plans.{AreMeanings};
 ghost use Rattle.nc_yang_nodes.specs.FeaturesOn.{is_on};
 ghost use Rattle.nc_yang_scopes.specs.Prefixes.{ArePrefixes};
@@ -8,10 +7,11 @@ ghost use Rattle.nc_yang_leafs.specs.Bases as bases;
 ghost use Rattle.nc_yang_leafs.specs.Conditions.{holds};
 ghost use Rattle.nc_yang_statements.specs.Stops.{OnBroken};
 ghost use Rattle.nc_yang_leafs.specs.Faults.{BreaksLeafref};
-ghost use Rattle.nc_yang_leafs.specs.Typings.{IsTyped};
+ghost use Rattle.nc_yang_leafs.specs.Patterns as typings;
 ghost use Rattle.nc_yang_leafs.specs.inner.Assembly as assembly;
 ghost use Rattle.nc_yang_leafs.specs.inner.Nodes.{HaveKinds};
 
+use crate::bare::Typed;
 use crate::derives::Derives;
 use crate::firsts::firsts_of;
 use crate::kinds::{Found, all_types};
@@ -25,19 +25,72 @@ use nc_yang_scopes::{Scopes, TextFault};
 use nc_yang_statements::Stop;
 use std::alloc::Global;
 
-// With types, which name no patterns that the schema has not.
-fn with_types(schema: Schema, types: Many<ValueType>) -> Result<Schema, Memory>
-    requires { All (NamesPatterns (length schema.patterns)) types }
-    ensures { IfOk result (λ it. it ≡ record schema { types = schema.types ++ types }) }
+// A type without its patterns, and the numbers of these.
+fn apart(alloc: Global, one: ValueType) -> (ValueType, Many<u32>)
+    ensures bare { result.0 ≡ typings.bare one }
+    ensures numbers { result.1 ≡ typings.numbers_in one }
+{
+    match one {
+        ValueType::Chars {
+            lengths,
+            starless,
+            patterns,
+        } => {
+            let bare = ValueType::Chars {
+                lengths,
+                starless,
+                patterns: Many::new(alloc),
+            };
+            (bare, patterns)
+        }
+        other => (other, Many::new(alloc)),
+    }
+}
+
+// With a type, and the numbers of its patterns apart from it.
+#[tactic(auto, using(crate::proofs::PatternLemmas::bare_named))]
+fn add_type(
+    alloc: Global,
+    schema: &mut Schema,
+    patterns: &mut Many<Many<u32>>,
+    one: ValueType,
+) -> Result<(), Memory>
+    ensures { OnOk result (assembly.both schema.new patterns.new
+        ≡ assembly.with_type (assembly.both schema.old patterns.old) one) }
+{
+    if schema.types().len() >= u32::MAX as usize {
+        return Err(Memory);
+    }
+    let (bare, numbers) = apart(alloc, one);
+    schema.add_type(bare)?;
+    patterns.push(numbers)?;
+    Ok(())
+}
+
+// With types, and the numbers of their patterns apart from them.
+fn add_types(
+    alloc: Global,
+    schema: &mut Schema,
+    patterns: &mut Many<Many<u32>>,
+    types: Many<ValueType>,
+) -> Result<(), Memory>
+    requires { patterns.old ≡ [] }
+    ensures { OnOk result (assembly.HasBareTypes schema.old types (assembly.both schema.new patterns.new)) }
+{
+    for one in types.into_vec() {
+        add_type(alloc, schema, patterns, one)?;
+    }
+    Ok(())
+}
+
+// The schema with types, and the numbers of their patterns apart from them.
+fn with_types(alloc: Global, schema: Schema, types: Many<ValueType>) -> Result<Typed, Memory>
+    ensures { IfOk result (assembly.HasBareTypes schema types) }
 {
     let mut schema = schema;
-    for one in types.into_vec() {
-        if schema.types().len() >= u32::MAX as usize {
-            return Err(Memory);
-        }
-        schema.add_type(one)?;
-    }
-    Ok(schema)
+    let mut patterns = Many::new(alloc);
+    add_types(alloc, &mut schema, &mut patterns, types)?;
+    Ok(Typed { schema, patterns })
 }
 
 // With the number of a type for a data node.
@@ -112,7 +165,7 @@ fn types_of<D: Derives>(
 /// order have one together; one with a leafref has an entry for each data node that uses it, since its path
 /// starts there (RFC 7950 9.9.2). It is a fault where such a path leads to no leaf or leaf-list. Time and memory
 /// grow with the data nodes and the entries of the table. More than 2^32 - 2 entries are answered as want of
-/// memory.
+/// memory. The patterns of strings have no numbers yet.
 pub fn typed<'a, D: Derives>(
     alloc: Global,
     scopes: &Scopes<'a>,
@@ -122,19 +175,20 @@ pub fn typed<'a, D: Derives>(
     prefixes: &[Many<Bound>],
     identities: &D,
     schema: Schema,
-) -> Result<Schema, Stop<TextFault>>
+) -> Result<Typed, Stop<TextFault>>
     requires meanings { AreMeanings (holds scopes.now.texts (is_on features.now)) scopes.now meanings.now }
     requires whole { bases.AllMeanWhole (bases.basis features.now scopes.now plan.now schema) }
     requires prefixes { ArePrefixes scopes.now.texts prefixes.now }
     requires located { D.located identities.now ≡ scopes.now.located }
-    requires blank { schema.types ≡ [] }
+    requires blank { (schema.types ≡ []) × (schema.patterns ≡ []) }
     ensures { MatchResult result
-        (IsTyped (D.derived identities.now) (bases.basis features.now scopes.now plan.now schema))
+        (typings.AreTypings (D.derived identities.now) (bases.basis features.now scopes.now plan.now schema))
         (OnBroken (BreaksLeafref (bases.basis features.now scopes.now plan.now schema))) }
 {
     let Found { types, kinds } = types_of(
         alloc, scopes, plan, meanings, prefixes, identities, &schema,
     )?;
-    let schema = with_types(schema, types)?;
-    Ok(with_kinds(schema, kinds.as_slice())?)
+    let Typed { schema, patterns } = with_types(alloc, schema, types)?;
+    let schema = with_kinds(schema, kinds.as_slice())?;
+    Ok(Typed { schema, patterns })
 }

@@ -6,6 +6,7 @@ use Rattle.nc_schema.specs.declared.node.Node.{Node}
 use Rattle.nc_schema.specs.declared.value_type.ValueType.{ValueType}
 use Rattle.nc_schema.specs.Kinds.{has_value}
 use Rattle.nc_yang_scopes.specs.declared.naming.TextFault.{TextFault}
+use Rattle.nc_yang_scopes.specs.Numbers.{AreNumbers}
 use Rattle.nc_yang_scopes.specs.Scopes.{Located}
 use Rattle.nc_yang_nodes.specs.declared.planned.Plan.{Plan}
 use Rattle.nc_yang_meanings.specs.declared.planned.Meanings.{Meanings}
@@ -28,9 +29,9 @@ pub record GivesNumber (derived : List Located → List QName → Type 0) (on : 
   pub adds : AddsTypes old new
   pub settled : IsSettled derived w new
   pub means : MeansWhole on w.scoping.texts top →
-      HasTypes (Means on w.scoping.texts) (IsEntry derived (leads w.scoping w.given w.node)) new.types (top ∷ []) (number ∷ [])
+      HasTypes (Means on w.scoping.texts) (IsEntry derived (AreNumbers w.scoping.located) (leads w.scoping w.given w.node)) new.types (top ∷ []) (number ∷ [])
   pub fresh : MeansWhole on w.scoping.texts top → (other : ℕ) → length old.types ≤ other → other < length new.types →
-      (l : Located) × IsAmong on w.scoping.texts top l × HasTypes (Means on w.scoping.texts) (IsEntry derived (leads w.scoping w.given w.node)) new.types (l ∷ []) (other ∷ [])
+      (l : Located) × IsAmong on w.scoping.texts top l × HasTypes (Means on w.scoping.texts) (IsEntry derived (AreNumbers w.scoping.located) (leads w.scoping w.given w.node)) new.types (l ∷ []) (other ∷ [])
 
 -- a data node may be given a type
 pub record MayGive (derived : List Located → List QName → Type 0) (b : Basis) (w : Work) (kind : Kind) (table : Table) : Type 0 where
@@ -42,8 +43,8 @@ pub record MayGive (derived : List Located → List QName → Type 0) (b : Basis
 pub record Gives (derived : List Located → List QName → Type 0) (b : Basis) (w : Work) (kind : Kind) (old new : Table) (kind_of_value : ℕ) : Type 0 where
   pub adds : AddsTypes old new
   pub settled : IsSettled derived w new
-  pub has : HasItsType derived b new.types w.node kind kind_of_value
-  pub fresh : (number : ℕ) → length old.types ≤ number → number < length new.types → IsOfType derived b new.types w.node kind number
+  pub has : HasItsType derived (AreNumbers b.scoping.located) b new.types w.node kind kind_of_value
+  pub fresh : (number : ℕ) → length old.types ≤ number → number < length new.types → IsOfType derived (AreNumbers b.scoping.located) b new.types w.node kind number
 
 -- the path of a leafref in its type leads nowhere
 pub record BreaksAt (b : Basis) (w : Work) (kind : Kind) (fault : TextFault) : Type 0 where
@@ -60,8 +61,8 @@ blank count = record { known = replicate count None; plans = []; types = [] }
 pub record HaveKinds (derived : List Located → List QName → Type 0) (b : Basis) (types : List ValueType) (count : ℕ) (kinds : List ℕ) : Type 0 where
   pub counted : length kinds ≡ count
   pub each : (number kind : ℕ) (node : Node) → slice_get kinds number ≡ Some kind → slice_get b.given.nodes number ≡ Some node →
-      HasItsType derived b types number node.kind kind
-  pub used : (number : ℕ) → number < length types → IsInUse derived b types number
+      HasItsType derived (AreNumbers b.scoping.located) b types number node.kind kind
+  pub used : (number : ℕ) → number < length types → IsInUse derived (AreNumbers b.scoping.located) b types number
 
 -- what is known of the schema and of what its types mean
 pub record IsKnown (b : Basis) (meanings : Meanings) (marks : List Bool) : Type 0 where

@@ -21,6 +21,7 @@ use Rattle.nc_yang_leafs.specs.Faults.{fault_at}
 use Rattle.nc_yang_leafs.specs.Typings.{IsAmong}
 use Rattle.nc_yang_leafs.specs.Marks.{is_marked}
 use Rattle.nc_yang_leafs.specs.Named.{HaveNames}
+use Rattle.nc_yang_leafs.specs.Patterns.{with_numbers}
 use Rattle.nc_yang_leafs.specs.inner.Firsts.{AreFirsts, first_in, plan_for}
 
 -- for which data node types are made, and from what
@@ -91,9 +92,9 @@ pub record IsLeafref (w : Work) (path : ℕ) (required : Bool) (entry : ValueTyp
   pub leads : LeadsTo w path (Some end)
   pub is : entry ≡ LeafrefType end.target end.above required
 
--- an entry is of a plan, with the numbers that its members have
+-- an entry is of a plan, with the numbers of its `pattern` statements or those that its members have
 abbrev pub Fits : (derived : List Located → List QName → Type 0) → Work → List (Option Slot) → Planned → ValueType → Type 0
-Fits derived w known (Finished entry) other = other ≡ entry
+Fits derived w known (Finished entry patterns) other = other ≡ with_numbers patterns entry
 Fits derived w known (Members members) other =
     (numbers : List ℕ) × (other ≡ UnionType numbers) × (map (number_at w known) members ≡ map Some numbers)
 Fits derived w known (Bases bases) other =

@@ -1,15 +1,20 @@
 -- Schemas that are one but for the numbers of types: where their types take texts alike, they have the same defaults.
 use Rattle.std.proofs.Common.{◌≡◌, ◌&&◌, ◌||◌, ◌==◌, not, cond, ℕ, zero, suc, Bool, true, false, List, [], ◌∷◌, length, map, refl, sym, ap, ◌∙◌, subst, arith}
-use Rattle.std.specs.Prelude.{◌<◌, Option, Some, None, IfSome, option_and_then, slice_get, Contains}
+use Rattle.std.specs.Prelude.{◌<◌, pos, Option, Some, None, IfSome, option_and_then, slice_get, Contains}
 use Rattle.std.specs.List.{list_any}
 use Rattle.std.proofs.lemmas.Option.{slice_get_within}
 use Rattle.nc_names.specs.declared.name.Bound.{Bound}
 use Rattle.nc_names.specs.declared.name.QName.{QName}
 use Rattle.nc_names.specs.Ends.{trimmed}
+use Rattle.nc_names.specs.Signs.{asterisk}
+use Rattle.nc_patterns.specs.Admits.{admits_each}
 use Rattle.nc_schema.specs.InstancePaths.{key_nodes}
+use Rattle.nc_schema.specs.NumberTexts.{is_among}
+use Rattle.nc_schema.specs.PathWords.{begins_with}
 use Rattle.nc_schema.specs.Tables.{Tables}
-use Rattle.nc_schema.specs.Values.{Givers, Gives, canonical, fits_paths, identity_text, instance_text, is_key_above, is_quotable, node_instance_text, node_text, string_text, text_in_type, text_within, type_of, type_text, value_depth}
+use Rattle.nc_schema.specs.Values.{Givers, Gives, canonical, character_count, fits_paths, identity_text, instance_text, is_key_above, is_quotable, node_instance_text, node_text, string_text, text_in_type, text_within, type_of, type_text, value_depth}
 use Rattle.nc_schema.specs.declared.node.Node.{Node}
+use Rattle.nc_schema.specs.declared.value_type.Between.{Between}
 use Rattle.nc_schema.specs.declared.value_type.ValueType.{ValueType}
 use Rattle.nc_schema.specs.declared.value_type.ValueType.TheVariants.{Whole, Decimal, Chars, Boolean, Enumeration, Bits, Binary, Empty, Union, Identity, Leafref, Instance, NodeInstance}
 use Rattle.nc_yang_words.specs.declared.statement.Statement.{Statement}
@@ -18,7 +23,7 @@ use Rattle.nc_yang_scopes.specs.Prefixes.{prefixes_in}
 use Rattle.nc_yang_scopes.specs.Scopes.{Located, Scoping}
 use Rattle.nc_yang_scopes.specs.declared.naming.TextFault.{TextFault}
 use Rattle.nc_yang_nodes.specs.declared.planned.Plan.{Plan}
-use Rattle.nc_yang_defaults.specs.Defaults.{AreDefaultsOf, BreaksAt, BreaksDefault, HasDefaults, StopsAt}
+use Rattle.nc_yang_defaults.specs.Defaults.{AreDefaultsOf, BreaksAt, BreaksDefault, HasDefaults, KeepsDefaults, StopsAt}
 use Rattle.nc_yang_defaults.specs.Readings.{has_whole, is_other_base, value_of}
 use Rattle.nc_yang_defaults.specs.Sources.{AreSources, BringsTo, Defined, brought, nothing, own}
 use Rattle.nc_yang_defaults.proofs.BareLemmas.{bare_by, identity_same, instance_same, key_above_same, key_nodes_same, node_instance_same}
@@ -28,9 +33,9 @@ use Rattle.nc_yang_defaults.proofs.NodeLemmas.{good_not_bad}
 use Rattle.nc_yang_defaults.proofs.OutcomeLemmas.{stated}
 use Rattle.nc_yang_defaults.proofs.SourceLemmas.{one_sources}
 
--- a schema without types and defaults
+-- a schema without types, patterns and defaults
 abbrev pub path_tables : Tables → Tables
-path_tables t = record { nodes = map (bare_by (λ n. 0)) t.nodes; choices = t.choices; types = []; modules = t.modules; patterns = t.patterns }
+path_tables t = record { nodes = map (bare_by (λ n. 0)) t.nodes; choices = t.choices; types = []; modules = t.modules; patterns = [] }
 
 -- the type has others
 abbrev pub has_others : ValueType → Bool
@@ -38,42 +43,55 @@ has_others (Union members) = true
 has_others (Leafref target above required) = true
 has_others type = false
 
+-- the type has neither others nor patterns
+abbrev pub is_plain : ValueType → Bool
+is_plain (Union members) = false
+is_plain (Leafref target above required) = false
+is_plain (Chars lengths starless numbers) = false
+is_plain type = true
+
 then_then : {A B C : Type 0} (f : B → Option C) (g : A → Option B) (o : Option A) → option_and_then (λ x. option_and_then f (g x)) o ≡ option_and_then f (option_and_then g o)
 then_then f g None = refl
 then_then f g (Some x) = refl
 
 module _ (t u : Tables) (alike : path_tables t ≡ path_tables u) where
   key_nodes_alike : (n : ℕ) → key_nodes t n ≡ key_nodes u n
-  key_nodes_alike n = sym (key_nodes_same (λ n. 0) [] t n) ∙ ap (λ z. key_nodes z n) alike ∙ key_nodes_same (λ n. 0) [] u n
+  key_nodes_alike n = sym (key_nodes_same (λ n. 0) [] [] t n) ∙ ap (λ z. key_nodes z n) alike ∙ key_nodes_same (λ n. 0) [] [] u n
 
   key_above_alike : (n : ℕ) → is_key_above t n ≡ is_key_above u n
-  key_above_alike n = sym (key_above_same (λ n. 0) [] t n) ∙ ap (λ z. is_key_above z n) alike ∙ key_above_same (λ n. 0) [] u n
+  key_above_alike n = sym (key_above_same (λ n. 0) [] [] t n) ∙ ap (λ z. is_key_above z n) alike ∙ key_above_same (λ n. 0) [] [] u n
 
   fits_alike : (n : ℕ) (value : List ℕ) → fits_paths t n value ≡ fits_paths u n value
   fits_alike n value = λ i. not (key_above_alike n i || list_any (λ key. key == n) (key_nodes_alike n i)) || is_quotable value
 
   identity_alike : (bounds : List Bound) (text : List ℕ) → (among : List QName) → identity_text t among bounds text ≡ identity_text u among bounds text
   identity_alike bounds text among =
-      sym (identity_same (λ n. 0) [] t among bounds text) ∙ ap (λ z. identity_text z among bounds text) alike ∙ identity_same (λ n. 0) [] u among bounds text
+      sym (identity_same (λ n. 0) [] [] t among bounds text) ∙ ap (λ z. identity_text z among bounds text) alike ∙ identity_same (λ n. 0) [] [] u among bounds text
 
   instance_alike : (keys other : List Bound → Gives) → keys ≡ other → (bounds : List Bound) (text : List ℕ) → instance_text t keys bounds text ≡ instance_text u other bounds text
   instance_alike keys other same bounds text =
-      sym (instance_same (λ n. 0) [] t keys keys refl bounds text) ∙ ap (λ z. instance_text z keys bounds text) alike
-      ∙ instance_same (λ n. 0) [] u keys other same bounds text
+      sym (instance_same (λ n. 0) [] [] t keys keys refl bounds text) ∙ ap (λ z. instance_text z keys bounds text) alike
+      ∙ instance_same (λ n. 0) [] [] u keys other same bounds text
 
   node_instance_alike : (keys other : List Bound → Gives) → keys ≡ other → (bounds : List Bound) (text : List ℕ) →
       node_instance_text t keys bounds text ≡ node_instance_text u other bounds text
   node_instance_alike keys other same bounds text =
-      sym (node_instance_same (λ n. 0) [] t keys keys refl bounds text) ∙ ap (λ z. node_instance_text z keys bounds text) alike
-      ∙ node_instance_same (λ n. 0) [] u keys other same bounds text
+      sym (node_instance_same (λ n. 0) [] [] t keys keys refl bounds text) ∙ ap (λ z. node_instance_text z keys bounds text) alike
+      ∙ node_instance_same (λ n. 0) [] [] u keys other same bounds text
 
-  -- a type that has no others takes texts in both alike
-  pub alone_alike : (g h : Givers) → g.keys ≡ h.keys → (type : ValueType) → has_others type ≡ false → (bounds : List Bound) (text : List ℕ) →
+  -- strings whose patterns admit the same
+  pub strings_alike : (g h : Givers) (lengths : List Between) (starless : Bool) (ns ms : List ℕ) (bounds : List Bound) (text : List ℕ) →
+      admits_each t.patterns ns text ≡ admits_each u.patterns ms text → text_in_type t g (Chars lengths starless ns) bounds text ≡ text_in_type u h (Chars lengths starless ms) bounds text
+  unfolding string_text
+  strings_alike g h lengths starless ns ms bounds text same = λ i.
+      cond (is_among lengths (pos (character_count text)) && not (starless && begins_with asterisk text) && same i) (Some text) None
+
+  -- a type that has neither others nor patterns takes texts in both alike
+  pub alone_alike : (g h : Givers) → g.keys ≡ h.keys → (type : ValueType) → is_plain type ≡ true → (bounds : List Bound) (text : List ℕ) →
       text_in_type t g type bounds text ≡ text_in_type u h type bounds text
   alone_alike g h same (Whole among) e bounds text = refl
   alone_alike g h same (Decimal digits among) e bounds text = refl
-  alone_alike g h same (Chars lengths starless numbers) e bounds text =
-      ap (λ (z : Tables). string_text z.patterns lengths starless numbers text) alike
+  alone_alike g h same (Chars lengths starless numbers) e bounds text = absurd (cc)
   alone_alike g h same Boolean e bounds text = refl
   alone_alike g h same (Enumeration names) e bounds text = refl
   alone_alike g h same (Bits names) e bounds text = refl
@@ -148,24 +166,29 @@ stops_alike texts t u n ls default same s = record {
   broken = subst (λ f. IfSome (f default) (Contains s.earlier)) (sym same) s.broken;
 }
 
--- where a schema has its defaults, they break no rule in one that differs in its types alone, which give the same values
-pub keep_alike : (scoping : Scoping) (plan : Plan) (t u tables : Tables) (fault : TextFault) →
+-- where the defaults of a schema keep their rules, they break none in one that differs in its types alone, which give the
+-- same values
+pub keep_alike : (scoping : Scoping) (plan : Plan) (t u : Tables) (fault : TextFault) →
     ((n : ℕ) → value_of scoping.texts t n ≡ value_of scoping.texts u n) →
     ((n : ℕ) (node : Node) → slice_get u.nodes n ≡ Some node →
     (old : Node) × (kind : ℕ) × (other : ℕ) × (node ≡ record old { kind_of_value = other }) × (slice_get t.nodes n ≡ Some (record old { kind_of_value = kind }))) →
-    HasDefaults scoping plan t tables → BreaksDefault scoping plan u fault → ⊥
-keep_alike scoping plan t u tables fault same nodes good bad =
+    KeepsDefaults scoping plan t → BreaksDefault scoping plan u fault → ⊥
+keep_alike scoping plan t u fault same nodes good bad =
     let d = bad.at in
     let m = nodes d.number d.node bad.is.0 in
     let here : Defined = record { number = d.number; node = record m.0 { kind_of_value = m.1 }; statement = d.statement } in
-    let h = good.nodes here (m.4, bad.is.1) in
+    let h = good here (m.4, bad.is.1) in
     let b : BreaksAt scoping.texts u (record { number = d.number; node = record m.0 { kind_of_value = m.2 }; statement = d.statement }) bad.default =
     subst (λ z. BreaksAt scoping.texts u (record { number = d.number; node = z; statement = d.statement }) bad.default) m.3 bad.breaks in
-    good_not_bad scoping.texts t here h.values bad.default h.are (record {
+    good_not_bad scoping.texts t here h.0 bad.default h.1 (record {
       sources = b.sources;
       are = sources_alike scoping.texts d.number m.2 m.1 m.0 d.statement b.sources b.are;
       stops = stops_alike scoping.texts t u d.number b.sources bad.default (same d.number) b.stops;
     })
+
+-- those that a schema has keep their rules
+pub defaults_kept : (scoping : Scoping) (plan : Plan) (t tables : Tables) → HasDefaults scoping plan t tables → KeepsDefaults scoping plan t
+defaults_kept scoping plan t tables good d is = let h = good.nodes d is in (h.values, h.are)
 
 -- a data node of both
 abbrev pub IsPair : Tables → Tables → ℕ → Type 0

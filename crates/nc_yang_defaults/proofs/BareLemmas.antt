@@ -60,10 +60,10 @@ module _ (rate : ℕ → ℕ) where
   from_bare p same k [] = refl
   from_bare p same k (n ∷ ns) = λ i. cond (same n i) (Some k) (from_bare p same (k + 1) ns i)
 
-  -- what is said of paths does not depend on types
-  module _ (types : List ValueType) (t : Tables) where
+  -- what is said of paths does not depend on types and patterns
+  module _ (types : List ValueType) (patterns : List (List ℕ)) (t : Tables) where
     abbrev b : Tables
-    b = record { nodes = map (bare_by rate) t.nodes; choices = t.choices; types = types; modules = t.modules; patterns = t.patterns }
+    b = record { nodes = map (bare_by rate) t.nodes; choices = t.choices; types = types; modules = t.modules; patterns = patterns }
 
     at_bare : {B : Type 0} (g : Node → B) (d : B) → ((n : Node) → g (bare_by rate n) ≡ g n) → (i : ℕ) → option_map_or g (slice_get b.nodes i) d ≡ option_map_or g (slice_get t.nodes i) d
     at_bare g d same i = ap (λ o. option_map_or g o d) (get_bare t.nodes i) ∙ or_bare g d same (slice_get t.nodes i)
@@ -205,10 +205,10 @@ module _ (t : Tables) where
   in_type_same g h same (Binary lengths) bounds text = refl
   in_type_same g h same Empty bounds text = refl
   in_type_same g h same (Union members) bounds text = λ i. union_text (same i).types (module_bounds t) bounds [] members text
-  in_type_same g h same (Identity among) bounds text = identity_same (λ n. n) t.types t among bounds (trimmed text)
+  in_type_same g h same (Identity among) bounds text = identity_same (λ n. n) t.types t.patterns t among bounds (trimmed text)
   in_type_same g h same (Leafref target above required) bounds text = λ i. option_and_then (λ number. (same i).types bounds number text) (type_of_same target i)
-  in_type_same g h same (Instance required) bounds text = instance_same (λ n. n) t.types t g.keys h.keys (λ i. (same i).keys) bounds (trimmed text)
-  in_type_same g h same NodeInstance bounds text = node_instance_same (λ n. n) t.types t g.keys h.keys (λ i. (same i).keys) bounds (trimmed text)
+  in_type_same g h same (Instance required) bounds text = instance_same (λ n. n) t.types t.patterns t g.keys h.keys (λ i. (same i).keys) bounds (trimmed text)
+  in_type_same g h same NodeInstance bounds text = node_instance_same (λ n. n) t.types t.patterns t g.keys h.keys (λ i. (same i).keys) bounds (trimmed text)
 
   type_text_same : (keys other : List Bound → Gives) → keys ≡ other → (most : ℕ) (chain : List ℕ) (bounds : List Bound) (number : ℕ) (text : List ℕ) →
       type_text whole keys most chain bounds number text ≡ type_text t other most chain bounds number text
@@ -221,7 +221,7 @@ module _ (t : Tables) where
 
   node_text_same : (keys other : List Bound → Gives) → keys ≡ other → (bounds : List Bound) (number : ℕ) (text : List ℕ) → node_text whole keys bounds number text ≡ node_text t other bounds number text
   node_text_same keys other same bounds number text = λ i.
-      option_and_then (λ type. option_and_then (λ value. cond (not (key_above_same (λ n. n) t.types t number i || list_any (λ key. key == number) (key_nodes_same (λ n. n) t.types t number i)) || is_quotable value) (Some value) None)
+      option_and_then (λ type. option_and_then (λ value. cond (not (key_above_same (λ n. n) t.types t.patterns t number i || list_any (λ key. key == number) (key_nodes_same (λ n. n) t.types t.patterns t number i)) || is_quotable value) (Some value) None)
       (type_text_same keys other same (length t.types) [] bounds type text i)) (type_of_same number i)
 
   within_same : (depth : ℕ) → text_within whole depth ≡ text_within t depth

@@ -9,7 +9,7 @@ use Rattle.nc_schema.specs.Tables.{Tables}
 use Rattle.nc_yang_scopes.specs.Scopes.{Scoping}
 use Rattle.nc_yang_scopes.proofs.Lists.{get_right, get_within}
 use Rattle.nc_yang_nodes.specs.declared.planned.Plan.{Plan}
-use Rattle.nc_yang_defaults.specs.Defaults.{HasDefaults}
+use Rattle.nc_yang_defaults.specs.Defaults.{HasDefaults, KeepsDefaults}
 use Rattle.nc_yang_defaults.specs.Typed.{IsTyped}
 use Rattle.nc_yang_defaults.specs.inner.Putting.{ArePut, IsPut, KeepsRest}
 use Rattle.nc_yang_defaults.specs.inner.Reading.{AreFound}
@@ -109,6 +109,10 @@ underway_last all left old new none u = record {
   rest = u.rest;
   each = λ number node values at fresh there. u.done number node values at fresh (let e : length left ≡ 0 = ap length none in omega (arith, e)) there;
 }
+
+-- what is found of each keeps the rules
+pub keep_rules : (scoping : Scoping) (plan : Plan) (tables : Tables) (found : List (List (List ℕ))) → AreFound scoping plan tables (length tables.nodes) found → KeepsDefaults scoping plan tables
+keep_rules scoping plan tables found are d def = let h = are.each d def (get_within tables.nodes d.number d.node def.0) in (h.0, h.2)
 
 -- the whole
 pub have_defaults : (scoping : Scoping) (plan : Plan) (typed tables : Tables) (found : List (List (List ℕ))) → IsTyped scoping plan typed → AreFound scoping plan typed (length typed.nodes) found → ArePut found typed tables → HasDefaults scoping plan typed tables

@@ -58,6 +58,12 @@ pub record BreaksDefault (scoping : Scoping) (plan : Plan) (tables : Tables) (fa
       → BreaksAt scoping.texts tables other d → ⊥
   pub fault_is : fault ≡ bad_argument (blamed (own_of at.node.kind at.statement) at.statement default)
 
+-- those of no data node break a rule
+abbrev pub KeepsDefaults : Scoping → Plan → Tables → Type 0
+KeepsDefaults scoping plan tables =
+    (d : Defined) → IsDefined scoping plan tables d
+    → (values : List (List ℕ)) × AreDefaultsOf scoping.texts tables d values
+
 -- a data node with its defaults
 pub record HasItsDefault (texts : List Statement) (typed tables : Tables) (d : Defined) : Type 0 where
   pub values : List (List ℕ)

@@ -1,7 +1,7 @@
 //! A schema with the defaults of its leafs and leaf-lists.
 ghost use Rattle.std.specs.Prelude.{MatchResult};
 ghost use Rattle.nc_yang_meanings.specs.Defaults.{AreDefaults};
-ghost use Rattle.nc_yang_defaults.specs.Defaults.{BreaksDefault, HasDefaults};
+ghost use Rattle.nc_yang_defaults.specs.Defaults.{BreaksDefault, HasDefaults, KeepsDefaults};
 ghost use Rattle.nc_yang_statements.specs.Stops.{OnBroken};
 ghost use Rattle.nc_yang_defaults.specs.Typed.{IsTyped};
 ghost use Rattle.nc_yang_scopes.specs.Prefixes.{ArePrefixes};
@@ -14,6 +14,25 @@ use nc_yang_nodes::Plan;
 use nc_yang_scopes::{Scopes, TextFault};
 use nc_yang_statements::Stop;
 use std::alloc::Global;
+
+/// Nothing where the defaults of the leafs and leaf-lists of a schema keep the rules that they have for
+/// [`with_defaults`]; else the first that breaks one.
+pub fn keep_defaults(
+    alloc: Global,
+    scopes: &Scopes,
+    plan: &Plan,
+    defaults: &[Option<usize>],
+    prefixes: &[Many<Bound>],
+    typed: &Schema,
+) -> Result<(), Stop<TextFault>>
+    requires { AreDefaults scopes.now defaults.now }
+    ensures { ArePrefixes scopes.now.texts prefixes.now → IsTyped scopes.now plan.now typed.now →
+        MatchResult result (λ _. KeepsDefaults scopes.now plan.now typed.now)
+        (OnBroken (BreaksDefault scopes.now plan.now typed.now)) }
+{
+    all_defaults(alloc, scopes, plan, defaults, prefixes, typed)?;
+    Ok(())
+}
 
 /// A schema whose leafs and leaf-lists have their types gets their defaults, as canonical texts: each its
 /// own, or the one that its type brings where no value has to be there (RFC 7950 7.6.1, 7.6.4, 7.7.2, 7.7.4).

@@ -5,7 +5,8 @@
 //! nc_yang_nodes, on the defaults that types bring of nc_yang_meanings, and on nc_types for canonical texts.
 //!
 //! `with_defaults` promises exactly the defaults that the statements say, or a bad argument at the first data
-//! node with a default that breaks a rule. The folders of cases/ test it.
+//! node with a default that breaks a rule; `keep_defaults` promises the same answer and changes nothing. The
+//! folders of cases/ test it.
 #![tactic(auto)]
 
 mod all;
@@ -17,7 +18,7 @@ mod sources;
 mod value;
 mod values;
 
-pub use defaults::with_defaults;
+pub use defaults::{keep_defaults, with_defaults};
 pub use laws::{
     defaults_are_canonical, defaults_are_fixed, defaults_keep_rules, leaf_has_one_default,
     outcome_is_canonical,

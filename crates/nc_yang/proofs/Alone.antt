@@ -1,5 +1,5 @@
 -- What a `type` statement means by an entry has no other types.
-use Rattle.std.proofs.Common.{◌≡◌, ℕ, Bool, true, false, List, refl, subst, []}
+use Rattle.std.proofs.Common.{◌≡◌, ◌++◌, ℕ, Bool, true, false, List, refl, subst, []}
 use Rattle.std.specs.Prelude.{Option, Some, None, option_map}
 use Rattle.nc_schema.specs.declared.value_type.Between.{Between}
 use Rattle.nc_schema.specs.declared.value_type.ValueType.{ValueType}
@@ -7,18 +7,18 @@ use Rattle.nc_schema.specs.declared.value_type.ValueType.TheVariants.{Whole, Dec
 use Rattle.nc_yang_words.specs.declared.statement.Statement.{Statement}
 use Rattle.nc_yang_statements.specs.declared.built_in.BuiltIn.{BuiltIn}
 use Rattle.nc_yang_statements.specs.declared.built_in.BuiltIn.TheVariants.{Binary, Bits, Boolean, Decimal64, Empty, Enumeration, IdentityRef, InstanceIdentifier, LeafRef, Chars as StringType, Union}
-use Rattle.nc_yang_statements.specs.declared.keyword.Keyword.TheVariants.{Length, Path, Range}
+use Rattle.nc_yang_statements.specs.declared.keyword.Keyword.TheVariants.{Length, Path, Pattern, Range}
 use Rattle.nc_yang_statements.specs.Statements.{below}
 use Rattle.nc_yang_scopes.specs.Scopes.{Located}
 use Rattle.nc_yang_types.specs.declared.bound.Counted.TheVariants.{Units, Lengths}
 use Rattle.nc_yang_types.specs.Entries.{decimal, decimals, digits_of, integers, lengths, narrowed, own, required, restricted}
 use Rattle.nc_yang_meanings.specs.Features.{stands}
 use Rattle.nc_yang_meanings.specs.Meanings.{DerivedFrom, Entry, Meaning, Means, OneOf, Refers, by_itself, meant, over, with_parts}
-use Rattle.nc_yang_meanings.specs.Places.{part_of}
+use Rattle.nc_yang_meanings.specs.Places.{part_of, parts_of}
 use Rattle.nc_yang_defaults.proofs.AlikeLemmas.{has_others}
 
 abbrev pub IsAlone : Meaning → Type 0
-IsAlone (Entry entry) = has_others entry ≡ false
+IsAlone (Entry entry patterns) = has_others entry ≡ false
 IsAlone (OneOf members) = Unit {0}
 IsAlone (DerivedFrom bases) = Unit {0}
 IsAlone (Refers path need) = Unit {0}
@@ -31,9 +31,9 @@ abbrev EachAlone : Option Meaning → Type 0
 EachAlone None = Unit {0}
 EachAlone (Some m) = IsAlone m
 
-by_entry : (o : Option ValueType) → OwnAlone o → EachAlone (option_map Entry o)
-by_entry None h = tt
-by_entry (Some entry) h = h
+by_entry : (patterns : List Located) (o : Option ValueType) → OwnAlone o → EachAlone (option_map (λ entry. Entry entry patterns) o)
+by_entry patterns None h = tt
+by_entry patterns (Some entry) h = h
 
 by_parts : (f : List Between → ValueType) → ((among : List Between) → has_others (f among) ≡ false) → (o : Option (List Between)) → OwnAlone (option_map f o)
 by_parts f each None = tt
@@ -65,7 +65,7 @@ meant_alone : (on : ℕ → List ℕ → Bool) (one : BuiltIn) (l : Located) →
 meant_alone on Union l = tt
 meant_alone on IdentityRef l = tt
 meant_alone on LeafRef l = leafref_alone (part_of Path l) (required true (below l.statement))
-meant_alone on one l = by_entry (own (stands on l.place.text) one (below l.statement)) (own_alone (stands on l.place.text) one (below l.statement))
+meant_alone on one l = by_entry (parts_of Pattern l) (own (stands on l.place.text) one (below l.statement)) (own_alone (stands on l.place.text) one (below l.statement))
 
 narrowed_alone : (entry : ValueType) (ss : List Statement) → has_others entry ≡ false → OwnAlone (narrowed entry ss)
 narrowed_alone (Whole among) ss e = by_parts Whole (λ left. refl) (restricted (Units 0) Range among ss)
@@ -77,12 +77,12 @@ narrowed_alone (UnionType members) ss e = absurd (cc)
 narrowed_alone (Instance need) ss e = refl
 narrowed_alone entry ss e = e
 
-parts_alone : (m : Meaning) (ss : List Statement) → IsAlone m → EachAlone (with_parts m ss)
-parts_alone (Entry entry) ss h = by_entry (narrowed entry ss) (narrowed_alone entry ss h)
-parts_alone (OneOf members) ss h = tt
-parts_alone (DerivedFrom bases) ss h = tt
-parts_alone (Refers path need) ss h = tt
+parts_alone : (m : Meaning) (l : Located) → IsAlone m → EachAlone (with_parts m l)
+parts_alone (Entry entry patterns) l h = by_entry (patterns ++ parts_of Pattern l) (narrowed entry (below l.statement)) (narrowed_alone entry (below l.statement) h)
+parts_alone (OneOf members) l h = tt
+parts_alone (DerivedFrom bases) l h = tt
+parts_alone (Refers path need) l h = tt
 
 pub means_alone : (on : ℕ → List ℕ → Bool) (texts : List Statement) (l : Located) (m : Meaning) → Means on texts l m → IsAlone m
 means_alone on texts _ _ (by_itself l one m built kept is) = subst EachAlone is (meant_alone on one l)
-means_alone on texts _ _ (over l base n m base_is means kept is) = subst EachAlone is (parts_alone n (below l.statement) (means_alone on texts base n means))
+means_alone on texts _ _ (over l base n m base_is means kept is) = subst EachAlone is (parts_alone n l (means_alone on texts base n means))

@@ -8,7 +8,7 @@ use Rattle.nc_schema.specs.Tables.{Tables}
 use Rattle.nc_schema.specs.Values.{type_of as kind_at}
 use Rattle.nc_schema.specs.declared.node.Node.{Node}
 use Rattle.nc_schema.specs.declared.value_type.ValueType.{ValueType}
-use Rattle.nc_schema.specs.declared.value_type.ValueType.TheVariants.{Union, Leafref}
+use Rattle.nc_schema.specs.declared.value_type.ValueType.TheVariants.{Chars as String, Union, Leafref}
 use Rattle.nc_yang_order.proofs.Lists.{contains_none, contains_one, get_none}
 use Rattle.nc_yang_loops.proofs.Lists.{contains_cases, contains_first}
 use Rattle.nc_yang_scopes.specs.Scopes.{Located}
@@ -19,7 +19,7 @@ use Rattle.nc_yang_meanings.specs.Wholes.{UsesPath, itself as used, member as us
 use Rattle.nc_yang_meanings.proofs.MeaningLemmas.{means_one}
 use Rattle.nc_yang_leafs.specs.Bases.{AllMeanWhole, Basis, leads, type_of}
 use Rattle.nc_yang_leafs.specs.Faults.{BreaksLeafref}
-use Rattle.nc_yang_leafs.specs.Typings.{HasItsType, HasType, HasTypes, IsEntry, IsSameNode, IsTyped, none, numbers_of, one_more}
+use Rattle.nc_yang_leafs.specs.Typings.{HasItsType, HasType, HasTypes, HasTypings, IsEntry, IsPatterned, IsSameNode, none, numbers_of, one_more}
 use Rattle.nc_yang_leafs.proofs.ClosingLemmas.{IsOne}
 use Rattle.nc_yang_circles.specs.Circles.{HasNoCircle, Reaches, Refers, fault_at, itself, through}
 use Rattle.nc_yang_defaults.proofs.AlikeLemmas.{IsPair, has_others, path_tables}
@@ -28,12 +28,17 @@ use Rattle.nc_yang.proofs.Alone.{IsAlone, means_alone}
 use Rattle.nc_yang.proofs.Chains.{Asks, Ends, ends, member, places, target}
 use Rattle.nc_yang.proofs.Lists.{without}
 
-module _ (derived : List Located → List QName → Type 0) (b : Basis) where
+-- an entry with patterns has others where the one that is meant has
+patterned_others : (named : List ℕ → List Located → Type 0) (one : ValueType) (ps : List Located) (entry : ValueType) → IsPatterned named one ps entry → has_others one ≡ has_others entry
+patterned_others named (String lengths starless blank) ps entry is = sym (ap has_others is.2)
+patterned_others named one ps entry is = ap has_others is
+
+module _ (derived : List Located → List QName → Type 0) (named : List ℕ → List Located → Type 0) (b : Basis) where
   abbrev pub Typed : Tables → ℕ → List Located → List ℕ → Type 0
-  Typed tables n = HasTypes (Means b.on b.scoping.texts) (IsEntry derived (leads b.scoping b.given n)) tables.types
+  Typed tables n = HasTypes (Means b.on b.scoping.texts) (IsEntry derived named (leads b.scoping b.given n)) tables.types
 
   abbrev pub One : Tables → ℕ → Located → ℕ → Type 0
-  One tables n = IsOne (Means b.on b.scoping.texts) (IsEntry derived (leads b.scoping b.given n)) tables.types
+  One tables n = IsOne (Means b.on b.scoping.texts) (IsEntry derived named (leads b.scoping b.given n)) tables.types
 
   -- the first of those numbers
   first_of : (tables : Tables) (n : ℕ) (ls : List Located) (ks : List ℕ) → Typed tables n ls ks → (l : Located) (rest : List Located) (k : ℕ) (more : List ℕ) →
@@ -51,30 +56,30 @@ module _ (derived : List Located → List QName → Type 0) (b : Basis) where
         members = members;
       }
 
-  pub head : (tables : Tables) (n : ℕ) (l : Located) (k : ℕ) → HasType derived b tables.types n l k → One tables n l k
+  pub head : (tables : Tables) (n : ℕ) (l : Located) (k : ℕ) → HasType derived named b tables.types n l k → One tables n l k
   head tables n l k has = first_of tables n (l ∷ []) (k ∷ []) has l [] k [] refl refl
 
   -- one of them
   pub one_among : (tables : Tables) (n : ℕ) (ls : List Located) (ks : List ℕ) → Typed tables n ls ks → (l : Located) → Contains ls l →
-      (k : ℕ) × HasType derived b tables.types n l k
+      (k : ℕ) × HasType derived named b tables.types n l k
   one_among tables n _ _ none l h = absurd (contains_none l h)
   one_among tables n _ _ (one_more first ls k ks m entry means at is members others) l h = elim (contains_cases first ls l h) [
-    | inl same ↦ (k, subst (λ z. HasType derived b tables.types n z k) same (one_more first [] k [] m entry means at is members none))
+    | inl same ↦ (k, subst (λ z. HasType derived named b tables.types n z k) same (one_more first [] k [] m entry means at is members none))
     | inr later ↦ one_among tables n ls ks others l later
   ]
 
   -- ---- no path is lost
-  found_not_lost : (n : ℕ) (path : Located) (need : Bool) (entry : ValueType) → IsEntry derived (leads b.scoping b.given n) (RefersTo path need) entry →
+  found_not_lost : (n : ℕ) (path : Located) (need : Bool) (entry : ValueType) → IsEntry derived named (leads b.scoping b.given n) (RefersTo path need) entry →
       leads b.scoping b.given n path ≡ None → ⊥
   found_not_lost n path need (Leafref node above required) is lost = let found = is.0 in cc
   found_not_lost n path need entry is lost = is
 
-  path_leads : (tables : Tables) (n : ℕ) (l path : Located) → UsesPath b.on b.scoping.texts l path → (k : ℕ) → HasType derived b tables.types n l k →
+  path_leads : (tables : Tables) (n : ℕ) (l path : Located) → UsesPath b.on b.scoping.texts l path → (k : ℕ) → HasType derived named b tables.types n l k →
       leads b.scoping b.given n path ≡ None → ⊥
   path_leads tables n _ _ (used l path need means) k has lost =
       let a = head tables n l k has in
       let same : a.m ≡ RefersTo path need = means_one b.on b.scoping.texts l a.m (RefersTo path need) a.means_it means in
-      found_not_lost n path need a.entry (subst (λ z. IsEntry derived (leads b.scoping b.given n) z a.entry) same a.is_it) lost
+      found_not_lost n path need a.entry (subst (λ z. IsEntry derived named (leads b.scoping b.given n) z a.entry) same a.is_it) lost
   path_leads tables n _ _ (used_in l path one members means among uses) k has lost =
       let a = head tables n l k has in
       let same : a.m ≡ OneOf members = means_one b.on b.scoping.texts l a.m (OneOf members) a.means_it means in
@@ -90,20 +95,20 @@ module _ (derived : List Located → List QName → Type 0) (b : Basis) where
     pub is : type_of b.scoping b.plan n ≡ Some l
     pub number : ℕ
     pub kind : kind_at tables n ≡ Some number
-    pub has : HasType derived b tables.types n l number
+    pub has : HasType derived named b tables.types n l number
 
-  module _ (tables : Tables) (typed : IsTyped derived b tables) where
+  module _ (tables : Tables) (typed : HasTypings derived named b tables) where
     pub record Now (n : ℕ) (old : Node) : Type 0 where
       pub new : Node
       pub at : slice_get tables.nodes n ≡ Some new
       pub same : IsSameNode old new
-      pub its : HasItsType derived b tables.types n new.kind new.kind_of_value
+      pub its : HasItsType derived named b tables.types n new.kind new.kind_of_value
 
     pub now_at : (n : ℕ) (old : Node) → slice_get b.given.nodes n ≡ Some old → Now n old
     now_at n old there = by (slice_get tables.nodes n) refl (typed.nodes n old there)
       where
         by : (o : Option Node) → slice_get tables.nodes n ≡ o →
-            IsSomeAnd o (λ new. IsSameNode old new × HasItsType derived b tables.types n new.kind new.kind_of_value) → Now n old
+            IsSomeAnd o (λ new. IsSameNode old new × HasItsType derived named b tables.types n new.kind new.kind_of_value) → Now n old
         by None e h = absurd h
         by (Some new) e h = record { new = new; at = e; same = h.0; its = h.1 }
 
@@ -170,26 +175,26 @@ module _ (derived : List Located → List QName → Type 0) (b : Basis) where
 
       -- a union
       union_ends : (l : Located) (m : Meaning) (entry : ValueType) (members : List ℕ) (j : ℕ) → Means b.on b.scoping.texts l m →
-          IsEntry derived (leads b.scoping b.given n) m entry → entry ≡ Union members → Contains members j →
+          IsEntry derived named (leads b.scoping b.given n) m entry → entry ≡ Union members → Contains members j →
           ((i : ℕ) → Contains (numbers_of m entry) i → Ends tables i) → Ends tables j
       union_ends l m entry members j means is same among below = by m (means_alone b.on b.scoping.texts l m means)
-          (subst (IsEntry derived (leads b.scoping b.given n) m) same is) (subst (λ z. (i : ℕ) → Contains (numbers_of m z) i → Ends tables i) same below)
+          (subst (IsEntry derived named (leads b.scoping b.given n) m) same is) (subst (λ z. (i : ℕ) → Contains (numbers_of m z) i → Ends tables i) same below)
         where
-          by : (m : Meaning) → IsAlone m → IsEntry derived (leads b.scoping b.given n) m (Union members) → ((i : ℕ) → Contains (numbers_of m (Union members)) i → Ends tables i) → Ends tables j
-          by (Entry e) alone is below = absurd (let clash : has_others e ≡ true = ap has_others is in cc)
+          by : (m : Meaning) → IsAlone m → IsEntry derived named (leads b.scoping b.given n) m (Union members) → ((i : ℕ) → Contains (numbers_of m (Union members)) i → Ends tables i) → Ends tables j
+          by (Entry e ps) alone is below = absurd (let clash : has_others e ≡ true = patterned_others named e ps (Union members) is in cc)
           by (OneOf ls) alone is below = below j among
           by (DerivedFrom bases) alone is below = absurd is
           by (RefersTo path need) alone is below = absurd is
 
       -- a leafref
       leafref_ends : (l : Located) (m : Meaning) (entry : ValueType) (to : ℕ) (above : Option ℕ) (required : Bool) (j : ℕ) → Means b.on b.scoping.texts l m →
-          IsEntry derived (leads b.scoping b.given n) m entry → entry ≡ Leafref to above required → kind_at tables to ≡ Some j →
+          IsEntry derived named (leads b.scoping b.given n) m entry → entry ≡ Leafref to above required → kind_at tables to ≡ Some j →
           ((path : Located) → UsesPath b.on b.scoping.texts l path → UsesPath b.on b.scoping.texts leaf.l path) → Ends tables j
       leafref_ends l m entry to above required j means is same kind lift = by m means (means_alone b.on b.scoping.texts l m means)
-          (subst (IsEntry derived (leads b.scoping b.given n) m) same is)
+          (subst (IsEntry derived named (leads b.scoping b.given n) m) same is)
         where
-          by : (m : Meaning) → Means b.on b.scoping.texts l m → IsAlone m → IsEntry derived (leads b.scoping b.given n) m (Leafref to above required) → Ends tables j
-          by (Entry e) means alone is = absurd (let clash : has_others e ≡ true = ap has_others is in cc)
+          by : (m : Meaning) → Means b.on b.scoping.texts l m → IsAlone m → IsEntry derived named (leads b.scoping b.given n) m (Leafref to above required) → Ends tables j
+          by (Entry e ps) means alone is = absurd (let clash : has_others e ≡ true = patterned_others named e ps (Leafref to above required) is in cc)
           by (OneOf ls) means alone is = absurd is
           by (DerivedFrom bases) means alone is = absurd is
           by (RefersTo path need) means alone is = good path to (refers path to above (lift path (used l path need means)) is.0) j kind
@@ -211,7 +216,7 @@ module _ (derived : List Located → List QName → Type 0) (b : Basis) where
 
           uses_below : (x : Meaning) → m ≡ x → (z path : Located) → Contains (members_of x) z → UsesPath b.on b.scoping.texts z path → UsesPath b.on b.scoping.texts leaf.l path
           uses_below (OneOf ms) same z path among uses = member_uses ms same z path among uses
-          uses_below (Entry e) same z path among uses = absurd (contains_none z among)
+          uses_below (Entry e ps) same z path among uses = absurd (contains_none z among)
           uses_below (DerivedFrom bases) same z path among uses = absurd (contains_none z among)
           uses_below (RefersTo to need) same z path among uses = absurd (contains_none z among)
 
@@ -280,30 +285,31 @@ module _ (derived : List Located → List QName → Type 0) (b : Basis) where
       let first = same 0 x y refl refl in
       λ i. first i ∷ rest i
 
-  pub paths_as_given : (tables : Tables) → IsTyped derived b tables → path_tables tables ≡ path_tables b.given
+  pub paths_as_given : (tables : Tables) → HasTypings derived named b tables → path_tables tables ≡ path_tables b.given
   paths_as_given tables typed =
       let nodes = maps_alike (bare_by (λ n. 0)) tables.nodes b.given.nodes typed.counted (λ i x y at from.
       let w = now_at tables typed i y from in
       let same : x ≡ w.new = (let e : Some x ≡ Some w.new = sym at ∙ w.at in cc) in
       ap (bare_by (λ n. 0)) same ∙ ap (bare_by (λ n. 0)) w.same) in
-      λ i. record { nodes = nodes i; choices = typed.choices i; types = []; modules = typed.modules i; patterns = typed.patterns i }
+      λ i. record { nodes = nodes i; choices = typed.choices i; types = []; modules = typed.modules i; patterns = [] }
 
-  -- a node in two of them
-  pub nodes_paired : (t u : Tables) → IsTyped derived b t → IsTyped derived b u → (n : ℕ) (node : Node) → slice_get u.nodes n ≡ Some node →
-      (old : Node) × (kind : ℕ) × (other : ℕ) × (node ≡ record old { kind_of_value = other }) × (slice_get t.nodes n ≡ Some (record old { kind_of_value = kind }))
-  nodes_paired t u one two n node at =
+-- a node in two of them, whose types may have other numbers of patterns
+module _ (derived : List Located → List QName → Type 0) (named other : List ℕ → List Located → Type 0) (b : Basis) (t u : Tables) (one : HasTypings derived named b t) (two : HasTypings derived other b u) where
+  pub nodes_paired : (n : ℕ) (node : Node) → slice_get u.nodes n ≡ Some node →
+      (old : Node) × (kind : ℕ) × (other_kind : ℕ) × (node ≡ record old { kind_of_value = other_kind }) × (slice_get t.nodes n ≡ Some (record old { kind_of_value = kind }))
+  nodes_paired n node at =
       let less = slice_get_within u.nodes n node at in
       let many = two.counted in
       let g = got b.given.nodes n (omega (arith, less, many)) in
-      let w = now_at t one n g.0 g.1 in
-      let v = now_at u two n g.0 g.1 in
+      let w = now_at derived named b t one n g.0 g.1 in
+      let v = now_at derived other b u two n g.0 g.1 in
       let same : node ≡ v.new = (let e : Some node ≡ Some v.new = sym at ∙ v.at in cc) in
       (g.0, w.new.kind_of_value, v.new.kind_of_value, same ∙ v.same, w.at ∙ ap Some w.same)
 
-  pub pair_at : (t u : Tables) → IsTyped derived b t → IsTyped derived b u → (n : ℕ) → n < length t.nodes → IsPair t u n
-  pair_at t u one two n less =
+  pub pair_at : (n : ℕ) → n < length t.nodes → IsPair t u n
+  pair_at n less =
       let many = one.counted in
       let g = got b.given.nodes n (omega (arith, less, many)) in
-      let w = now_at t one n g.0 g.1 in
-      let v = now_at u two n g.0 g.1 in
+      let w = now_at derived named b t one n g.0 g.1 in
+      let v = now_at derived other b u two n g.0 g.1 in
       (g.0, w.new.kind_of_value, v.new.kind_of_value, w.at ∙ ap Some w.same, v.at ∙ ap Some v.same)

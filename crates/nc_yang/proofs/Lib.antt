@@ -22,3 +22,6 @@ pub mod SameTypes
 pub mod SamePlans
 pub mod Never
 pub mod One
+pub mod TextReasons
+pub mod TypeReasons
+pub mod Reasons

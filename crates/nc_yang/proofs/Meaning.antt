@@ -1,5 +1,5 @@
 -- Types of modules that keep all rules mean something, with all members of unions.
-use Rattle.std.proofs.Common.{inl, inr, ◌≡◌, ◌⊎◌, ℕ, Bool, true, false, cond, List, [], ◌∷◌, refl, sym, ap, subst, ◌∙◌}
+use Rattle.std.proofs.Common.{inl, inr, ◌≡◌, ◌⊎◌, ℕ, Bool, true, false, cond, List, [], ◌∷◌, ◌++◌, refl, sym, ap, subst, ◌∙◌}
 use Rattle.std.specs.Prelude.{Option, Some, None, IsSome, is_some, slice_get, option_map, option_and_then, not, Contains}
 use Rattle.std.specs.List.{filter}
 use Rattle.nc_schema.specs.declared.value_type.ValueType.{ValueType}
@@ -9,7 +9,7 @@ use Rattle.nc_yang_statements.specs.declared.built_in.BuiltIn.TheVariants.{Ident
 use Rattle.nc_yang_statements.specs.declared.fault.Fault.{Fault}
 use Rattle.nc_yang_statements.specs.declared.fault.ModuleWhy.TheVariants.{Missing}
 use Rattle.nc_yang_statements.specs.declared.keyword.Keyword.{Keyword}
-use Rattle.nc_yang_statements.specs.declared.keyword.Keyword.TheVariants.{Base, Path, TypeName, Typedef}
+use Rattle.nc_yang_statements.specs.declared.keyword.Keyword.TheVariants.{Base, Path, Pattern, TypeName, Typedef}
 use Rattle.nc_yang_statements.specs.BuiltIns.{built_in_of}
 use Rattle.nc_yang_statements.specs.Keywords.{is_closed, is_same_keyword}
 use Rattle.nc_yang_statements.specs.Rules.{at_if}
@@ -24,6 +24,7 @@ use Rattle.nc_yang_loops.proofs.Lists.{contains_cases, contains_filter, contains
 use Rattle.nc_yang_texts.specs.Rules.{KeepsTexts, looping}
 use Rattle.nc_yang_types.specs.Entries.{misused, narrowed, narrowed_faults, own, own_faults, required}
 use Rattle.nc_yang_types.specs.Parts.{foreign, lacking, misshapen}
+use Rattle.nc_yang_types.specs.Patterns.{ill_patterns}
 use Rattle.nc_yang_types.proofs.LawLemmas.{narrowed_gives, own_gives}
 use Rattle.nc_yang_meanings.specs.Faults.{KeepsTypes}
 use Rattle.nc_yang_meanings.specs.Features.{stands}
@@ -47,16 +48,16 @@ is_type s = is_same_keyword TypeName (kind s) ≡ true
 abbrev Gives : Option Meaning → List Located → Type 0
 Gives o members = (m : Meaning) × (o ≡ Some m) × ((member : Located) → Contains (members_of m) member → Contains members member)
 
-entry_gives : (o : Option ValueType) (members : List Located) → IsSome o → Gives (option_map Entry o) members
-entry_gives None members e = absurd (cc)
-entry_gives (Some entry) members e = (Entry entry, refl, (λ member h. absurd (contains_none member h)))
+entry_gives : (patterns : List Located) (o : Option ValueType) (members : List Located) → IsSome o → Gives (option_map (λ entry. Entry entry patterns) o) members
+entry_gives patterns None members e = absurd (cc)
+entry_gives patterns (Some entry) members e = (Entry entry patterns, refl, (λ member h. absurd (contains_none member h)))
 
 -- what a built-in type means
 module _ (on : ℕ → List ℕ → Bool) (l : Located) where
   leafref_gives : own_faults LeafRef l.statement ≡ [] → Gives (meant on LeafRef l) (parts_of TypeName l)
   leafref_gives kept =
       let lacks : lacking LeafRef l.statement ≡ [] = empty_right (foreign LeafRef (below l.statement)) (lacking LeafRef l.statement)
-      (empty_left (misshapen LeafRef l.statement) (misused LeafRef (below l.statement)) kept) in
+      (empty_left (misshapen LeafRef l.statement) (ill_patterns (below l.statement) ++ misused LeafRef (below l.statement)) kept) in
       let p = has_part Path (below l.statement) (there (has Path (below l.statement)) l.statement lacks) in (
         Refers (in_it l p.0) (required true (below l.statement)),
         ap (λ o. option_map (λ path. Refers path (required true (below l.statement))) (option_map (in_it l) o)) p.1,
@@ -67,14 +68,15 @@ module _ (on : ℕ → List ℕ → Bool) (l : Located) where
   meant_gives Union kept = (OneOf (parts_of TypeName l), refl, (λ member h. h))
   meant_gives IdentityRef kept = (DerivedFrom (parts_of Base l), refl, (λ member h. absurd (contains_none member h)))
   meant_gives LeafRef kept = leafref_gives kept
-  meant_gives one kept = entry_gives (own (stands on l.place.text) one (below l.statement)) (parts_of TypeName l) (own_gives (stands on l.place.text) one l.statement refl kept)
+  meant_gives one kept = entry_gives (parts_of Pattern l) (own (stands on l.place.text) one (below l.statement)) (parts_of TypeName l) (own_gives (stands on l.place.text) one l.statement refl kept)
 
 -- what a type over another means
-parts_give : (n : Meaning) (ss : List Statement) → narrowed_faults (shape n) ss ≡ [] → Gives (with_parts n ss) (members_of n)
-parts_give (Entry entry) ss kept = entry_gives (narrowed entry ss) [] (narrowed_gives entry ss kept)
-parts_give (OneOf members) ss kept = (OneOf members, refl, (λ member h. h))
-parts_give (DerivedFrom bases) ss kept = (DerivedFrom bases, refl, (λ member h. h))
-parts_give (Refers path need) ss kept = (Refers path (required need ss), refl, (λ member h. h))
+parts_give : (n : Meaning) (l : Located) → narrowed_faults (shape n) (below l.statement) ≡ [] → Gives (with_parts n l) (members_of n)
+parts_give (Entry entry patterns) l kept =
+    entry_gives (patterns ++ parts_of Pattern l) (narrowed entry (below l.statement)) [] (narrowed_gives entry (below l.statement) kept)
+parts_give (OneOf members) l kept = (OneOf members, refl, (λ member h. h))
+parts_give (DerivedFrom bases) l kept = (DerivedFrom bases, refl, (λ member h. h))
+parts_give (Refers path need) l kept = (Refers path (required need (below l.statement)), refl, (λ member h. h))
 
 -- a part of a keyword stands in the statement
 pub part_there : (l member : Located) (keyword : Keyword) → Contains (parts_of keyword l) member →
@@ -117,7 +119,7 @@ module _ (on : ℕ → List ℕ → Bool) (texts : List Statement) (keeps : Keep
   over_type : (l base : Located) → Looked texts l → base_of texts l ≡ Some base → MeansWhole on texts base → MeansWhole on texts l
   over_type l base k is (whole b n means members) =
       let kept : narrowed_faults (shape n) (below l.statement) ≡ [] = none_there (narrowed_faults (shape n) (below l.statement)) (λ fault h. no_breaks l k fault (over_base l base n fault is means h)) in
-      let w = parts_give n (below l.statement) kept in
+      let w = parts_give n l kept in
       whole l w.0 (over l base n w.0 is means kept w.1) (λ member h. members member (w.2 member h))
 
   -- all types in a typedef mean something

@@ -1,11 +1,15 @@
 -- Modules that have a schema break no rule.
-use Rattle.std.proofs.Common.{inl, inr, ◌≡◌, ◌⊎◌, ℕ, Bool, true, false, List, [], ◌∷◌, map, refl, sym, ap, subst, ◌∙◌}
-use Rattle.std.specs.Prelude.{Contains, None}
+use Rattle.std.proofs.Common.{inl, inr, ◌≡◌, ◌⊎◌, ◌&&◌, ℕ, Bool, true, false, List, [], ◌∷◌, map, slice_index_or, refl, sym, ap, subst, ◌∙◌}
+use Rattle.std.specs.Prelude.{Contains, None, Some, slice_get}
+use Rattle.std.specs.List.{list_all}
+use Rattle.std.proofs.lemmas.Option.{slice_get-get_or, slice_get_within}
 use Rattle.nc_names.specs.declared.name.Bound.{Bound}
 use Rattle.nc_names.specs.declared.name.QName.{QName}
+use Rattle.nc_patterns.specs.Admits.{admits, admits_each}
 use Rattle.nc_schema.specs.Tables.{Tables}
 use Rattle.nc_schema.specs.Values.{canonical, type_of as kind_at}
 use Rattle.nc_yang_statements.specs.declared.fault.Fault.{Fault}
+use Rattle.nc_yang_statements.specs.Statements.{name}
 use Rattle.nc_yang_order.proofs.Lists.{contains_none}
 use Rattle.nc_yang_scopes.specs.Scopes.{Located, Scoping}
 use Rattle.nc_yang_scopes.specs.declared.naming.TextFault.{TextFault}
@@ -29,14 +33,16 @@ use Rattle.nc_yang_meanings.specs.Faults.{KeepsTypes}
 use Rattle.nc_yang_leafs.specs.Bases.{AllMeanWhole, Basis}
 use Rattle.nc_yang_leafs.specs.Conditions.{holds}
 use Rattle.nc_yang_leafs.specs.Faults.{BreaksLeafref}
-use Rattle.nc_yang_leafs.specs.Typings.{IsTyped}
+use Rattle.nc_yang_leafs.specs.Patterns.{without_patterns}
+use Rattle.nc_yang_leafs.specs.Typings.{HasTypings, IsTyped, NameEach}
+use Rattle.nc_yang_leafs.proofs.PatternLemmas.{NamesNone, bare_typings}
 use Rattle.nc_yang_circles.specs.Circles.{BreaksCircle, HasNoCircle}
-use Rattle.nc_yang_defaults.specs.Defaults.{BreaksDefault, HasDefaults}
+use Rattle.nc_yang_defaults.specs.Defaults.{BreaksDefault, KeepsDefaults}
 use Rattle.nc_yang_defaults.specs.Readings.{value_of}
-use Rattle.nc_yang_defaults.proofs.AlikeLemmas.{TakesAlike, canonical_alike, keep_alike, path_tables, value_alike}
+use Rattle.nc_yang_defaults.proofs.AlikeLemmas.{TakesAlike, canonical_alike, defaults_kept, keep_alike, path_tables, value_alike}
 use Rattle.nc_yang.specs.Features.{is_given}
 use Rattle.nc_yang.specs.Laws.{NeverBoth}
-use Rattle.nc_yang.specs.Schemas.{AreNames, Breaks, BreaksPlan, BreaksSchema, Defines, GivesSchema, IsBegun, IsSchemaOf, basis, circle, default, identity_name, ill_typed, in_place, in_plan, in_schema, leafref, past, text, unread}
+use Rattle.nc_yang.specs.Schemas.{AreNames, Breaks, BreaksPlan, BreaksSchema, Defines, GivesSchema, IsBegun, IsSchemaOf, basis, by_pattern, circle, default, identity_name, ill_typed, in_place, in_plan, in_schema, leafref, past, text, unread}
 use Rattle.nc_yang.proofs.DataTypes.{data_types_mean}
 use Rattle.nc_yang.proofs.LeafTypes.{LeafAt, leaf_at, leaf_there, leafs_end, no_path_lost, nodes_paired, paths_as_given}
 use Rattle.nc_yang.proofs.SamePlans.{circle_here, default_here, lost_here, typed_here}
@@ -61,6 +67,27 @@ picks_one P _ _ zs (passed x xs ys not_p more) second =
       | inr gone ↦ picks_one P xs ys f.rest more f.more ∙ sym gone.0
     ]
 
+-- ---- patterns
+-- numbers that name the same patterns admit the same
+named_admits : (patterns : List (List ℕ)) (ns : List ℕ) (ps : List Located) → NameEach patterns ns ps → (value : List ℕ) →
+    admits_each patterns ns value ≡ list_all (λ (p : Located). admits (name p.statement) value) ps
+named_admits patterns [] [] e value = refl
+named_admits patterns [] (p ∷ ps) e value = absurd (cc)
+named_admits patterns (n ∷ ns) [] e value = absurd (cc)
+named_admits patterns (n ∷ ns) (p ∷ ps) e value =
+    let here : slice_get patterns n ≡ Some (name p.statement) = cc in
+    let rest : NameEach patterns ns ps = cc in
+    let there = slice_get-get_or patterns n [] (slice_get_within patterns n (name p.statement) here) in
+    let first : slice_index_or patterns n [] ≡ name p.statement = cc in
+    let more = named_admits patterns ns ps rest value in
+    λ i. admits (first i) value && more i
+
+pub each_agree : (one other : List (List ℕ)) (ns ms : List ℕ) (ps : List Located) → NameEach one ns ps → NameEach other ms ps → (value : List ℕ) → admits_each one ns value ≡ admits_each other ms value
+each_agree one other ns ms ps a c value = named_admits one ns ps a value ∙ sym (named_admits other ms ps c value)
+
+pub none_agree : (one other : List (List ℕ)) (ns ms : List ℕ) (ps : List Located) → NamesNone ns ps → NamesNone ms ps → (value : List ℕ) → admits_each one ns value ≡ admits_each other ms value
+none_agree one other ns ms ps a c value = ap (λ z. admits_each one z value) a ∙ sym (ap (λ z. admits_each other z value) c)
+
 -- ---- features
 same_answer : (a b : Bool) → (a ≡ true → b ≡ true) → (b ≡ true → a ≡ true) → a ≡ b
 same_answer true b to back = sym (to refl)
@@ -82,40 +109,41 @@ module _ (scoping : Scoping) (on : FeatureTest) where
     abbrev stands_on : Basis
     stands_on = basis scoping on plan
 
-    module _ (t u : Tables) (one : IsTyped derived stands_on t) (two : IsTyped derived stands_on u) where
-      kinds : (n : ℕ) → Kinds derived names_one stands_on t u (paths_as_given derived stands_on t one ∙ sym (paths_as_given derived stands_on u two)) n
-      kinds n = by (leaf_at derived stands_on t one whole n) (leaf_at derived stands_on u two whole n)
-        where
-          both : LeafAt derived stands_on t n → Both derived names_one stands_on t u (paths_as_given derived stands_on t one ∙ sym (paths_as_given derived stands_on u two)) n
-          both a =
-              let c = leaf_there derived stands_on u two n a.node a.there a.valued a.l a.is in
-              record { l = a.l; one = a.number; other = c.number; one_is = a.kind; other_is = c.kind; one_has = a.has; other_has = c.has }
+    module _ (t u : Tables) (named other : List ℕ → List Located → Type 0) (one : HasTypings derived named stands_on t) (two : HasTypings derived other stands_on u)
+        (agree : (ns ms : List ℕ) (ps : List Located) → named ns ps → other ms ps → (text : List ℕ) → admits_each t.patterns ns text ≡ admits_each u.patterns ms text) where
+      abbrev alike : path_tables t ≡ path_tables u
+      alike = paths_as_given derived named stands_on t one ∙ sym (paths_as_given derived other stands_on u two)
 
-          by : (kind_at t n ≡ None) ⊎ LeafAt derived stands_on t n → (kind_at u n ≡ None) ⊎ LeafAt derived stands_on u n →
-              Kinds derived names_one stands_on t u (paths_as_given derived stands_on t one ∙ sym (paths_as_given derived stands_on u two)) n
+      kinds : (n : ℕ) → Kinds derived names_one stands_on t u alike named other agree n
+      kinds n = by (leaf_at derived named stands_on t one whole n) (leaf_at derived other stands_on u two whole n)
+        where
+          both : LeafAt derived named stands_on t n → Both derived names_one stands_on t u alike named other agree n
+          both a =
+              let c = leaf_there derived other stands_on u two n a.node a.there a.valued a.l a.is in
+              record { l = a.l; one = a.number; twin = c.number; one_is = a.kind; other_is = c.kind; one_has = a.has; other_has = c.has }
+
+          by : (kind_at t n ≡ None) ⊎ LeafAt derived named stands_on t n → (kind_at u n ≡ None) ⊎ LeafAt derived other stands_on u n →
+              Kinds derived names_one stands_on t u alike named other agree n
           by (inl a) (inl c) = inl (a, c)
           by (inr a) c = inr (both a)
-          by (inl a) (inr c) = inr (both (leaf_there derived stands_on t one n c.node c.there c.valued c.l c.is))
+          by (inl a) (inr c) = inr (both (leaf_there derived named stands_on t one n c.node c.there c.valued c.l c.is))
 
       module _ (straight : HasNoCircle stands_on) where
-        abbrev alike : path_tables t ≡ path_tables u
-        alike = paths_as_given derived stands_on t one ∙ sym (paths_as_given derived stands_on u two)
-
         takes_same : TakesAlike t u alike
         takes_same =
-            nodes_take derived names_one stands_on t u alike kinds (leafs_end derived stands_on t (leaf_at derived stands_on t one whole) straight)
-            (leafs_end derived stands_on u (leaf_at derived stands_on u two whole) straight)
+            nodes_take derived names_one stands_on t u alike named other agree kinds (leafs_end derived named stands_on t (leaf_at derived named stands_on t one whole) straight)
+            (leafs_end derived other stands_on u (leaf_at derived other stands_on u two whole) straight)
 
         -- they take the same values
         pub texts_same : (n : ℕ) (text : List ℕ) (bounds : List Bound) → canonical t n text bounds ≡ canonical u n text bounds
         texts_same = canonical_alike t u alike takes_same
 
         pub values_same : (n : ℕ) → value_of scoping.texts t n ≡ value_of scoping.texts u n
-        values_same = value_alike t u alike takes_same (whole_alike derived names_one stands_on t u alike kinds) scoping.texts
+        values_same = value_alike t u alike takes_same (whole_alike derived names_one stands_on t u alike named other agree kinds) scoping.texts
 
         -- the defaults of one break no rule in the other
-        defaults_keep : (tables : Tables) (fault : TextFault) → HasDefaults scoping plan t tables → BreaksDefault scoping plan u fault → ⊥
-        defaults_keep tables fault good bad = keep_alike scoping plan t u tables fault values_same (nodes_paired derived stands_on t u one two) good bad
+        defaults_keep : (fault : TextFault) → KeepsDefaults scoping plan t → BreaksDefault scoping plan u fault → ⊥
+        defaults_keep fault good bad = keep_alike scoping plan t u fault values_same (nodes_paired derived named other stands_on t u one two) good bad
 
   -- ---- a schema of a plan, and rules that another plan of the same modules breaks
   module _ (keeps : KeepsTexts scoping.texts) (types : KeepsTypes (holds scoping.texts on) scoping.texts) (plan : Plan) (planned : IsPlan scoping on plan)
@@ -133,23 +161,33 @@ module _ (scoping : Scoping) (on : FeatureTest) where
       no_fault_in_place : (found : TextFault) → Contains (data_faults scoping on other) found → ⊥
       no_fault_in_place found h =
           contains_none found
-          (subst (λ z. Contains z found) (faults_alike scoping on other plan (plans_alike scoping on other plan also planned) ∙ schema.keeps) h)
+          (subst (λ z. Contains z found) (faults_alike scoping on other plan (plans_alike scoping on other plan also planned) ∙ schema.is.keeps) h)
+
+      -- types of the other plan are types of this one
+      here : (typed : Tables) → IsTyped derived (basis scoping on other) typed → IsTyped derived (basis scoping on plan) typed
+      here typed is =
+          typed_here scoping plan other (plans_alike scoping on plan other planned also) (holds scoping.texts on) (data_tables scoping on plan) derived (NameEach typed.patterns) typed
+          (subst (λ z. IsTyped derived (other_on z) typed) same_tables is)
 
       plan_broken : (found : TextFault) → BreaksPlan scoping on other found → ⊥
       plan_broken _ (in_place found h) = no_fault_in_place found h
       plan_broken _ (circle found clean h) =
-          schema.straight found
+          schema.is.straight found
           (circle_here scoping plan other (plans_alike scoping on plan other planned also) (holds scoping.texts on) (data_tables scoping on plan) found
           (subst (λ z. BreaksCircle (other_on z) found) same_tables h))
       plan_broken _ (leafref found clean h) =
-          no_path_lost derived (basis scoping on plan) schema.typed schema.types found
+          no_path_lost derived (NameEach schema.typed.patterns) (basis scoping on plan) schema.typed schema.is.types found
           (lost_here scoping plan other (plans_alike scoping on plan other planned also) (holds scoping.texts on) (data_tables scoping on plan) found
           (subst (λ z. BreaksLeafref (other_on z) found) same_tables h))
       plan_broken _ (default found typed clean straight is h) =
-          let alike = plans_alike scoping on plan other planned also in
-          let here = typed_here scoping plan other alike (holds scoping.texts on) (data_tables scoping on plan) derived typed
-          (subst (λ z. IsTyped derived (other_on z) typed) same_tables is) in
-          defaults_keep plan whole schema.typed typed schema.types here schema.straight tables found schema.defaults (default_here scoping plan other alike typed found h)
+          defaults_keep plan whole (without_patterns schema.typed) (without_patterns typed) NamesNone NamesNone
+          (bare_typings derived (NameEach schema.typed.patterns) (basis scoping on plan) schema.typed schema.is.types)
+          (bare_typings derived (NameEach typed.patterns) (basis scoping on plan) typed (here typed is)) (none_agree [] []) schema.is.straight found schema.is.defaults
+          (default_here scoping plan other (plans_alike scoping on plan other planned also) (without_patterns typed) found h)
+      plan_broken _ (by_pattern found typed is h) =
+          defaults_keep plan whole schema.typed typed (NameEach schema.typed.patterns) (NameEach typed.patterns) schema.is.types (here typed is.types)
+          (each_agree schema.typed.patterns typed.patterns) schema.is.straight found (defaults_kept scoping plan schema.typed tables schema.defaults)
+          (default_here scoping plan other (plans_alike scoping on plan other planned also) typed found h)
 
   schema_broken : (tables : Tables) → KeepsTexts scoping.texts → GivesSchema scoping on tables → (found : TextFault) → BreaksSchema scoping on found → ⊥
   schema_broken tables keeps g _ (ill_typed found h) = g.types found.text found.fault h

@@ -15,7 +15,7 @@ use Rattle.nc_yang_data.proofs.AlikeLemmas.{tables_alike}
 use Rattle.nc_yang_meanings.specs.Faults.{KeepsTypes}
 use Rattle.nc_yang_leafs.specs.Bases.{AllMeanWhole}
 use Rattle.nc_yang_leafs.specs.Conditions.{holds}
-use Rattle.nc_yang_leafs.specs.Typings.{IsTyped}
+use Rattle.nc_yang_leafs.specs.Typings.{IsTyped, NameEach}
 use Rattle.nc_yang_defaults.proofs.AlikeLemmas.{outcomes_alike}
 use Rattle.nc_yang_defaults.proofs.OutcomeLemmas.{canonical_kept}
 use Rattle.nc_yang.specs.Features.{is_given}
@@ -23,7 +23,7 @@ use Rattle.nc_yang.specs.Laws.{AreOneSchema, OneSchema}
 use Rattle.nc_yang.specs.Schemas.{AreNames, Defines, GivesSchema, IsBegun, IsSchemaOf, basis}
 use Rattle.nc_yang.proofs.DataTypes.{data_types_mean}
 use Rattle.nc_yang.proofs.LeafTypes.{pair_at}
-use Rattle.nc_yang.proofs.Never.{one_on, texts_same, values_same}
+use Rattle.nc_yang.proofs.Never.{each_agree, one_on, texts_same, values_same}
 use Rattle.nc_yang.proofs.ReadyLemmas.{is_ready}
 use Rattle.nc_yang.proofs.SamePlans.{defaults_here, typed_here}
 
@@ -37,20 +37,21 @@ module _ (scoping : Scoping) (on : FeatureTest) (keeps : KeepsTexts scoping.text
       let alike = plans_alike scoping on plan other planned also in
       let given_same : data_tables scoping on other ≡ data_tables scoping on plan = sym (tables_alike scoping on plan other alike) in
       let here : IsTyped (AreNames scoping on) (basis scoping on plan) z.typed =
-      typed_here scoping plan other alike (holds scoping.texts on) (data_tables scoping on plan) (AreNames scoping on) z.typed
-      (subst (λ g. IsTyped (AreNames scoping on) (record { on = holds scoping.texts on; scoping = scoping; plan = other; given = g }) z.typed) given_same z.types) in
+      typed_here scoping plan other alike (holds scoping.texts on) (data_tables scoping on plan) (AreNames scoping on) (NameEach z.typed.patterns) z.typed
+      (subst (λ g. IsTyped (AreNames scoping on) (record { on = holds scoping.texts on; scoping = scoping; plan = other; given = g }) z.typed) given_same z.is.types) in
       let well = defaults_here scoping plan other alike z.typed two z.defaults in
-      let ready = is_ready scoping on plan planned (AreNames scoping on) s.typed s.types whole in
-      let also_ready = is_ready scoping on plan planned (AreNames scoping on) z.typed here whole in
+      let ready = is_ready scoping on plan planned (AreNames scoping on) (NameEach s.typed.patterns) s.typed s.is.types whole in
+      let also_ready = is_ready scoping on plan planned (AreNames scoping on) (NameEach z.typed.patterns) z.typed here whole in
       record {
-        modules = s.defaults.modules ∙ s.types.modules ∙ sym here.modules ∙ sym well.modules;
-        choices = s.defaults.choices ∙ s.types.choices ∙ sym here.choices ∙ sym well.choices;
+        modules = s.defaults.modules ∙ s.is.types.modules ∙ sym here.modules ∙ sym well.modules;
+        choices = s.defaults.choices ∙ s.is.types.choices ∙ sym here.choices ∙ sym well.choices;
         nodes =
             outcomes_alike scoping plan s.typed z.typed one two ready also_ready s.defaults well
-            (values_same scoping on plan whole s.typed z.typed s.types here s.straight) (pair_at (AreNames scoping on) (basis scoping on plan) s.typed z.typed s.types here);
+            (values_same scoping on plan whole s.typed z.typed (NameEach s.typed.patterns) (NameEach z.typed.patterns) s.is.types here (each_agree s.typed.patterns z.typed.patterns) s.is.straight)
+            (pair_at (AreNames scoping on) (NameEach s.typed.patterns) (NameEach z.typed.patterns) (basis scoping on plan) s.typed z.typed s.is.types here);
         values = λ number text bounds.
             canonical_kept scoping plan s.typed one ready s.defaults number text bounds
-            ∙ texts_same scoping on plan whole s.typed z.typed s.types here s.straight number text bounds
+            ∙ texts_same scoping on plan whole s.typed z.typed (NameEach s.typed.patterns) (NameEach z.typed.patterns) s.is.types here (each_agree s.typed.patterns z.typed.patterns) s.is.straight number text bounds
             ∙ sym (canonical_kept scoping plan z.typed two also_ready well number text bounds);
       }
 

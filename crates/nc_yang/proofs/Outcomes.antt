@@ -1,6 +1,6 @@
 -- What each pass answers, as what modules define or the rule that they break.
-use Rattle.std.proofs.Common.{◌≡◌, ℕ, List, [], ap, sym, subst}
-use Rattle.std.specs.Prelude.{Option, Result, Ok, Err, Some, IfOk, MatchResult}
+use Rattle.std.proofs.Common.{inl, inr, ◌≡◌, ℕ, List, [], length, ap, sym, subst, ◌∙◌}
+use Rattle.std.specs.Prelude.{slice_get, Option, Result, Ok, Err, Some, IfOk, MatchResult}
 use Rattle.nc_names.specs.declared.memory.Memory.{Memory as NamesMemory}
 use Rattle.nc_schema.specs.Tables.{Tables}
 use Rattle.nc_yang_words.specs.declared.statement.Statement.{Statement}
@@ -28,27 +28,31 @@ use Rattle.nc_yang_meanings.specs.Faults.{BreaksTypes, KeepsTypes}
 use Rattle.nc_yang_leafs.specs.Bases.{AllMeanWhole, basis_on}
 use Rattle.nc_yang_leafs.specs.Conditions.{holds}
 use Rattle.nc_yang_leafs.specs.Faults.{BreaksLeafref}
-use Rattle.nc_yang_leafs.specs.Typings.{IsTyped}
+use Rattle.nc_yang_leafs.specs.Patterns.{AreTypings, HasPatterns, Refusals, RefusesType}
+use Rattle.nc_yang_leafs.specs.declared.bare.Typed.{Typed}
+use Rattle.nc_yang_leafs.proofs.PatternLemmas.{patterns_left_out, refused_in_use, stated_typed, with_patterns_typed}
 use Rattle.nc_yang_circles.specs.Circles.{BreaksCircle, HasNoCircle, JudgesCircles}
-use Rattle.nc_yang_defaults.specs.Defaults.{BreaksDefault, HasDefaults}
+use Rattle.nc_yang_defaults.specs.Defaults.{BreaksDefault, HasDefaults, KeepsDefaults}
+use Rattle.nc_yang_defaults.specs.Typed.{IsTyped as IsReady}
 use Rattle.nc_yang.specs.Features.{is_given}
-use Rattle.nc_yang.specs.Schemas.{AreNames, Breaks, BreaksPlan, BreaksSchema, Defines, GivesSchema, IsBegun, IsSchemaOf, basis, circle, default, ill_typed, in_place, in_plan, in_schema, leafref, past, text, unread}
+use Rattle.nc_yang.specs.Schemas.{AreNames, Defines, GivesNone, GivesSchema, IsBegun, IsSchemaOf, IsTypedOf, basis, by_pattern, circle, default, ill_typed, in_place, in_plan, in_schema, leafref, past, text, unread}
+use Rattle.nc_yang.specs.inner.Finishing.{Ends, Finishes, GivesNoSchema, GivesNothing, broken, refused, unsuited}
 use Rattle.nc_yang.specs.inner.Stops.{IsInFile}
 
 -- ---- faults of the passes
-pub data_stops : (scoping : Scoping) (on : FeatureTest) (plan : Plan) (met : Stop TextFault) → OnBroken (λ (found : TextFault). Some found ≡ first (data_faults scoping on plan)) met
-    → OnBroken (BreaksPlan scoping on plan) met
-data_stops scoping on plan (Broken found) b = in_place found (first_contains (data_faults scoping on plan) found (sym b))
-data_stops scoping on plan Memory b = tt
+pub data_stops : (scoping : Scoping) (on : FeatureTest) (plan : Plan) (refusals : Refusals) (met : Stop TextFault) → OnBroken (λ (found : TextFault). Some found ≡ first (data_faults scoping on plan)) met
+    → OnBroken (GivesNoSchema scoping on plan refusals) met
+data_stops scoping on plan refusals (Broken found) b = inl (in_place found (first_contains (data_faults scoping on plan) found (sym b)))
+data_stops scoping on plan refusals Memory b = tt
 
-pub meaning_stops : (scoping : Scoping) (on : FeatureTest) (met : Stop TextFault) → OnBroken (λ (it : TextFault). BreaksTypes (holds scoping.texts on) scoping.texts it.text it.fault) met
-    → OnBroken (BreaksSchema scoping on) met
-meaning_stops scoping on (Broken found) b = ill_typed found b
-meaning_stops scoping on Memory b = tt
+pub meaning_stops : (scoping : Scoping) (on : FeatureTest) (refusals : Refusals) (met : Stop TextFault) → OnBroken (λ (it : TextFault). BreaksTypes (holds scoping.texts on) scoping.texts it.text it.fault) met
+    → OnBroken (GivesNothing scoping on refusals) met
+meaning_stops scoping on refusals (Broken found) b = inl (ill_typed found b)
+meaning_stops scoping on refusals Memory b = tt
 
-pub plan_stops : (scoping : Scoping) (on : FeatureTest) (met : Stop TextFault) → OnBroken (IsFirstPast scoping on) met → OnBroken (BreaksSchema scoping on) met
-plan_stops scoping on (Broken found) b = past found b
-plan_stops scoping on Memory b = tt
+pub plan_stops : (scoping : Scoping) (on : FeatureTest) (refusals : Refusals) (met : Stop TextFault) → OnBroken (IsFirstPast scoping on) met → OnBroken (GivesNothing scoping on refusals) met
+plan_stops scoping on refusals (Broken found) b = inl (past found b)
+plan_stops scoping on refusals Memory b = tt
 
 -- ---- what stands on the tables of a plan
 pub judged : (scoping : Scoping) (on : FeatureTest) (plan : Plan) (given : Tables) (it : Option TextFault) → given ≡ data_tables scoping on plan
@@ -60,33 +64,83 @@ pub all_mean : (scoping : Scoping) (on : FeatureTest) (plan : Plan) (given : Tab
 all_mean scoping on plan given is h = subst (λ (t : Tables). AllMeanWhole (basis_on (holds scoping.texts on) scoping plan t)) (sym is) h
 
 pub types_on : (scoping names : Scoping) (on : FeatureTest) (plan : Plan) (given : Tables) → given ≡ data_tables scoping on plan → names ≡ scoping
-    → (result : Result Tables (Stop TextFault))
-    → MatchResult result (IsTyped (AreNames names on) (basis_on (holds scoping.texts on) scoping plan given)) (OnBroken (BreaksLeafref (basis_on (holds scoping.texts on) scoping plan given)))
-    → MatchResult result (IsTyped (AreNames scoping on) (basis scoping on plan)) (OnBroken (BreaksLeafref (basis scoping on plan)))
+    → (result : Result Typed (Stop TextFault))
+    → MatchResult result (AreTypings (AreNames names on) (basis_on (holds scoping.texts on) scoping plan given)) (OnBroken (BreaksLeafref (basis_on (holds scoping.texts on) scoping plan given)))
+    → MatchResult result (AreTypings (AreNames scoping on) (basis scoping on plan)) (OnBroken (BreaksLeafref (basis scoping on plan)))
 types_on scoping names on plan given is named result h =
-    subst (λ (s : Scoping). MatchResult result (IsTyped (AreNames s on) (basis scoping on plan)) (OnBroken (BreaksLeafref (basis scoping on plan)))) named
-    (subst (λ (t : Tables). MatchResult result (IsTyped (AreNames names on) (basis_on (holds scoping.texts on) scoping plan t)) (OnBroken (BreaksLeafref (basis_on (holds scoping.texts on) scoping plan t)))) is h)
+    subst (λ (s : Scoping). MatchResult result (AreTypings (AreNames s on) (basis scoping on plan)) (OnBroken (BreaksLeafref (basis scoping on plan)))) named
+    (subst (λ (t : Tables). MatchResult result (AreTypings (AreNames names on) (basis_on (holds scoping.texts on) scoping plan t)) (OnBroken (BreaksLeafref (basis_on (holds scoping.texts on) scoping plan t)))) is h)
 
-pub no_types : (scoping : Scoping) (on : FeatureTest) (plan : Plan) (given : Tables) → given ≡ data_tables scoping on plan → given.types ≡ []
-no_types scoping on plan given is = ap (λ (t : Tables). t.types) is
+pub no_types : (scoping : Scoping) (on : FeatureTest) (plan : Plan) (given : Tables) → given ≡ data_tables scoping on plan → (given.types ≡ []) × (given.patterns ≡ [])
+no_types scoping on plan given is = (ap (λ (t : Tables). t.types) is, ap (λ (t : Tables). t.patterns) is)
 
 -- ---- what comes of a plan
-pub leafref_stops : (scoping : Scoping) (on : FeatureTest) (plan : Plan) → data_faults scoping on plan ≡ [] → (stop : Stop TextFault) → OnBroken (BreaksLeafref (basis scoping on plan)) stop
-    → OnBroken (BreaksPlan scoping on plan) stop
-leafref_stops scoping on plan kept (Broken found) b = leafref found kept b
-leafref_stops scoping on plan kept Memory b = tt
+pub leafref_stops : (scoping : Scoping) (on : FeatureTest) (plan : Plan) (refusals : Refusals) → data_faults scoping on plan ≡ [] → (stop : Stop TextFault) → OnBroken (BreaksLeafref (basis scoping on plan)) stop
+    → OnBroken (GivesNoSchema scoping on plan refusals) stop
+leafref_stops scoping on plan refusals kept (Broken found) b = inl (leafref found kept b)
+leafref_stops scoping on plan refusals kept Memory b = tt
 
-pub circle_stops : (scoping : Scoping) (on : FeatureTest) (plan : Plan) → data_faults scoping on plan ≡ [] → (stop : Stop TextFault) → OnBroken (BreaksCircle (basis scoping on plan)) stop
-    → OnBroken (BreaksPlan scoping on plan) stop
-circle_stops scoping on plan kept (Broken found) b = circle found kept b
-circle_stops scoping on plan kept Memory b = tt
+pub circle_stops : (scoping : Scoping) (on : FeatureTest) (plan : Plan) (refusals : Refusals) → data_faults scoping on plan ≡ [] → (stop : Stop TextFault) → OnBroken (BreaksCircle (basis scoping on plan)) stop
+    → OnBroken (GivesNoSchema scoping on plan refusals) stop
+circle_stops scoping on plan refusals kept (Broken found) b = inl (circle found kept b)
+circle_stops scoping on plan refusals kept Memory b = tt
 
-pub finishes : (scoping : Scoping) (on : FeatureTest) (plan : Plan) (typed : Tables) → data_faults scoping on plan ≡ [] → HasNoCircle (basis scoping on plan) → IsTyped (AreNames scoping on) (basis scoping on plan) typed
-    → (result : Result Tables (Stop TextFault)) → MatchResult result (HasDefaults scoping plan typed) (OnBroken (BreaksDefault scoping plan typed))
-    → MatchResult result (IsSchemaOf scoping on plan) (OnBroken (BreaksPlan scoping on plan))
-finishes scoping on plan typed kept none is (Ok tables) h = record { keeps = kept; straight = none; typed = typed; types = is; defaults = h }
-finishes scoping on plan typed kept none is (Err (Broken found)) h = default found typed kept none is h
-finishes scoping on plan typed kept none is (Err Memory) h = tt
+-- the schema with its types as they were found, and what its defaults and patterns come to
+module _ (scoping : Scoping) (on : FeatureTest) (plan : Plan) (typed : Typed) (refusals : Refusals) (kept : data_faults scoping on plan ≡ []) (none : HasNoCircle (basis scoping on plan))
+    (are : AreTypings (AreNames scoping on) (basis scoping on plan) typed) where
+  of_patterns : (tables : Tables) → HasPatterns scoping.located typed tables → KeepsDefaults scoping plan typed.schema → IsTypedOf scoping on plan tables
+  of_patterns tables has keeps = record {
+    keeps = kept;
+    straight = none;
+    types = with_patterns_typed (AreNames scoping on) (basis scoping on plan) typed are tables has;
+    defaults = subst (KeepsDefaults scoping plan) (sym (patterns_left_out (AreNames scoping on) (basis scoping on plan) typed are tables has)) keeps;
+  }
+
+  ends : (found : TextFault) → Ends scoping plan typed refusals found → GivesNoSchema scoping on plan refusals found
+  ends _ (broken found h) =
+      let t = stated_typed (AreNames scoping on) (basis scoping on plan) typed are in
+      inl (default found t.0 kept none t.1 (subst (λ z. BreaksDefault scoping plan z found) (sym t.2) h))
+  ends _ (refused found keeps h) =
+      let t = stated_typed (AreNames scoping on) (basis scoping on plan) typed are in
+      inr (record {
+        typed = t.0;
+        is = record { keeps = kept; straight = none; types = t.1; defaults = subst (KeepsDefaults scoping plan) (sym t.2) keeps };
+        refused = refused_in_use (AreNames scoping on) (basis scoping on plan) typed are refusals found h;
+      })
+  ends _ (unsuited found patterned keeps has h) = inl (by_pattern found patterned (of_patterns patterned has keeps) h)
+
+  pub finishes : (result : Result Tables (Stop TextFault)) → MatchResult result (Finishes scoping plan typed) (OnBroken (Ends scoping plan typed refusals))
+      → MatchResult result (IsSchemaOf scoping on plan) (OnBroken (GivesNoSchema scoping on plan refusals))
+  finishes (Ok tables) h = record { typed = h.patterned; is = of_patterns h.patterned h.has h.keeps; defaults = h.defaults }
+  finishes (Err (Broken found)) h = ends found h
+  finishes (Err Memory) h = tt
+
+-- defaults that are looked at before the patterns, and after them
+pub broken_first : (scoping : Scoping) (plan : Plan) (typed : Typed) (refusals : Refusals) (stop : Stop TextFault) → OnBroken (BreaksDefault scoping plan typed.schema) stop
+    → OnBroken (Ends scoping plan typed refusals) stop
+broken_first scoping plan typed refusals (Broken found) b = broken found b
+broken_first scoping plan typed refusals Memory b = tt
+
+pub refused_then : (scoping : Scoping) (plan : Plan) (typed : Typed) (refusals : Refusals) → KeepsDefaults scoping plan typed.schema → (stop : Stop TextFault)
+    → OnBroken (RefusesType scoping.located typed refusals) stop → OnBroken (Ends scoping plan typed refusals) stop
+refused_then scoping plan typed refusals keeps (Broken found) b = refused found keeps b
+refused_then scoping plan typed refusals keeps Memory b = tt
+
+pub unsuited_last : (scoping : Scoping) (plan : Plan) (typed : Typed) (refusals : Refusals) (patterned : Tables) → KeepsDefaults scoping plan typed.schema → HasPatterns scoping.located typed patterned
+    → (result : Result Tables (Stop TextFault)) → MatchResult result (HasDefaults scoping plan patterned) (OnBroken (BreaksDefault scoping plan patterned))
+    → MatchResult result (Finishes scoping plan typed) (OnBroken (Ends scoping plan typed refusals))
+unsuited_last scoping plan typed refusals patterned keeps has (Ok tables) h = record { keeps = keeps; patterned = patterned; has = has; defaults = h }
+unsuited_last scoping plan typed refusals patterned keeps has (Err (Broken found)) h = unsuited found patterned keeps has h
+unsuited_last scoping plan typed refusals patterned keeps has (Err Memory) h = tt
+
+-- what makes a schema ready for its defaults does not depend on its types
+pub ready_again : (scoping : Scoping) (plan : Plan) (typed : Typed) (tables : Tables) → IsReady scoping plan typed.schema → HasPatterns scoping.located typed tables → IsReady scoping plan tables
+ready_again scoping plan typed tables ready has = record {
+  counted = ap length has.nodes ∙ ready.counted;
+  stated = ready.stated;
+  meanings = λ d is valued. ready.meanings d (ap (λ z. slice_get z d.number) (sym has.nodes) ∙ is.0, is.1) valued;
+  fresh = λ d is. ready.fresh d (ap (λ z. slice_get z d.number) (sym has.nodes) ∙ is.0, is.1);
+}
 
 -- ---- of texts
 -- features are on by the lines that name them
@@ -95,29 +149,31 @@ pub on_by : (scoping : Scoping) (lines : List (List ℕ)) (given : Features) →
 on_by scoping lines given same result h =
     subst (λ (f : FeatureTest). IfOk result (λ it. AreOn scoping f (is_on it))) (λ i text feature. same text feature i) h
 
-pub plans : (scoping : Scoping) (on : FeatureTest) (plan : Plan) → KeepsTypes (holds scoping.texts on) scoping.texts → IsPlan scoping on plan
-    → (result : Result Tables (Stop TextFault)) → MatchResult result (IsSchemaOf scoping on plan) (OnBroken (BreaksPlan scoping on plan))
-    → MatchResult result (GivesSchema scoping on) (OnBroken (BreaksSchema scoping on))
-plans scoping on plan types planned (Ok tables) h = record { types = types; plan = plan; planned = planned; is = h }
-plans scoping on plan types planned (Err (Broken found)) h = in_plan plan found types planned h
-plans scoping on plan types planned (Err Memory) h = tt
+pub plans : (scoping : Scoping) (on : FeatureTest) (plan : Plan) (refusals : Refusals) → KeepsTypes (holds scoping.texts on) scoping.texts → IsPlan scoping on plan
+    → (result : Result Tables (Stop TextFault)) → MatchResult result (IsSchemaOf scoping on plan) (OnBroken (GivesNoSchema scoping on plan refusals))
+    → MatchResult result (GivesSchema scoping on) (OnBroken (GivesNothing scoping on refusals))
+plans scoping on plan refusals types planned (Ok tables) h = record { types = types; plan = plan; planned = planned; is = h }
+plans scoping on plan refusals types planned (Err (Broken found)) (inl h) = inl (in_plan plan found types planned h)
+plans scoping on plan refusals types planned (Err (Broken found)) (inr h) = inr (record { types = types; plan = plan; planned = planned; refuses = h })
+plans scoping on plan refusals types planned (Err Memory) h = tt
 
-pub text_stops : (modules : List ModuleText) (lines : List (List ℕ)) (roots : List Statement) → AreRead modules roots → (stop : Stop TextFault) → OnBroken (BreaksText roots) stop
-    → OnBroken (λ (found : TextFault). Breaks modules lines found.text found.fault) stop
-text_stops modules lines roots read (Broken found) b = text roots found read b
-text_stops modules lines roots read Memory b = tt
+pub text_stops : (modules : List ModuleText) (lines : List (List ℕ)) (refusals : Refusals) (roots : List Statement) → AreRead modules roots → (stop : Stop TextFault) → OnBroken (BreaksText roots) stop
+    → OnBroken (λ (found : TextFault). GivesNone modules lines refusals found.text found.fault) stop
+text_stops modules lines refusals roots read (Broken found) b = inl (text roots found read b)
+text_stops modules lines refusals roots read Memory b = tt
 
-pub defines : (modules : List ModuleText) (lines : List (List ℕ)) (scoping : Scoping) (on : FeatureTest) → IsBegun modules lines scoping on
-    → (result : Result Tables (Stop TextFault)) → MatchResult result (GivesSchema scoping on) (OnBroken (BreaksSchema scoping on))
-    → MatchResult result (Defines modules lines) (OnBroken (λ (found : TextFault). Breaks modules lines found.text found.fault))
-defines modules lines scoping on begun (Ok tables) h = record { scoping = scoping; on = on; begun = begun; gives = h }
-defines modules lines scoping on begun (Err (Broken found)) h = in_schema scoping on found begun h
-defines modules lines scoping on begun (Err Memory) h = tt
+pub defines : (modules : List ModuleText) (lines : List (List ℕ)) (refusals : Refusals) (scoping : Scoping) (on : FeatureTest) → IsBegun modules lines scoping on
+    → (result : Result Tables (Stop TextFault)) → MatchResult result (GivesSchema scoping on) (OnBroken (GivesNothing scoping on refusals))
+    → MatchResult result (Defines modules lines) (OnBroken (λ (found : TextFault). GivesNone modules lines refusals found.text found.fault))
+defines modules lines refusals scoping on begun (Ok tables) h = record { scoping = scoping; on = on; begun = begun; gives = h }
+defines modules lines refusals scoping on begun (Err (Broken found)) (inl h) = inl (in_schema scoping on found begun h)
+defines modules lines refusals scoping on begun (Err (Broken found)) (inr h) = inr (record { scoping = scoping; on = on; begun = begun; refuses = h })
+defines modules lines refusals scoping on begun (Err Memory) h = tt
 
 -- ---- of files
-pub unread_stops : (modules : List ModuleText) (lines : List (List ℕ)) (fault : CompileFault) → OnModule (IsUnread modules) fault → OnModule (Breaks modules lines) fault
-unread_stops modules lines (Module file line why) h = unread file (record { line = line; why = why }) h
-unread_stops modules lines NoMemory h = tt
+pub unread_stops : (modules : List ModuleText) (lines : List (List ℕ)) (refusals : Refusals) (fault : CompileFault) → OnModule (IsUnread modules) fault → OnModule (GivesNone modules lines refusals) fault
+unread_stops modules lines refusals (Module file line why) h = inl (unread file (record { line = line; why = why }) h)
+unread_stops modules lines refusals NoMemory h = tt
 
 pub file_stops : (P : ℕ → Fault → Type 0) (stop : Stop TextFault) (fault : CompileFault) → IsInFile stop fault → OnBroken (λ (found : TextFault). P found.text found.fault) stop → OnModule P fault
 file_stops P (Broken found) (Module file line why) is b = subst (λ (f : TextFault). P f.text f.fault) is b

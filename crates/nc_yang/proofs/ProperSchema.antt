@@ -20,14 +20,15 @@ use Rattle.nc_yang_data.proofs.Lawful.{in_place}
 use Rattle.nc_yang_meanings.specs.Faults.{KeepsTypes}
 use Rattle.nc_yang_leafs.specs.Bases.{AllMeanWhole}
 use Rattle.nc_yang_leafs.specs.Conditions.{holds}
-use Rattle.nc_yang_leafs.specs.Typings.{HasItsType, IsSameNode, IsTyped}
+use Rattle.nc_yang_leafs.specs.Patterns.{Refusals}
+use Rattle.nc_yang_leafs.specs.Typings.{HasItsType, IsSameNode, IsTyped, NameEach}
 use Rattle.nc_yang_leafs.proofs.ProperLemmas.{types_are_proper}
 use Rattle.nc_yang_defaults.specs.Defaults.{HasDefaults, HasItsDefault}
 use Rattle.nc_yang_defaults.specs.Typed.{IsTyped as IsReady}
 use Rattle.nc_yang_defaults.proofs.LawLemmas.{has_one}
 use Rattle.nc_yang_defaults.proofs.OutcomeLemmas.{outcome_canonical}
 use Rattle.nc_yang.specs.Laws.{DefaultsAreCanonical, HasCanonicalDefaults, SchemasAreProper}
-use Rattle.nc_yang.specs.Schemas.{AreNames, Breaks, Defines, IsSchemaOf, basis}
+use Rattle.nc_yang.specs.Schemas.{AreNames, Defines, GivesNone, IsSchemaOf, basis}
 use Rattle.nc_yang.proofs.Carried.{AreAlike, IsAlike, back, some_and, still_in_place, still_proper_types, still_turn, still_typed}
 use Rattle.nc_yang.proofs.DataTypes.{data_types_mean}
 use Rattle.nc_yang.proofs.IdentityNames.{are_identities}
@@ -42,7 +43,7 @@ module _ (scoping : Scoping) (on : FeatureTest) (plan : Plan) (typed : Tables) (
     choices = is.choices;
     counted = is.counted;
     nodes = λ number old at. some_and
-        (λ (new : Node). IsSameNode old new × HasItsType (AreNames scoping on) (basis scoping on plan) typed.types number new.kind new.kind_of_value) (IsAlike old)
+        (λ (new : Node). IsSameNode old new × HasItsType (AreNames scoping on) (NameEach typed.patterns) (basis scoping on plan) typed.types number new.kind new.kind_of_value) (IsAlike old)
         (λ new same. record { of_value = new.kind_of_value; defaults = old.defaults; is = same.0 }) (slice_get typed.nodes number) (is.nodes number old at);
   }
 
@@ -99,10 +100,10 @@ module _ (scoping : Scoping) (on : FeatureTest) (plan : Plan) (tables : Tables) 
   whole = data_types_mean (holds scoping.texts on) scoping on plan keeps types planned
 
   ready : IsReady scoping plan is.typed
-  ready = is_ready scoping on plan planned (AreNames scoping on) is.typed is.types whole
+  ready = is_ready scoping on plan planned (AreNames scoping on) (NameEach is.typed.patterns) is.typed is.is.types whole
 
   first : AreAlike given is.typed
-  first = given_alike scoping on plan is.typed is.types
+  first = given_alike scoping on plan is.typed is.is.types
 
   second : AreAlike is.typed tables
   second = typed_alike scoping plan is.typed tables ready is.defaults
@@ -128,8 +129,8 @@ module _ (scoping : Scoping) (on : FeatureTest) (plan : Plan) (tables : Tables) 
   pub schema_is_proper : IsProperSchema tables
   schema_is_proper =
       proper_of (modules_are_proper scoping on plan keeps)
-      (still_in_place is.typed tables second (still_in_place given is.typed first (in_place scoping on plan planned is.keeps)))
-      (types_proper scoping on plan is.typed is.types keeps whole)
+      (still_in_place is.typed tables second (still_in_place given is.typed first (in_place scoping on plan planned is.is.keeps)))
+      (types_proper scoping on plan is.typed is.is.types keeps whole)
 
   pub defaults_are_canonical_in : HasCanonicalDefaults tables
   defaults_are_canonical_in = outcome_canonical scoping plan is.typed tables ready is.defaults
@@ -148,16 +149,16 @@ if_given : (D P : Tables → Type 0) (B : CompileFault → Type 0) (result : Res
 if_given D P B (Ok tables) law d = law tables d
 if_given D P B (Err fault) law b = tt
 
-abbrev pub IsCompiled : List ModuleText → List (List ℕ) → Result Tables CompileFault → Type 0
-IsCompiled modules lines result = MatchResult result (Defines modules lines) (OnModule (Breaks modules lines))
+abbrev pub IsCompiled : List ModuleText → List (List ℕ) → Refusals → Result Tables CompileFault → Type 0
+IsCompiled modules lines refusals result = MatchResult result (Defines modules lines) (OnModule (GivesNone modules lines refusals))
 
-pub proper : (modules : List ModuleText) (lines : List (List ℕ)) (result : Result Tables CompileFault)
-    → IsCompiled modules lines result → IfOk result IsProperSchema
-proper modules lines result =
-    if_given (Defines modules lines) IsProperSchema (OnModule (Breaks modules lines)) result (schemas_are_proper modules lines)
+pub proper : (modules : List ModuleText) (lines : List (List ℕ)) (refusals : Refusals) (result : Result Tables CompileFault)
+    → IsCompiled modules lines refusals result → IfOk result IsProperSchema
+proper modules lines refusals result =
+    if_given (Defines modules lines) IsProperSchema (OnModule (GivesNone modules lines refusals)) result (schemas_are_proper modules lines)
 
-pub canonical : (modules : List ModuleText) (lines : List (List ℕ)) (result : Result Tables CompileFault)
-    → IsCompiled modules lines result → IfOk result HasCanonicalDefaults
-canonical modules lines result =
-    if_given (Defines modules lines) HasCanonicalDefaults (OnModule (Breaks modules lines)) result
+pub canonical : (modules : List ModuleText) (lines : List (List ℕ)) (refusals : Refusals) (result : Result Tables CompileFault)
+    → IsCompiled modules lines refusals result → IfOk result HasCanonicalDefaults
+canonical modules lines refusals result =
+    if_given (Defines modules lines) HasCanonicalDefaults (OnModule (GivesNone modules lines refusals)) result
     (defaults_are_canonical modules lines)

@@ -26,7 +26,10 @@ use Rattle.nc_yang_meanings.specs.Meanings.{Meaning, Means}
 use Rattle.nc_yang_meanings.specs.Wholes.{MeansWhole, whole}
 use Rattle.nc_yang_leafs.specs.Bases.{AllMeanWhole}
 use Rattle.nc_yang_leafs.specs.Conditions.{holds}
-use Rattle.nc_yang_leafs.specs.Typings.{HasItsType, IsSameNode, IsTyped}
+use Rattle.nc_yang_leafs.specs.declared.bare.Typed.{Typed}
+use Rattle.nc_yang_leafs.specs.Patterns.{AreTypings}
+use Rattle.nc_yang_leafs.specs.Typings.{HasItsType, HasTypings, IsSameNode}
+use Rattle.nc_yang_scopes.specs.Numbers.{AreNumbers}
 use Rattle.nc_yang_defaults.specs.Sources.{Defined, IsDefined}
 use Rattle.nc_yang_defaults.specs.Typed.{HasMeaning, IsTyped as IsReady}
 use Rattle.nc_yang.specs.Schemas.{basis}
@@ -57,8 +60,8 @@ nodes_fresh scoping tables k zero (p ∷ ps) node e =
     let same : node_at scoping tables k p ≡ node = cc in sym (ap (λ (z : Node). z.defaults) same) ∙ draft_fresh scoping p
 nodes_fresh scoping tables k (suc n) (p ∷ ps) node e = nodes_fresh scoping tables (k + 1) n ps node e
 
-module _ (scoping : Scoping) (on : FeatureTest) (plan : Plan) (planned : IsPlan scoping on plan) (derived : List Located → List QName → Type 0) (typed : Tables)
-    (is : IsTyped derived (basis scoping on plan) typed) where
+module _ (scoping : Scoping) (on : FeatureTest) (plan : Plan) (planned : IsPlan scoping on plan) (derived : List Located → List QName → Type 0)
+    (named : List ℕ → List Located → Type 0) (typed : Tables) (is : HasTypings derived named (basis scoping on plan) typed) where
   abbrev given : Tables
   given = data_tables scoping on plan
 
@@ -75,7 +78,7 @@ module _ (scoping : Scoping) (on : FeatureTest) (plan : Plan) (planned : IsPlan 
   was d defined =
       let within : d.number < length typed.nodes = slice_get_within typed.nodes d.number d.node defined.0 in
       let g = got given.nodes d.number (subst (λ n. d.number < n) is.counted within) in
-      let new : IsSameNode g.0 d.node × HasItsType derived (basis scoping on plan) typed.types d.number d.node.kind d.node.kind_of_value = subst (λ o. IsSomeAnd o (λ new. IsSameNode g.0 new × HasItsType derived (basis scoping on plan) typed.types d.number new.kind new.kind_of_value)) defined.0 (is.nodes d.number g.0 g.1) in
+      let new : IsSameNode g.0 d.node × HasItsType derived named (basis scoping on plan) typed.types d.number d.node.kind d.node.kind_of_value = subst (λ o. IsSomeAnd o (λ new. IsSameNode g.0 new × HasItsType derived named (basis scoping on plan) typed.types d.number new.kind new.kind_of_value)) defined.0 (is.nodes d.number g.0 g.1) in
       record { old = g.0; at = g.1; same = new.0 }
 
   stated : (number : ℕ) → number < length plan.nodes → IsSome (statement_of scoping plan number)
@@ -104,3 +107,10 @@ module _ (scoping : Scoping) (on : FeatureTest) (plan : Plan) (planned : IsPlan 
 
   pub is_ready : AllMeanWhole (basis scoping on plan) → IsReady scoping plan typed
   is_ready all = record { counted = long; stated = stated; meanings = mean all; fresh = fresh }
+
+-- a schema whose types have no patterns yet is ready for its defaults
+pub bare_ready : (scoping : Scoping) (on : FeatureTest) (plan : Plan) → IsPlan scoping on plan → (derived : List Located → List QName → Type 0) (typed : Typed) →
+    AreTypings derived (basis scoping on plan) typed → AllMeanWhole (basis scoping on plan) → IsReady scoping plan typed.schema
+bare_ready scoping on plan planned derived typed are all =
+    let ready = is_ready scoping on plan planned derived (AreNumbers scoping.located) (record typed.schema { types = are.types }) are.is all in
+    record { counted = ready.counted; stated = ready.stated; meanings = ready.meanings; fresh = ready.fresh }

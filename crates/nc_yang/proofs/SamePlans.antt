@@ -15,9 +15,9 @@ use Rattle.nc_yang_nodes.specs.declared.planned.Plan.{Plan}
 use Rattle.nc_yang_nodes.proofs.Alike.{statements_alike}
 use Rattle.nc_yang_leafs.specs.Bases.{Basis, type_of}
 use Rattle.nc_yang_leafs.specs.Faults.{BreaksLeafref}
-use Rattle.nc_yang_leafs.specs.Typings.{HasItsType, IsInUse, IsOfType, IsSameNode, IsTyped}
+use Rattle.nc_yang_leafs.specs.Typings.{HasItsType, HasTypings, IsInUse, IsOfType, IsSameNode}
 use Rattle.nc_yang_circles.specs.Circles.{BreaksCircle, HasPath, Reaches, Refers, itself, through}
-use Rattle.nc_yang_defaults.specs.Defaults.{BreaksDefault, HasDefaults}
+use Rattle.nc_yang_defaults.specs.Defaults.{BreaksDefault, HasDefaults, KeepsDefaults}
 
 some_more : {A : Type 0} (P Q : A → Type 0) (o : Option A) → ((x : A) → P x → Q x) → IsSomeAnd o P → IsSomeAnd o Q
 some_more P Q None more h = absurd h
@@ -37,6 +37,9 @@ module _ (scoping : Scoping) (one other : Plan) (alike : AreAlike scoping one ot
     fault_is = h.fault_is;
   }
 
+  pub keeps_here : (tables : Tables) → KeepsDefaults scoping other tables → KeepsDefaults scoping one tables
+  keeps_here tables h d is = h d (is.0, sym (statements_alike scoping one other alike d.number) ∙ is.1)
+
   pub defaults_here : (typed tables : Tables) → HasDefaults scoping other typed tables → HasDefaults scoping one typed tables
   defaults_here typed tables h = record {
     counted = h.counted;
@@ -54,13 +57,13 @@ module _ (scoping : Scoping) (one other : Plan) (alike : AreAlike scoping one ot
     abbrev on_other : Basis
     on_other = record { on = on; scoping = scoping; plan = other; given = given }
 
-    its_type_here : (derived : List Located → List QName → Type 0) (tables : Tables) (n : ℕ) (kind : Kind) (number : ℕ) →
-        HasItsType derived on_other tables.types n kind number → HasItsType derived on_one tables.types n kind number
-    its_type_here derived tables n kind number h = record { valued = λ has l is. h.valued has l (sym (types_same n) ∙ is); other = h.other }
+    its_type_here : (derived : List Located → List QName → Type 0) (named : List ℕ → List Located → Type 0) (tables : Tables) (n : ℕ) (kind : Kind) (number : ℕ) →
+        HasItsType derived named on_other tables.types n kind number → HasItsType derived named on_one tables.types n kind number
+    its_type_here derived named tables n kind number h = record { valued = λ has l is. h.valued has l (sym (types_same n) ∙ is); other = h.other }
 
-    of_type_here : (derived : List Located → List QName → Type 0) (types : List ValueType) (number : ℕ) (kind : Kind) (entry : ℕ) → IsOfType derived on_other types number kind entry
-        → IsOfType derived on_one types number kind entry
-    of_type_here derived types number kind entry h = record {
+    of_type_here : (derived : List Located → List QName → Type 0) (named : List ℕ → List Located → Type 0) (types : List ValueType) (number : ℕ) (kind : Kind) (entry : ℕ) →
+        IsOfType derived named on_other types number kind entry → IsOfType derived named on_one types number kind entry
+    of_type_here derived named types number kind entry h = record {
       valued = h.valued;
       of_type = h.of_type;
       is = types_same number ∙ h.is;
@@ -69,20 +72,20 @@ module _ (scoping : Scoping) (one other : Plan) (alike : AreAlike scoping one ot
       has = h.has;
     }
 
-    in_use_here : (derived : List Located → List QName → Type 0) (types : List ValueType) (entry : ℕ) → IsInUse derived on_other types entry → IsInUse derived on_one types entry
-    in_use_here derived types entry (number, node, there, is) = (number, node, there, of_type_here derived types number node.kind entry is)
+    in_use_here : (derived : List Located → List QName → Type 0) (named : List ℕ → List Located → Type 0) (types : List ValueType) (entry : ℕ) → IsInUse derived named on_other types entry →
+        IsInUse derived named on_one types entry
+    in_use_here derived named types entry (number, node, there, is) = (number, node, there, of_type_here derived named types number node.kind entry is)
 
-    pub typed_here : (derived : List Located → List QName → Type 0) (tables : Tables) → IsTyped derived on_other tables → IsTyped derived on_one tables
-    typed_here derived tables h = record {
+    pub typed_here : (derived : List Located → List QName → Type 0) (named : List ℕ → List Located → Type 0) (tables : Tables) → HasTypings derived named on_other tables → HasTypings derived named on_one tables
+    typed_here derived named tables h = record {
       modules = h.modules;
       choices = h.choices;
-      patterns = h.patterns;
       counted = h.counted;
       nodes = λ n old there.
-          some_more (λ (new : Node). IsSameNode old new × HasItsType derived on_other tables.types n new.kind new.kind_of_value)
-          (λ (new : Node). IsSameNode old new × HasItsType derived on_one tables.types n new.kind new.kind_of_value) (slice_get tables.nodes n)
-          (λ new is. (is.0, its_type_here derived tables n new.kind new.kind_of_value is.1)) (h.nodes n old there);
-      entries = λ entry less. in_use_here derived tables.types entry (h.entries entry less);
+          some_more (λ (new : Node). IsSameNode old new × HasItsType derived named on_other tables.types n new.kind new.kind_of_value)
+          (λ (new : Node). IsSameNode old new × HasItsType derived named on_one tables.types n new.kind new.kind_of_value) (slice_get tables.nodes n)
+          (λ new is. (is.0, its_type_here derived named tables n new.kind new.kind_of_value is.1)) (h.nodes n old there);
+      entries = λ entry less. in_use_here derived named tables.types entry (h.entries entry less);
     }
 
     pub lost_here : (fault : TextFault) → BreaksLeafref on_other fault → BreaksLeafref on_one fault

@@ -6,21 +6,22 @@ use Rattle.std.specs.Option.{option_map_or}
 use Rattle.std.proofs.lemmas.Option.{slice_get_within}
 use Rattle.nc_names.specs.declared.name.Bound.{Bound}
 use Rattle.nc_names.specs.declared.name.QName.{QName}
+use Rattle.nc_patterns.specs.Admits.{admits_each}
 use Rattle.nc_schema.specs.Bindings.{module_bounds}
 use Rattle.nc_schema.specs.Tables.{Tables}
 use Rattle.nc_schema.specs.Values.{Givers, Gives, agrees, text_in_type, type_of as kind_at, type_text, union_text}
 use Rattle.nc_schema.specs.declared.pattern.LeafrefEnd.{LeafrefEnd}
 use Rattle.nc_schema.specs.declared.value_type.ValueType.{ValueType}
-use Rattle.nc_schema.specs.declared.value_type.ValueType.TheVariants.{Identity, Leafref, Union}
+use Rattle.nc_schema.specs.declared.value_type.ValueType.TheVariants.{Chars as String, Identity, Leafref, Union}
 use Rattle.nc_yang_loops.proofs.Lists.{contains_first, contains_later}
 use Rattle.nc_yang_scopes.specs.Scopes.{Located}
 use Rattle.nc_yang_meanings.specs.Meanings.{DerivedFrom, Entry, Meaning, OneOf, Refers}
 use Rattle.nc_yang_meanings.specs.Wholes.{members_of}
 use Rattle.nc_yang_meanings.proofs.MeaningLemmas.{means_one}
 use Rattle.nc_yang_leafs.specs.Bases.{Basis, leads}
-use Rattle.nc_yang_leafs.specs.Typings.{HasType, IsEntry, none, numbers_of, one_more}
+use Rattle.nc_yang_leafs.specs.Typings.{HasType, IsEntry, IsPatterned, none, numbers_of, one_more}
 use Rattle.nc_yang_defaults.specs.Readings.{has_whole, is_whole}
-use Rattle.nc_yang_defaults.proofs.AlikeLemmas.{alone_alike, path_tables}
+use Rattle.nc_yang_defaults.proofs.AlikeLemmas.{alone_alike, has_others, path_tables, strings_alike}
 use Rattle.nc_yang.proofs.Alone.{IsAlone, means_alone}
 use Rattle.nc_yang.proofs.Chains.{Asks, Clear, Ends, asked_is, clear_at_start, ends, further, member, next_clear, one_is_left, target}
 use Rattle.nc_yang.proofs.LeafTypes.{Typed, head}
@@ -62,38 +63,42 @@ module _ (f g : List Bound → Gives) where
       ]
 
 module _ (derived : List Located → List QName → Type 0) (one_derived : (bases : List Located) (xs ys : List QName) → derived bases xs → derived bases ys → xs ≡ ys)
-    (b : Basis) (t u : Tables) (alike : path_tables t ≡ path_tables u) where
+    (b : Basis) (t u : Tables) (alike : path_tables t ≡ path_tables u) (named other : List ℕ → List Located → Type 0)
+    (agree : (ns ms : List ℕ) (ps : List Located) → named ns ps → other ms ps → (text : List ℕ) → admits_each t.patterns ns text ≡ admits_each u.patterns ms text) where
   -- the type of a leaf or leaf-list in both
   pub record Both (n : ℕ) : Type 0 where
     pub l : Located
     pub one : ℕ
-    pub other : ℕ
+    pub twin : ℕ
     pub one_is : kind_at t n ≡ Some one
-    pub other_is : kind_at u n ≡ Some other
-    pub one_has : HasType derived b t.types n l one
-    pub other_has : HasType derived b u.types n l other
+    pub other_is : kind_at u n ≡ Some twin
+    pub one_has : HasType derived named b t.types n l one
+    pub other_has : HasType derived other b u.types n l twin
 
   abbrev pub Kinds : ℕ → Type 0
   Kinds n = ((kind_at t n ≡ None) × (kind_at u n ≡ None)) ⊎ Both n
 
   module _ (kinds : (n : ℕ) → Kinds n) where
     abbrev IsIn : ℕ → Meaning → ValueType → Type 0
-    IsIn n = IsEntry derived (leads b.scoping b.given n)
+    IsIn n = IsEntry derived named (leads b.scoping b.given n)
+
+    abbrev IsAlso : ℕ → Meaning → ValueType → Type 0
+    IsAlso n = IsEntry derived other (leads b.scoping b.given n)
 
     -- the entries of one meaning
-    module _ (f g : List Bound → Gives) (keys other : List Bound → Gives) (same : keys ≡ other) where
+    module _ (f g : List Bound → Gives) (keys others : List Bound → Gives) (same : keys ≡ others) where
       abbrev Deeper : ℕ → ℕ → Type 0
       Deeper k j =
-          (n : ℕ) (l : Located) (k2 j2 : ℕ) → Asks t k k2 → Asks u j j2 → HasType derived b t.types n l k2 → HasType derived b u.types n l j2 →
+          (n : ℕ) (l : Located) (k2 j2 : ℕ) → Asks t k k2 → Asks u j j2 → HasType derived named b t.types n l k2 → HasType derived other b u.types n l j2 →
           (bounds : List Bound) (text : List ℕ) → f bounds k2 text ≡ g bounds j2 text
 
       abbrev one_givers : Givers
       one_givers = record { keys = keys; types = f }
 
       abbrev other_givers : Givers
-      other_givers = record { keys = other; types = g }
+      other_givers = record { keys = others; types = g }
 
-      members_agree : (n : ℕ) (ls : List Located) (ks js : List ℕ) → Typed derived b t n ls ks → Typed derived b u n ls js → (k j : ℕ) → Deeper k j →
+      members_agree : (n : ℕ) (ls : List Located) (ks js : List ℕ) → Typed derived named b t n ls ks → Typed derived other b u n ls js → (k j : ℕ) → Deeper k j →
           ((x : ℕ) → Contains ks x → Asks t k x) → ((x : ℕ) → Contains js x → Asks u j x) → Agree f g ks js
       members_agree n [] _ _ none none k j deeper asks also = tt
       members_agree n (l ∷ ls) _ _ (one_more _ _ x ks m e a p c ms more) (one_more _ _ y js m2 e2 a2 p2 c2 ms2 more2) k j deeper asks also = (
@@ -105,7 +110,7 @@ module _ (derived : List Located → List QName → Type 0) (one_derived : (base
       TakeEntries e d = (bounds : List Bound) (text : List ℕ) → text_in_type t one_givers e bounds text ≡ text_in_type u other_givers d bounds text
 
       union_entries : (n : ℕ) (ms : List Located) (e d : ValueType) (k j : ℕ) → Deeper k j → slice_get t.types k ≡ Some e → slice_get u.types j ≡ Some d →
-          IsIn n (OneOf ms) e → IsIn n (OneOf ms) d → Typed derived b t n ms (numbers_of (OneOf ms) e) → Typed derived b u n ms (numbers_of (OneOf ms) d) → TakeEntries e d
+          IsIn n (OneOf ms) e → IsAlso n (OneOf ms) d → Typed derived named b t n ms (numbers_of (OneOf ms) e) → Typed derived other b u n ms (numbers_of (OneOf ms) d) → TakeEntries e d
       union_entries n ms (Union ks) (Union js) k j deeper at also is is2 h h2 bounds text =
           union_alike f g (module_bounds t) bounds [] [] ks js tt
           (members_agree n ms ks js h h2 k j deeper (λ x c. member k x ks at c) (λ x c. member j x js also c)) text
@@ -113,7 +118,7 @@ module _ (derived : List Located → List QName → Type 0) (one_derived : (base
       union_entries n ms (Union ks) d k j deeper at also is is2 h h2 bounds text = absurd is2
       union_entries n ms e d k j deeper at also is is2 h h2 bounds text = absurd is
 
-      identity_entries : (n : ℕ) (bases : List Located) (e d : ValueType) → IsIn n (DerivedFrom bases) e → IsIn n (DerivedFrom bases) d → TakeEntries e d
+      identity_entries : (n : ℕ) (bases : List Located) (e d : ValueType) → IsIn n (DerivedFrom bases) e → IsAlso n (DerivedFrom bases) d → TakeEntries e d
       identity_entries n bases (Identity xs) (Identity ys) is is2 bounds text =
           alone_alike t u alike one_givers other_givers same (Identity xs) refl bounds text
           ∙ ap (λ zs. text_in_type u other_givers (Identity zs) bounds text) (one_derived bases xs ys is is2)
@@ -129,12 +134,12 @@ module _ (derived : List Located → List QName → Type 0) (one_derived : (base
           by (inl nothing) = ap (option_and_then (λ number. f bounds number text)) nothing.0 ∙ sym (ap (option_and_then (λ number. g bounds number text)) nothing.1)
           by (inr both) =
               ap (option_and_then (λ number. f bounds number text)) both.one_is
-              ∙ deeper to both.l both.one both.other (target k both.one to above need at both.one_is) (target j both.other to above2 need2 also both.other_is)
+              ∙ deeper to both.l both.one both.twin (target k both.one to above need at both.one_is) (target j both.twin to above2 need2 also both.other_is)
               both.one_has both.other_has bounds text
               ∙ sym (ap (option_and_then (λ number. g bounds number text)) both.other_is)
 
       leafref_entries : (n : ℕ) (path : Located) (need : Bool) (e d : ValueType) (k j : ℕ) → Deeper k j → slice_get t.types k ≡ Some e → slice_get u.types j ≡ Some d →
-          IsIn n (Refers path need) e → IsIn n (Refers path need) d → TakeEntries e d
+          IsIn n (Refers path need) e → IsAlso n (Refers path need) d → TakeEntries e d
       leafref_entries n path need (Leafref to above one) (Leafref to2 above2 two) k j deeper at also is is2 bounds text =
           let there : to2 ≡ to = sym (ap (λ o. option_map_or (λ (z : LeafrefEnd). z.target) o 0) (sym is.0 ∙ is2.0)) in
           target_takes to k j above above2 one two deeper at (subst (λ z. slice_get u.types j ≡ Some (Leafref z above2 two)) there also) bounds text
@@ -142,11 +147,20 @@ module _ (derived : List Located → List QName → Type 0) (one_derived : (base
       leafref_entries n path need (Leafref to above one) d k j deeper at also is is2 bounds text = absurd is2
       leafref_entries n path need e d k j deeper at also is is2 bounds text = absurd is
 
-      entries_take : (n : ℕ) (m : Meaning) (e d : ValueType) (k j : ℕ) → IsAlone m → Deeper k j → slice_get t.types k ≡ Some e → slice_get u.types j ≡ Some d →
-          IsIn n m e → IsIn n m d → Typed derived b t n (members_of m) (numbers_of m e) → Typed derived b u n (members_of m) (numbers_of m d) → TakeEntries e d
-      entries_take n (Entry x) e d k j alone deeper at also is is2 h h2 bounds text =
-          ap (λ z. text_in_type t one_givers z bounds text) (sym is) ∙ alone_alike t u alike one_givers other_givers same x alone bounds text
+      entry_take : (x : ValueType) (ps : List Located) (e d : ValueType) → has_others x ≡ false → IsPatterned named x ps e → IsPatterned other x ps d → TakeEntries e d
+      entry_take (String lengths starless blank) ps e d alone is is2 bounds text =
+          ap (λ z. text_in_type t one_givers z bounds text) is.2
+          ∙ strings_alike t u alike one_givers other_givers lengths starless is.0 is2.0 bounds text (agree is.0 is2.0 ps is.1 is2.1 text)
+          ∙ sym (ap (λ z. text_in_type u other_givers z bounds text) is2.2)
+      entry_take (Union members) ps e d alone is is2 bounds text = absurd (cc)
+      entry_take (Leafref to above need) ps e d alone is is2 bounds text = absurd (cc)
+      entry_take x ps e d alone is is2 bounds text =
+          ap (λ z. text_in_type t one_givers z bounds text) (sym is) ∙ alone_alike t u alike one_givers other_givers same x refl bounds text
           ∙ ap (λ z. text_in_type u other_givers z bounds text) is2
+
+      entries_take : (n : ℕ) (m : Meaning) (e d : ValueType) (k j : ℕ) → IsAlone m → Deeper k j → slice_get t.types k ≡ Some e → slice_get u.types j ≡ Some d →
+          IsIn n m e → IsAlso n m d → Typed derived named b t n (members_of m) (numbers_of m e) → Typed derived other b u n (members_of m) (numbers_of m d) → TakeEntries e d
+      entries_take n (Entry x ps) e d k j alone deeper at also is is2 h h2 bounds text = entry_take x ps e d alone is is2 bounds text
       entries_take n (OneOf ms) e d k j alone deeper at also is is2 h h2 bounds text = union_entries n ms e d k j deeper at also is is2 h h2 bounds text
       entries_take n (DerivedFrom bases) e d k j alone deeper at also is is2 h h2 bounds text = identity_entries n bases e d is is2 bounds text
       entries_take n (Refers path need) e d k j alone deeper at also is is2 h h2 bounds text = leafref_entries n path need e d k j deeper at also is is2 bounds text
@@ -157,71 +171,70 @@ module _ (derived : List Located → List QName → Type 0) (one_derived : (base
       abbrev in_other : List Bound → List ℕ → Option ValueType → Option (List ℕ)
       in_other bounds text o = option_and_then (λ (type : ValueType). text_in_type u other_givers type bounds text) o
 
-      pub numbers_take : (n : ℕ) (l : Located) (k j : ℕ) → HasType derived b t.types n l k → HasType derived b u.types n l j → Deeper k j → (bounds : List Bound) (text : List ℕ) →
+      pub numbers_take : (n : ℕ) (l : Located) (k j : ℕ) → HasType derived named b t.types n l k → HasType derived other b u.types n l j → Deeper k j → (bounds : List Bound) (text : List ℕ) →
           in_one bounds text (slice_get t.types k) ≡ in_other bounds text (slice_get u.types j)
       numbers_take n l k j has has2 deeper bounds text =
-          let a = head derived b t n l k has in
-          let c = head derived b u n l j has2 in
+          let a = head derived named b t n l k has in
+          let c = head derived other b u n l j has2 in
           let one : c.m ≡ a.m = means_one b.on b.scoping.texts l c.m a.m c.means_it a.means_it in
           ap (in_one bounds text) a.at
           ∙ entries_take n a.m a.entry c.entry k j (means_alone b.on b.scoping.texts l a.m a.means_it) deeper a.at c.at a.is_it
-          (subst (λ z. IsIn n z c.entry) one c.is_it) a.members (subst (λ z. Typed derived b u n (members_of z) (numbers_of z c.entry)) one c.members) bounds text
+          (subst (λ z. IsAlso n z c.entry) one c.is_it) a.members (subst (λ z. Typed derived other b u n (members_of z) (numbers_of z c.entry)) one c.members) bounds text
           ∙ sym (ap (in_other bounds text) c.at)
 
-    within : (z : Tables) (n : ℕ) (l : Located) (k : ℕ) → HasType derived b z.types n l k → k < length z.types
-    within z n l k has = let a = head derived b z n l k has in slice_get_within z.types k a.entry a.at
+    within : (n : ℕ) (l : Located) (k : ℕ) → HasType derived named b t.types n l k → k < length t.types
+    within n l k has = let a = head derived named b t n l k has in slice_get_within t.types k a.entry a.at
+
+    also_within : (n : ℕ) (l : Located) (j : ℕ) → HasType derived other b u.types n l j → j < length u.types
+    also_within n l j has = let a = head derived other b u n l j has in slice_get_within u.types j a.entry a.at
 
     -- types of one `type` statement at one data node take texts alike
-    types_take : (k : ℕ) → Ends t k → (keys other : List Bound → Gives) → keys ≡ other → (n : ℕ) (l : Located) (j : ℕ) → Ends u j →
-        HasType derived b t.types n l k → HasType derived b u.types n l j → (most more : ℕ) (chain also : List ℕ) → Clear t chain most k → Clear u also more j →
-        (bounds : List Bound) (text : List ℕ) → type_text t keys most chain bounds k text ≡ type_text u other more also bounds j text
-    types_take _ (ends k each) keys other same n l j over has has2 zero more chain also clear clear2 bounds text =
-        absurd (one_is_left t chain k (ends k each) clear (within t n l k has))
-    types_take _ (ends k each) keys other same n l j over has has2 (suc most) zero chain also clear clear2 bounds text =
-        absurd (one_is_left u also j over clear2 (within u n l j has2))
-    types_take _ (ends k each) keys other same n l j over has has2 (suc most) (suc more) chain also clear clear2 bounds text =
+    types_take : (k : ℕ) → Ends t k → (keys others : List Bound → Gives) → keys ≡ others → (n : ℕ) (l : Located) (j : ℕ) → Ends u j →
+        HasType derived named b t.types n l k → HasType derived other b u.types n l j → (most more : ℕ) (chain also : List ℕ) → Clear t chain most k → Clear u also more j →
+        (bounds : List Bound) (text : List ℕ) → type_text t keys most chain bounds k text ≡ type_text u others more also bounds j text
+    types_take _ (ends k each) keys others same n l j over has has2 zero more chain also clear clear2 bounds text =
+        absurd (one_is_left t chain k (ends k each) clear (within n l k has))
+    types_take _ (ends k each) keys others same n l j over has has2 (suc most) zero chain also clear clear2 bounds text =
+        absurd (one_is_left u also j over clear2 (also_within n l j has2))
+    types_take _ (ends k each) keys others same n l j over has has2 (suc most) (suc more) chain also clear clear2 bounds text =
         asked_is t chain k (ends k each) keys most bounds text clear
-        ∙ numbers_take (type_text t keys most (k ∷ chain)) (type_text u other more (j ∷ also)) keys other same n l k j has has2
-        (λ n2 l2 k2 j2 asks asks2 h h2. types_take k2 (each k2 asks) keys other same n2 l2 j2 (further u j j2 over asks2) h h2 most more (k ∷ chain) (j ∷ also)
-        (next_clear t chain k (ends k each) most clear (within t n l k has) k2 asks) (next_clear u also j over more clear2 (within u n l j has2) j2 asks2))
+        ∙ numbers_take (type_text t keys most (k ∷ chain)) (type_text u others more (j ∷ also)) keys others same n l k j has has2
+        (λ n2 l2 k2 j2 asks asks2 h h2. types_take k2 (each k2 asks) keys others same n2 l2 j2 (further u j j2 over asks2) h h2 most more (k ∷ chain) (j ∷ also)
+        (next_clear t chain k (ends k each) most clear (within n l k has) k2 asks) (next_clear u also j over more clear2 (also_within n l j has2) j2 asks2))
         bounds text
-        ∙ sym (asked_is u also j over other more bounds text clear2)
+        ∙ sym (asked_is u also j over others more bounds text clear2)
 
     module _ (one_ends : (n k : ℕ) → kind_at t n ≡ Some k → Ends t k) (other_ends : (n k : ℕ) → kind_at u n ≡ Some k → Ends u k) where
-      pub nodes_take : (keys other : List Bound → Gives) → keys ≡ other → (n : ℕ) (bounds : List Bound) (text : List ℕ) →
+      pub nodes_take : (keys others : List Bound → Gives) → keys ≡ others → (n : ℕ) (bounds : List Bound) (text : List ℕ) →
           option_and_then (λ type. type_text t keys (length t.types) [] bounds type text) (kind_at t n)
-          ≡ option_and_then (λ type. type_text u other (length u.types) [] bounds type text) (kind_at u n)
-      nodes_take keys other same n bounds text = by (kinds n)
+          ≡ option_and_then (λ type. type_text u others (length u.types) [] bounds type text) (kind_at u n)
+      nodes_take keys others same n bounds text = by (kinds n)
         where
           by : Kinds n → option_and_then (λ type. type_text t keys (length t.types) [] bounds type text) (kind_at t n)
-              ≡ option_and_then (λ type. type_text u other (length u.types) [] bounds type text) (kind_at u n)
+              ≡ option_and_then (λ type. type_text u others (length u.types) [] bounds type text) (kind_at u n)
           by (inl nothing) =
               ap (option_and_then (λ type. type_text t keys (length t.types) [] bounds type text)) nothing.0
-              ∙ sym (ap (option_and_then (λ type. type_text u other (length u.types) [] bounds type text)) nothing.1)
+              ∙ sym (ap (option_and_then (λ type. type_text u others (length u.types) [] bounds type text)) nothing.1)
           by (inr both) =
               ap (option_and_then (λ type. type_text t keys (length t.types) [] bounds type text)) both.one_is
-              ∙ types_take both.one (one_ends n both.one both.one_is) keys other same n both.l both.other (other_ends n both.other both.other_is) both.one_has both.other_has
-              (length t.types) (length u.types) [] [] (clear_at_start t both.one) (clear_at_start u both.other) bounds text
-              ∙ sym (ap (option_and_then (λ type. type_text u other (length u.types) [] bounds type text)) both.other_is)
+              ∙ types_take both.one (one_ends n both.one both.one_is) keys others same n both.l both.twin (other_ends n both.twin both.other_is) both.one_has both.other_has
+              (length t.types) (length u.types) [] [] (clear_at_start t both.one) (clear_at_start u both.twin) bounds text
+              ∙ sym (ap (option_and_then (λ type. type_text u others (length u.types) [] bounds type text)) both.other_is)
 
     -- ---- integer types
-    union_whole : (n : ℕ) (ms : List Located) (e : ValueType) → IsIn n (OneOf ms) e → is_whole e ≡ false
-    union_whole n ms (Union ks) is = refl
-    union_whole n ms e is = absurd is
+    entry_whole : (x : ValueType) (ps : List Located) (e d : ValueType) → IsPatterned named x ps e → IsPatterned other x ps d → is_whole e ≡ is_whole d
+    entry_whole (String lengths starless blank) ps e d is is2 = ap is_whole is.2 ∙ sym (ap is_whole is2.2)
+    entry_whole x ps e d is is2 = ap is_whole (sym is ∙ is2)
 
-    identity_whole : (n : ℕ) (bases : List Located) (e : ValueType) → IsIn n (DerivedFrom bases) e → is_whole e ≡ false
-    identity_whole n bases (Identity xs) is = refl
-    identity_whole n bases e is = absurd is
-
-    leafref_whole : (n : ℕ) (path : Located) (need : Bool) (e : ValueType) → IsIn n (Refers path need) e → is_whole e ≡ false
-    leafref_whole n path need (Leafref to above one) is = refl
-    leafref_whole n path need e is = absurd is
-
-    entries_whole : (n : ℕ) (m : Meaning) (e d : ValueType) → IsIn n m e → IsIn n m d → is_whole e ≡ is_whole d
-    entries_whole n (Entry x) e d is is2 = ap is_whole (sym is ∙ is2)
-    entries_whole n (OneOf ms) e d is is2 = union_whole n ms e is ∙ sym (union_whole n ms d is2)
-    entries_whole n (DerivedFrom bases) e d is is2 = identity_whole n bases e is ∙ sym (identity_whole n bases d is2)
-    entries_whole n (Refers path need) e d is is2 = leafref_whole n path need e is ∙ sym (leafref_whole n path need d is2)
+    entries_whole : (n : ℕ) (m : Meaning) (e d : ValueType) → IsIn n m e → IsAlso n m d → is_whole e ≡ is_whole d
+    entries_whole n (Entry x ps) e d is is2 = entry_whole x ps e d is is2
+    entries_whole n (OneOf ms) (Union ks) (Union js) is is2 = refl
+    entries_whole n (OneOf ms) (Union ks) d is is2 = absurd is2
+    entries_whole n (DerivedFrom bases) (Identity xs) (Identity ys) is is2 = refl
+    entries_whole n (DerivedFrom bases) (Identity xs) d is is2 = absurd is2
+    entries_whole n (Refers path need) (Leafref to above one) (Leafref to2 above2 two) is is2 = refl
+    entries_whole n (Refers path need) (Leafref to above one) d is is2 = absurd is2
+    entries_whole n m e d is is2 = absurd is
 
     pub whole_alike : (n : ℕ) → has_whole t n ≡ has_whole u n
     whole_alike n = by (kinds n)
@@ -231,11 +244,11 @@ module _ (derived : List Located → List QName → Type 0) (one_derived : (base
             ap (λ o. option_map_or is_whole (option_and_then (slice_get t.types) o) false) nothing.0
             ∙ sym (ap (λ o. option_map_or is_whole (option_and_then (slice_get u.types) o) false) nothing.1)
         by (inr both) =
-            let a = head derived b t n both.l both.one both.one_has in
-            let c = head derived b u n both.l both.other both.other_has in
+            let a = head derived named b t n both.l both.one both.one_has in
+            let c = head derived other b u n both.l both.twin both.other_has in
             let one : c.m ≡ a.m = means_one b.on b.scoping.texts both.l c.m a.m c.means_it a.means_it in
             ap (λ o. option_map_or is_whole (option_and_then (slice_get t.types) o) false) both.one_is
             ∙ ap (λ o. option_map_or is_whole o false) a.at
-            ∙ entries_whole n a.m a.entry c.entry a.is_it (subst (λ z. IsIn n z c.entry) one c.is_it)
+            ∙ entries_whole n a.m a.entry c.entry a.is_it (subst (λ z. IsAlso n z c.entry) one c.is_it)
             ∙ sym (ap (λ o. option_map_or is_whole o false) c.at)
             ∙ sym (ap (λ o. option_map_or is_whole (option_and_then (slice_get u.types) o) false) both.other_is)

@@ -9,6 +9,7 @@ use Rattle.nc_schema.specs.Values.{IsCanonical, canonical}
 use Rattle.nc_schema.specs.declared.node.Node.{Node}
 use Rattle.nc_yang_words.specs.declared.statement.Statement.{Statement}
 use Rattle.nc_yang_statements.specs.declared.fault.Fault.{Fault}
+use Rattle.nc_yang_statements.specs.declared.fault.ModuleWhy.TheVariants.{PatternRefused}
 use Rattle.nc_yang_statements.specs.declared.keyword.Keyword.{Keyword}
 use Rattle.nc_yang_statements.specs.declared.keyword.Keyword.TheVariants.{Leaf, LeafList, TypeName}
 use Rattle.nc_yang_statements.specs.Keywords.{is_same_keyword}
@@ -84,6 +85,12 @@ abbrev pub NeverBoth : Type 0
 NeverBoth =
     (modules : List ModuleText) (lines : List (List ℕ)) (tables : Tables) (file : ℕ) (fault : Fault)
     → Defines modules lines tables → Breaks modules lines file fault → ⊥
+
+-- a broken rule never has the reason that a maker refused a pattern
+abbrev pub RulesRefuseNothing : Type 0
+RulesRefuseNothing =
+    (modules : List ModuleText) (lines : List (List ℕ)) (file : ℕ) (fault : Fault)
+    → Breaks modules lines file fault → fault.why ≡ PatternRefused → ⊥
 
 -- a data node without the number of its type
 abbrev pub without_type : Node → Node

@@ -1,5 +1,5 @@
 -- The schema that modules define, or the rules that they break (RFC 7950 5 to 9).
-use Rattle.std.specs.Prelude.{◌≡◌, ℕ, List, [], map, Contains}
+use Rattle.std.specs.Prelude.{◌≡◌, ℕ, List, [], map, Contains, ◌⊎◌}
 use Rattle.nc_names.specs.declared.name.QName.{QName}
 use Rattle.nc_schema.specs.Tables.{Tables}
 use Rattle.nc_yang_words.specs.declared.statement.Statement.{Statement}
@@ -22,9 +22,10 @@ use Rattle.nc_yang_meanings.specs.Faults.{BreaksTypes, KeepsTypes}
 use Rattle.nc_yang_leafs.specs.Bases.{Basis, basis_on}
 use Rattle.nc_yang_leafs.specs.Conditions.{holds}
 use Rattle.nc_yang_leafs.specs.Faults.{BreaksLeafref}
+use Rattle.nc_yang_leafs.specs.Patterns.{IsRefused, Refusals, without_patterns}
 use Rattle.nc_yang_leafs.specs.Typings.{IsTyped}
 use Rattle.nc_yang_circles.specs.Circles.{BreaksCircle, HasNoCircle}
-use Rattle.nc_yang_defaults.specs.Defaults.{BreaksDefault, HasDefaults}
+use Rattle.nc_yang_defaults.specs.Defaults.{BreaksDefault, HasDefaults, KeepsDefaults}
 use Rattle.nc_yang.specs.Features.{is_given}
 
 -- texts whose statements keep all rules that need no data node, the numbers of these statements, and the features that
@@ -48,16 +49,22 @@ AreNames scoping on bases names =
 abbrev pub basis : Scoping → FeatureTest → Plan → Basis
 basis scoping on plan = basis_on (holds scoping.texts on) scoping plan (data_tables scoping on plan)
 
--- the schema of a plan of data nodes, which keep their rules: leafs and leaf-lists have their types, and then their defaults
-pub record IsSchemaOf (scoping : Scoping) (on : FeatureTest) (plan : Plan) (tables : Tables) : Type 0 where
+-- the schema of a plan of data nodes with its types, where these keep all rules in which no pattern is asked
+pub record IsTypedOf (scoping : Scoping) (on : FeatureTest) (plan : Plan) (typed : Tables) : Type 0 where
   pub keeps : data_faults scoping on plan ≡ []
   pub straight : HasNoCircle (basis scoping on plan)
-  pub typed : Tables
   pub types : IsTyped (AreNames scoping on) (basis scoping on plan) typed
+  pub defaults : KeepsDefaults scoping plan (without_patterns typed)
+
+-- the schema of a plan of data nodes, which keep their rules: leafs and leaf-lists have their types, and then their defaults
+pub record IsSchemaOf (scoping : Scoping) (on : FeatureTest) (plan : Plan) (tables : Tables) : Type 0 where
+  pub typed : Tables
+  pub is : IsTypedOf scoping on plan typed
   pub defaults : HasDefaults scoping plan typed tables
 
 -- data nodes of a plan break a rule: one on a data node or choice in its place; a leafref leads in a circle; the path of
--- a leafref leads nowhere; a default suits no type. A rule on what others define is asked where these keep theirs
+-- a leafref leads nowhere; a default suits no type, whatever its patterns, or only by these. A rule on what others define
+-- is asked where these keep theirs
 pub data BreaksPlan (scoping : Scoping) (on : FeatureTest) (plan : Plan) : TextFault → Type 0 where
   in_place : (found : TextFault) → Contains (data_faults scoping on plan) found → BreaksPlan scoping on plan found
   circle : (found : TextFault) → data_faults scoping on plan ≡ [] → BreaksCircle (basis scoping on plan) found
@@ -65,8 +72,16 @@ pub data BreaksPlan (scoping : Scoping) (on : FeatureTest) (plan : Plan) : TextF
   leafref : (found : TextFault) → data_faults scoping on plan ≡ [] → BreaksLeafref (basis scoping on plan) found
       → BreaksPlan scoping on plan found
   default : (found : TextFault) (typed : Tables) → data_faults scoping on plan ≡ [] → HasNoCircle (basis scoping on plan)
-      → IsTyped (AreNames scoping on) (basis scoping on plan) typed → BreaksDefault scoping plan typed found
-      → BreaksPlan scoping on plan found
+      → IsTyped (AreNames scoping on) (basis scoping on plan) typed
+      → BreaksDefault scoping plan (without_patterns typed) found → BreaksPlan scoping on plan found
+  by_pattern : (found : TextFault) (typed : Tables) → IsTypedOf scoping on plan typed
+      → BreaksDefault scoping plan typed found → BreaksPlan scoping on plan found
+
+-- a maker refused a pattern in use where all rules are kept in which no pattern is asked
+pub record RefusesPlan (scoping : Scoping) (on : FeatureTest) (plan : Plan) (refusals : Refusals) (found : TextFault) : Type 0 where
+  pub typed : Tables
+  pub is : IsTypedOf scoping on plan typed
+  pub refused : IsRefused (basis scoping on plan) refusals found
 
 -- texts whose types keep their rules and whose data nodes keep the limits give this schema
 pub record GivesSchema (scoping : Scoping) (on : FeatureTest) (tables : Tables) : Type 0 where
@@ -83,6 +98,13 @@ pub data BreaksSchema (scoping : Scoping) (on : FeatureTest) : TextFault → Typ
   in_plan : (plan : Plan) (found : TextFault) → KeepsTypes (holds scoping.texts on) scoping.texts
       → IsPlan scoping on plan → BreaksPlan scoping on plan found → BreaksSchema scoping on found
 
+-- or a maker refused a pattern of them
+pub record RefusesSchema (scoping : Scoping) (on : FeatureTest) (refusals : Refusals) (found : TextFault) : Type 0 where
+  pub types : KeepsTypes (holds scoping.texts on) scoping.texts
+  pub plan : Plan
+  pub planned : IsPlan scoping on plan
+  pub refuses : RefusesPlan scoping on plan refusals found
+
 -- the schema that modules define, with the features that lines name
 pub record Defines (modules : List ModuleText) (lines : List (List ℕ)) (tables : Tables) : Type 0 where
   pub scoping : Scoping
@@ -98,3 +120,15 @@ pub data Breaks (modules : List ModuleText) (lines : List (List ℕ)) : ℕ → 
       → Breaks modules lines found.text found.fault
   in_schema : (scoping : Scoping) (on : FeatureTest) (found : TextFault) → IsBegun modules lines scoping on
       → BreaksSchema scoping on found → Breaks modules lines found.text found.fault
+
+-- a maker refused a pattern that modules use, and these keep all rules in which no pattern is asked
+pub record Refuses (modules : List ModuleText) (lines : List (List ℕ)) (refusals : Refusals) (found : TextFault) : Type 0 where
+  pub scoping : Scoping
+  pub on : FeatureTest
+  pub begun : IsBegun modules lines scoping on
+  pub refuses : RefusesSchema scoping on refusals found
+
+-- why modules give no schema: a file breaks a rule, or a maker refused a pattern in it
+abbrev pub GivesNone : List ModuleText → List (List ℕ) → Refusals → ℕ → Fault → Type 0
+GivesNone modules lines refusals file fault =
+    Breaks modules lines file fault ⊎ Refuses modules lines refusals (record { text = file; fault = fault })

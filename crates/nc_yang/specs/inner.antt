@@ -1,3 +1,4 @@
 pub mod Conditions
 pub mod Names
 pub mod Stops
+pub mod Finishing

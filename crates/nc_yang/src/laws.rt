@@ -1,6 +1,6 @@
 //! Laws: what follows of the definitions that the contracts cite.
 ghost use Rattle.nc_yang.specs.Laws.{DataTypesMean, DefaultsAreCanonical, ModulesAreProper, NeverBoth, OneSchema};
-ghost use Rattle.nc_yang.specs.Laws.{PlannedTypesMean, SchemasAreProper, TypesMean};
+ghost use Rattle.nc_yang.specs.Laws.{PlannedTypesMean, RulesRefuseNothing, SchemasAreProper, TypesMean};
 
 /// In modules that keep all rules each `type` statement that is looked at means something, and so does each
 /// member of a union, down to the last (RFC 7950 7.3, 7.4, 9.12).
@@ -40,6 +40,11 @@ pub fn defaults_are_canonical()
 /// Modules that break a rule have no schema.
 pub fn never_both()
     ensures { NeverBoth }
+{}
+
+/// A broken rule never has the reason PatternRefused, so this comes only where a maker refused a pattern.
+pub fn rules_refuse_nothing()
+    ensures { RulesRefuseNothing }
 {}
 
 /// Modules have one schema with the features that lines name: the same modules, choices, data nodes, defaults

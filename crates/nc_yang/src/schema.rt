@@ -1,29 +1,31 @@
 //! The schema of planned data nodes.
 ghost use Rattle.std.specs.Prelude.{◌≡◌, [], map, MatchResult};
+ghost use Rattle.std.specs.List.{All};
 ghost use Rattle.nc_yang_nodes.specs.FeaturesOn.{is_on};
 ghost use Rattle.nc_yang_nodes.specs.Plans.{IsPlan};
 ghost use Rattle.nc_yang_data.specs.Data.{data_faults, data_tables};
-ghost use Rattle.nc_yang_defaults.specs.Defaults.{BreaksDefault, HasDefaults};
 ghost use Rattle.nc_yang_defaults.specs.Typed.{IsTyped as IsReady};
 ghost use Rattle.nc_yang_circles.specs.Circles.{BreaksCircle, HasNoCircle};
 ghost use Rattle.nc_yang_leafs.specs.Bases.{AllMeanWhole};
 ghost use Rattle.nc_yang_scopes.specs.Prefixes.{ArePrefixes, namespace_in};
 ghost use Rattle.nc_yang_leafs.specs.Conditions.{holds};
 ghost use Rattle.nc_yang_leafs.specs.Faults.{BreaksLeafref};
-ghost use Rattle.nc_yang_leafs.specs.Typings.{IsTyped};
+ghost use Rattle.nc_yang_leafs.specs.Patterns.{AreTypings, IsReadable, refusing};
 ghost use Rattle.nc_yang_meanings.specs.Faults.{KeepsTypes};
 ghost use Rattle.nc_yang_meanings.specs.Plans.{AreMeanings};
 ghost use Rattle.nc_yang_texts.specs.Rules.{KeepsTexts};
 ghost use Rattle.nc_yang_statements.specs.Stops.{OnBroken};
 ghost use Rattle.nc_yang.specs.Schemas as schemas;
+ghost use Rattle.nc_yang.specs.inner.Finishing.{Ends, Finishes, GivesNoSchema};
 
 use crate::names::{Derived, Names};
 use nc_names::{Bound, Many, Text};
+use nc_patterns::Maker;
 use nc_schema::Schema;
 use nc_yang_circles::first_circle;
 use nc_yang_data::{all_prefixes, data_nodes, namespaces};
-use nc_yang_defaults::with_defaults;
-use nc_yang_leafs::typed;
+use nc_yang_defaults::{keep_defaults, with_defaults};
+use nc_yang_leafs::{Typed, typed, with_patterns};
 use nc_yang_meanings::{Meanings, defaults_of};
 use nc_yang_nodes::{Features, Plan};
 use nc_yang_scopes::{Scopes, TextFault};
@@ -53,7 +55,7 @@ fn keep_straight<'a>(
     }
 }
 
-// The schema of a plan with the types of leafs and leaf-lists and without their defaults.
+// The schema of a plan with the types of leafs and leaf-lists, without their patterns and defaults.
 fn with_types<'a>(
     alloc: Global,
     scopes: &Scopes<'a>,
@@ -63,14 +65,14 @@ fn with_types<'a>(
     spaces: &[Text],
     prefixes: &[Many<Bound>],
     untyped: Schema,
-) -> Result<Schema, Stop<TextFault>>
+) -> Result<Typed, Stop<TextFault>>
     requires meanings { AreMeanings (holds scopes.now.texts (is_on features.now)) scopes.now meanings.now }
     requires untyped { untyped ≡ data_tables scopes.now (is_on features.now) plan.now }
     requires whole { AllMeanWhole (schemas.basis scopes.now (is_on features.now) plan.now) }
     requires spaces { spaces.now ≡ map namespace_in scopes.now.texts }
     requires prefixes { ArePrefixes scopes.now.texts prefixes.now }
     ensures { MatchResult result
-        (IsTyped (schemas.AreNames scopes.now (is_on features.now)) (schemas.basis scopes.now (is_on features.now) plan.now))
+        (AreTypings (schemas.AreNames scopes.now (is_on features.now)) (schemas.basis scopes.now (is_on features.now) plan.now))
         (OnBroken (BreaksLeafref (schemas.basis scopes.now (is_on features.now) plan.now))) }
 {
     let names = Names::of(alloc, scopes, spaces)?;
@@ -83,24 +85,31 @@ fn with_types<'a>(
     )
 }
 
-// The schema with the defaults of leafs and leaf-lists.
-fn finished(
+// The schema with the patterns of its types and the defaults of leafs and leaf-lists. These are looked at without
+// the patterns before they are with them.
+fn finished<M: Maker>(
     alloc: Global,
     scopes: &Scopes,
     plan: &Plan,
     prefixes: &[Many<Bound>],
-    typed: Schema,
+    maker: &mut M,
+    typed: Typed,
 ) -> Result<Schema, Stop<TextFault>>
     requires prefixes { ArePrefixes scopes.now.texts prefixes.now }
-    requires ready { IsReady scopes.now plan.now typed }
-    ensures { MatchResult result (HasDefaults scopes.now plan.now typed) (OnBroken (BreaksDefault scopes.now plan.now typed)) }
+    requires ready { IsReady scopes.now plan.now typed.schema }
+    requires readable { All (All (IsReadable scopes.now.located)) typed.patterns }
+    ensures { MatchResult result (Finishes scopes.now plan.now typed) (OnBroken (Ends scopes.now plan.now typed
+        (refusing (M.refusals maker.old) (M.refusals maker.new) (M.last_refused maker.new)))) }
 {
     let defaults = defaults_of(alloc, scopes)?;
-    with_defaults(alloc, scopes, plan, defaults.as_slice(), prefixes, typed)
+    let defaults = defaults.as_slice();
+    keep_defaults(alloc, scopes, plan, defaults, prefixes, &typed.schema)?;
+    let schema = with_patterns(alloc, scopes, maker, typed)?;
+    with_defaults(alloc, scopes, plan, defaults, prefixes, schema)
 }
 
 // The schema of a plan whose data nodes keep the rules in their places.
-fn filled<'a>(
+fn filled<'a, M: Maker>(
     alloc: Global,
     scopes: &Scopes<'a>,
     features: &Features<'a>,
@@ -108,6 +117,7 @@ fn filled<'a>(
     plan: &Plan,
     spaces: &[Text],
     prefixes: &[Many<Bound>],
+    maker: &mut M,
     untyped: Schema,
 ) -> Result<Schema, Stop<TextFault>>
     requires meanings { AreMeanings (holds scopes.now.texts (is_on features.now)) scopes.now meanings.now }
@@ -118,29 +128,32 @@ fn filled<'a>(
     requires spaces { spaces.now ≡ map namespace_in scopes.now.texts }
     requires prefixes { ArePrefixes scopes.now.texts prefixes.now }
     ensures { MatchResult result (schemas.IsSchemaOf scopes.now (is_on features.now) plan.now)
-        (OnBroken (schemas.BreaksPlan scopes.now (is_on features.now) plan.now)) }
+        (OnBroken (GivesNoSchema scopes.now (is_on features.now) plan.now
+        (refusing (M.refusals maker.old) (M.refusals maker.new) (M.last_refused maker.new)))) }
 {
     keep_straight(alloc, scopes, features, meanings, plan, prefixes, &untyped)?;
     let typed = with_types(
         alloc, scopes, features, meanings, plan, spaces, prefixes, untyped,
     )?;
-    finished(alloc, scopes, plan, prefixes, typed)
+    finished(alloc, scopes, plan, prefixes, maker, typed)
 }
 
 /// The schema of a plan.
-pub(crate) fn schema_of<'a>(
+pub(crate) fn schema_of<'a, M: Maker>(
     alloc: Global,
     scopes: &Scopes<'a>,
     features: &Features<'a>,
     meanings: &Meanings,
     plan: &Plan,
+    maker: &mut M,
 ) -> Result<Schema, Stop<TextFault>>
     requires meanings { AreMeanings (holds scopes.now.texts (is_on features.now)) scopes.now meanings.now }
     requires texts { KeepsTexts scopes.now.texts }
     requires types { KeepsTypes (holds scopes.now.texts (is_on features.now)) scopes.now.texts }
     requires plan { IsPlan scopes.now (is_on features.now) plan.now }
     ensures { MatchResult result (schemas.IsSchemaOf scopes.now (is_on features.now) plan.now)
-        (OnBroken (schemas.BreaksPlan scopes.now (is_on features.now) plan.now)) }
+        (OnBroken (GivesNoSchema scopes.now (is_on features.now) plan.now
+        (refusing (M.refusals maker.old) (M.refusals maker.new) (M.last_refused maker.new)))) }
 {
     let untyped = data_nodes(alloc, scopes, features, plan)?;
     let spaces = namespaces(alloc, scopes)?;
@@ -153,6 +166,7 @@ pub(crate) fn schema_of<'a>(
         plan,
         spaces.as_slice(),
         prefixes.as_slice(),
+        maker,
         untyped,
     )
 }

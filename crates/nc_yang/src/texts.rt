@@ -1,21 +1,26 @@
 //! The schema of module texts.
-ghost use Rattle.std.specs.Prelude.{◌≡◌, List, IfOk, MatchResult};
+ghost use Rattle.std.specs.Prelude.{◌≡◌, List, IfErr, IfOk, MatchResult};
+ghost use Rattle.nc_patterns.specs.Makers.{Rose};
 ghost use Rattle.nc_schema.specs.Proper.{IsProperSchema};
+ghost use Rattle.nc_yang_leafs.specs.Patterns.{refusing};
 ghost use Rattle.nc_yang_nodes.specs.FeaturesOn.{is_on};
 ghost use Rattle.nc_yang_nodes.specs.Supported.{AreOn};
 ghost use Rattle.nc_yang_statements.specs.Stops.{OnBroken};
+ghost use Rattle.nc_yang_statements.specs.declared.fault.ModuleWhy.TheVariants.{PatternRefused};
 ghost use Rattle.nc_yang_texts.specs.Rules.{BreaksText, KeepsTexts};
 ghost use Rattle.nc_yang_texts.specs.Texts.{AreRead, OnModule};
 ghost use Rattle.nc_yang_texts.specs.declared.text.ModuleText.{ModuleText as TheModuleText};
 ghost use Rattle.nc_yang.specs.Features.{is_given};
 ghost use Rattle.nc_yang.specs.Laws.{HasCanonicalDefaults};
 ghost use Rattle.nc_yang.specs.Schemas as schemas;
+ghost use Rattle.nc_yang.specs.inner.Finishing.{GivesNothing};
 ghost use Rattle.nc_yang.specs.inner.Stops.{IsInFile};
 
 use crate::features::given;
 use crate::schema::schema_of;
 use crate::supported::Supported;
 use nc_names::{Memory, Text};
+use nc_patterns::Maker;
 use nc_schema::Schema;
 use nc_yang_meanings::meanings_of;
 use nc_yang_nodes::{Features, features_on, plan_of};
@@ -53,35 +58,40 @@ fn features_of<'a>(
 }
 
 // The schema of texts that keep the rules which need no data node and no type.
-fn compiled<'a>(
+fn compiled<'a, M: Maker>(
     alloc: Global,
     scopes: &Scopes<'a>,
     features: &Features<'a>,
+    maker: &mut M,
 ) -> Result<Schema, Stop<TextFault>>
     requires { KeepsTexts scopes.now.texts }
     ensures { MatchResult result (schemas.GivesSchema scopes.now (is_on features.now))
-        (OnBroken (schemas.BreaksSchema scopes.now (is_on features.now))) }
+        (OnBroken (GivesNothing scopes.now (is_on features.now)
+        (refusing (M.refusals maker.old) (M.refusals maker.new) (M.last_refused maker.new)))) }
 {
     let supported = Supported { scopes, features };
     let meanings = meanings_of(alloc, scopes, &supported)?;
     let plan = plan_of(alloc, scopes, features)?;
-    schema_of(alloc, scopes, features, &meanings, &plan)
+    schema_of(alloc, scopes, features, &meanings, &plan, maker)
 }
 
 // The schema of modules by their statements.
-fn of_roots<'a>(
+fn of_roots<'a, M: Maker>(
     alloc: Global,
     roots: &'a [Statement],
     lines: &'a [Text],
+    maker: &mut M,
 ) -> Result<Schema, Stop<TextFault>>
     ensures { (modules : List TheModuleText) → AreRead modules roots.now → MatchResult result
         (schemas.Defines modules lines.now)
-        (OnBroken (λ found. schemas.Breaks modules lines.now found.text found.fault)) }
+        (OnBroken (λ found. schemas.GivesNone modules lines.now
+        (refusing (M.refusals maker.old) (M.refusals maker.new) (M.last_refused maker.new))
+        found.text found.fault)) }
 {
     let scopes = Scopes::of(alloc, roots)?;
     keep_texts(alloc, roots, &scopes)?;
     let features = features_of(alloc, &scopes, lines)?;
-    compiled(alloc, &scopes, &features)
+    compiled(alloc, &scopes, &features, maker)
 }
 
 // As a fault of a file.
@@ -103,29 +113,43 @@ fn in_file(stop: Stop<TextFault>) -> CompileFault
 }
 
 // The schema of modules, or a fault of one of their files.
-fn of_modules(alloc: Global, modules: &[ModuleText], lines: &[Text]) -> Result<Schema, CompileFault>
-    ensures { MatchResult result (schemas.Defines modules.now lines.now) (OnModule (schemas.Breaks modules.now lines.now)) }
+fn of_modules<M: Maker>(
+    alloc: Global,
+    modules: &[ModuleText],
+    lines: &[Text],
+    maker: &mut M,
+) -> Result<Schema, CompileFault>
+    ensures { MatchResult result (schemas.Defines modules.now lines.now)
+        (OnModule (schemas.GivesNone modules.now lines.now
+        (refusing (M.refusals maker.old) (M.refusals maker.new) (M.last_refused maker.new)))) }
 {
     let roots = read_texts(alloc, modules)?;
-    match of_roots(alloc, roots.as_slice(), lines) {
+    match of_roots(alloc, roots.as_slice(), lines, maker) {
         Ok(schema) => Ok(schema),
         Err(stop) => Err(in_file(stop)),
     }
 }
 
-/// The schema that modules define (RFC 7950), with those features on which lines name, each `module:feature`: its data
-/// nodes and choices in document order, module after module, with groupings in place, their types and defaults; or a
-/// rule that is broken, or a limit that is passed, at its file and line. A line that names no feature of the modules
-/// counts for nothing.
+/// The schema that modules define (RFC 7950), with those features on which lines name, each `module:feature`:
+/// its data nodes and choices in document order, module after module, with groupings in place, their types and
+/// defaults; or a rule that is broken, or a limit that is passed, at its file and line. A line that names no
+/// feature of the modules counts for nothing. The expressions of patterns are made by `maker`; where it refuses
+/// one, and so its count of refusals rises, the answer is PatternRefused at that `pattern` statement, and all
+/// rules are kept in which no pattern is asked (RFC 7950 9.4.5).
 #[tactic(auto, using(crate::proofs::ProperSchema::proper, crate::proofs::ProperSchema::canonical))]
-pub fn compile(
+pub fn compile<M: Maker>(
     alloc: Global,
     modules: &[ModuleText],
     lines: &[Text],
+    maker: &mut M,
 ) -> Result<Schema, CompileFault>
-    ensures defined { MatchResult result (schemas.Defines modules.now lines.now) (OnModule (schemas.Breaks modules.now lines.now)) }
+    ensures defined { MatchResult result (schemas.Defines modules.now lines.now)
+        (OnModule (schemas.GivesNone modules.now lines.now
+        (refusing (M.refusals maker.old) (M.refusals maker.new) (M.last_refused maker.new)))) }
     ensures proper { IfOk result IsProperSchema }
     ensures canonical { IfOk result HasCanonicalDefaults }
+    ensures refused { IfErr result (OnModule (λ _ fault. fault.why ≡ PatternRefused
+        → Rose (M.refusals maker.old) (M.refusals maker.new))) }
 {
-    of_modules(alloc, modules, lines)
+    of_modules(alloc, modules, lines, maker)
 }

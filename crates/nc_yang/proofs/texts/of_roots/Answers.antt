@@ -1,5 +1,6 @@
 use Rattle.std.proofs.Common.{sym, subst}
 use Rattle.std.proofs.lemmas.Result.{err_from_is_err_and}
+use Rattle.nc_yang_leafs.specs.Patterns.{refusing}
 use Rattle.nc_yang_nodes.specs.FeaturesOn.{is_on}
 use Rattle.nc_yang_texts.specs.Rules.{KeepsTexts}
 use Rattle.nc_yang_texts.specs.Texts.{AreRead}
@@ -7,17 +8,20 @@ use Rattle.nc_yang.proofs.Outcomes.{defines, text_stops}
 use Rattle.nc_yang.proofs.texts.of_roots.Goals as goal
 
 pub compiled-requires : goal.compiled-requires
-compiled-requires c = subst KeepsTexts (sym c.in_ok-scopes.ensures.texts) c.in_ok-keep_texts.ensures
+compiled-requires g c = subst KeepsTexts (sym c.in_ok-scopes.ensures.texts) c.in_ok-keep_texts.ensures
 
 pub returns-in_err-keep_texts : goal.returns-in_err-keep_texts
-returns-in_err-keep_texts c = λ modules read.
+returns-in_err-keep_texts g c = λ modules read.
     let p = err_from_is_err_and c.from_residual-in_err-keep_texts.result c.from_residual-in_err-keep_texts.ensures.1 in
-    rw (p.1, p.2) (text_stops modules c.args.lines.now c.args.roots.now read c.in_err-keep_texts.field-0.0 c.in_err-keep_texts.ensures)
+    rw (p.1, p.2) (text_stops modules c.args.lines.now
+    (refusing (g.M.Maker.refusals c.args.maker.now) (g.M.Maker.refusals c.args.maker.now) (g.M.Maker.last_refused c.args.maker.now)) c.args.roots.now read c.in_err-keep_texts.field-0.0 c.in_err-keep_texts.ensures)
 
 pub returns : goal.returns
-returns c = λ modules read.
+returns g c = λ modules read.
     let on = is_on c.in_ok-features.features in
-    defines modules c.args.lines.now c.in_ok-scopes.scopes on
+    defines modules c.args.lines.now
+    (refusing (g.M.Maker.refusals c.args.maker.now) (g.M.Maker.refusals c.compiled.new.maker) (g.M.Maker.last_refused c.compiled.new.maker))
+    c.in_ok-scopes.scopes on
     (record {
       read = subst (AreRead modules) (sym c.in_ok-scopes.ensures.texts) read;
       keeps = subst KeepsTexts (sym c.in_ok-scopes.ensures.texts) c.in_ok-keep_texts.ensures;

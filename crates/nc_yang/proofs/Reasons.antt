@@ -1,0 +1,62 @@
+-- No rule of modules is that a pattern was refused.
+use Rattle.std.proofs.Common.{◌≡◌, ℕ, Bool, List, inl, inr, refl, sym, subst}
+use Rattle.std.specs.Prelude.{Result, Ok, Err, IfErr, MatchResult}
+use Rattle.std.proofs.lemmas.List.Elements.{All-contains}
+use Rattle.nc_patterns.specs.Makers.{Rose}
+use Rattle.nc_schema.specs.Tables.{Tables}
+use Rattle.nc_yang_words.specs.declared.statement.Statement.{Statement}
+use Rattle.nc_yang_statements.specs.declared.fault.Fault.{Fault}
+use Rattle.nc_yang_statements.specs.declared.fault.ModuleWhy.TheVariants.{PatternRefused}
+use Rattle.nc_yang_statements.specs.Statements.{below}
+use Rattle.nc_yang_scopes.specs.Scopes.{Located, Scoping}
+use Rattle.nc_yang_scopes.specs.declared.naming.TextFault.{TextFault}
+use Rattle.nc_yang_texts.specs.Texts.{OnModule}
+use Rattle.nc_yang_texts.specs.declared.fault.CompileFault.{CompileFault}
+use Rattle.nc_yang_texts.specs.declared.fault.CompileFault.TheVariants.{Module, Memory as NoMemory}
+use Rattle.nc_yang_texts.specs.declared.text.ModuleText.{ModuleText}
+use Rattle.nc_yang_nodes.specs.Roles.{FeatureTest}
+use Rattle.nc_yang_nodes.specs.declared.planned.Plan.{Plan}
+use Rattle.nc_yang_data.specs.Data.{data_faults}
+use Rattle.nc_yang_types.specs.Entries.{narrowed_faults, own_faults}
+use Rattle.nc_yang_meanings.specs.Meanings.{Breaks as BreaksParts, in_itself, over_base, shape}
+use Rattle.nc_yang_leafs.specs.Patterns.{Refusals}
+use Rattle.nc_yang.specs.Schemas.{Breaks, BreaksPlan, BreaksSchema, Defines, GivesNone, by_pattern, circle, default, ill_typed, in_place, in_plan, in_schema, leafref, past, text, unread}
+use Rattle.nc_yang.proofs.TextReasons.{OfRule, OfTextRule, no_refusal, of_text, of_unread}
+use Rattle.nc_yang.proofs.TypeReasons.{of_data, of_narrowed, of_own}
+
+of_parts : (on : ℕ → List ℕ → Bool) (texts : List Statement) (l : Located) (fault : Fault) → BreaksParts on texts l fault → OfRule fault
+of_parts on texts _ _ (in_itself l one fault built here) = All-contains OfRule (own_faults one l.statement) fault (of_own one l.statement) here
+of_parts on texts _ _ (over_base l base n fault is means here) = All-contains OfRule (narrowed_faults (shape n) (below l.statement)) fault (of_narrowed (shape n) (below l.statement)) here
+
+of_plan : (scoping : Scoping) (on : FeatureTest) (plan : Plan) (found : TextFault) → BreaksPlan scoping on plan found → OfTextRule found
+of_plan scoping on plan _ (in_place found here) = All-contains OfTextRule (data_faults scoping on plan) found (of_data scoping on plan) here
+of_plan scoping on plan _ (circle found kept breaks) = subst OfTextRule (sym breaks.at) refl
+of_plan scoping on plan _ (leafref found kept breaks) = subst OfTextRule (sym breaks.at) refl
+of_plan scoping on plan _ (default found typed kept straight types breaks) = subst OfTextRule (sym breaks.fault_is) refl
+of_plan scoping on plan _ (by_pattern found typed is breaks) = subst OfTextRule (sym breaks.fault_is) refl
+
+of_schema : (scoping : Scoping) (on : FeatureTest) (found : TextFault) → BreaksSchema scoping on found → OfTextRule found
+of_schema scoping on _ (ill_typed found breaks) = of_parts _ scoping.texts breaks.breaks.statement found.fault breaks.breaks.breaks
+of_schema scoping on _ (past found first) = subst OfTextRule (sym first.at) refl
+of_schema scoping on _ (in_plan plan found types planned breaks) = of_plan scoping on plan found breaks
+
+of_modules : (modules : List ModuleText) (lines : List (List ℕ)) (file : ℕ) (fault : Fault) → Breaks modules lines file fault → OfRule fault
+of_modules modules lines _ _ (unread file fault is) = of_unread modules file fault is
+of_modules modules lines _ _ (text roots found read breaks) = of_text roots found breaks
+of_modules modules lines _ _ (in_schema scoping on found begun breaks) = of_schema scoping on found breaks
+
+-- a broken rule is another reason
+pub never_refused : (modules : List ModuleText) (lines : List (List ℕ)) (file : ℕ) (fault : Fault) → Breaks modules lines file fault → fault.why ≡ PatternRefused → ⊥
+never_refused modules lines file fault breaks = no_refusal fault (of_modules modules lines file fault breaks)
+
+-- so where it is the reason, the count of refusals rose
+pub rose_where_refused : (modules : List ModuleText) (lines : List (List ℕ)) (refusals : Refusals) (file : ℕ) (fault : Fault) → GivesNone modules lines refusals file fault → fault.why ≡ PatternRefused →
+    Rose refusals.before refusals.now
+rose_where_refused modules lines refusals file fault (inl breaks) is = absurd (never_refused modules lines file fault breaks is)
+rose_where_refused modules lines refusals file fault (inr refuses) is = refuses.refuses.refuses.refused.refuses.rose
+
+pub rose_of : (modules : List ModuleText) (lines : List (List ℕ)) (refusals : Refusals) (result : Result Tables CompileFault) →
+    MatchResult result (Defines modules lines) (OnModule (GivesNone modules lines refusals)) → IfErr result (OnModule (λ file fault. fault.why ≡ PatternRefused → Rose refusals.before refusals.now))
+rose_of modules lines refusals (Ok tables) h = tt
+rose_of modules lines refusals (Err (Module file line why)) h = rose_where_refused modules lines refusals file (record { line = line; why = why }) h
+rose_of modules lines refusals (Err NoMemory) h = tt

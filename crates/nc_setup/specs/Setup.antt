@@ -6,8 +6,9 @@ use Rattle.nc_protocol.specs.declared.request.Cause.{Cause}
 use Rattle.nc_schema.specs.PathTexts.{path_text_of}
 use Rattle.nc_schema.specs.Tables.{Tables}
 use Rattle.nc_schema.specs.Violations.{IsValid}
+use Rattle.nc_yang_leafs.specs.Patterns.{Refusals}
 use Rattle.nc_yang.specs.Features.{IsFirstUnknown, NamesFeature}
-use Rattle.nc_yang.specs.Schemas.{Breaks, Defines}
+use Rattle.nc_yang.specs.Schemas.{Defines, GivesNone}
 use Rattle.nc_yang_texts.specs.declared.text.ModuleText.{ModuleText}
 use Rattle.nc_setup.specs.Initial.{IsInitial, IsRefusedFor, IsUnread}
 use Rattle.nc_setup.specs.declared.fault.SetupFault.{SetupFault}
@@ -30,23 +31,23 @@ pub record IsSetup (contents : Contents) (it : Setup) : Type 0 where
 abbrev pub file_name : List ModuleText → ℕ → List ℕ
 file_name modules file = option_map_or (λ text. text.file) (slice_get modules file) []
 
--- Why it makes none: the first of these that is so.
-abbrev pub IsRefused : Contents → SetupFault → Type 0
--- the modules define no schema
-IsRefused contents (Module file line why) =
+-- Why it makes none, where a maker of patterns has refused that: the first of these that is so.
+abbrev pub IsRefused : Contents → Refusals → SetupFault → Type 0
+-- the modules define no schema, or the maker refused one of their patterns
+IsRefused contents refusals (Module file line why) =
     (number : ℕ) × (file ≡ file_name contents.modules number)
-    × Breaks contents.modules contents.features number (record { line = line; why = why })
+    × GivesNone contents.modules contents.features refusals number (record { line = line; why = why })
 -- the first line of the features, counted from 1, that names none
-IsRefused contents (Feature line) =
+IsRefused contents refusals (Feature line) =
     (schema : Tables) × Defines contents.modules contents.features schema
     × (place : ℕ) × IsFirstUnknown contents.modules contents.features place × (line ≡ place + 1)
 -- the initial configuration is not read, from that place on
-IsRefused contents (Unread at) =
+IsRefused contents refusals (Unread at) =
     (schema : Tables) × HasSchema contents schema
     × (text : List ℕ) × (contents.initial ≡ Some text) × IsUnread text at
 -- it is refused, for that cause, which is about that path
-IsRefused contents (Invalid kind path) =
+IsRefused contents refusals (Invalid kind path) =
     (schema : Tables) × HasSchema contents schema
     × (cause : Cause) × IsRefusedFor schema contents.initial cause
     × (kind ≡ cause.kind) × (path ≡ option_map (path_text_of schema) cause.path)
-IsRefused contents Memory = Unit {0}
+IsRefused contents refusals Memory = Unit {0}

@@ -7,6 +7,7 @@ ghost use Rattle.nc_schema.specs.PathTexts.{path_text_of};
 ghost use Rattle.nc_schema.specs.Proper.{IsProperSchema};
 ghost use Rattle.nc_schema.specs.Tables.{Tables};
 ghost use Rattle.nc_schema.specs.Violations.{IsValid};
+ghost use Rattle.nc_yang_leafs.specs.Patterns.{Refusals, refusing};
 ghost use Rattle.nc_yang.specs.Features.{NamesFeature};
 ghost use Rattle.nc_yang.specs.Schemas.{Defines};
 ghost use Rattle.nc_setup.specs.Initial.{IsInitial};
@@ -19,6 +20,7 @@ use crate::folder::Contents;
 use crate::initial::initial;
 use crate::stop::Stop;
 use nc_names::{Copies, Many, Memory, Path, Text};
+use nc_patterns::Maker;
 use nc_protocol::Cause;
 use nc_schema::Schema;
 use nc_tree::Config;
@@ -63,16 +65,22 @@ fn broken(
 
 // The schema of the modules.
 #[tactic(auto, using(crate::proofs::Refusing::module_refuses))]
-fn schema_of(alloc: Global, contents: &Contents) -> Result<Schema, SetupFault>
+fn schema_of<M: Maker>(
+    alloc: Global,
+    contents: &Contents,
+    maker: &mut M,
+) -> Result<Schema, SetupFault>
     ensures defines { MatchResult result
         (Defines contents.now.modules contents.now.features)
-        (IsRefused contents.now) }
+        (IsRefused contents.now
+        (refusing (M.refusals maker.old) (M.refusals maker.new) (M.last_refused maker.new))) }
     ensures proper { IfOk result IsProperSchema }
 {
     match compile(
         alloc,
         contents.modules.as_slice(),
         contents.features.as_slice(),
+        maker,
     ) {
         Ok(schema) => Ok(schema),
         Err(CompileFault::Module { file, line, why }) => {
@@ -95,8 +103,8 @@ fn line_at(features: &[Text], place: usize) -> u64
 fn check_features(alloc: Global, contents: &Contents) -> Result<(), SetupFault>
     ensures { MatchResult result
         (λ _. All (NamesFeature contents.now.modules) contents.now.features)
-        (λ fault. (schema : Tables) → Defines contents.now.modules contents.now.features schema →
-        IsRefused contents.now fault) }
+        (λ fault. (refusals : Refusals) → (schema : Tables)
+        → Defines contents.now.modules contents.now.features schema → IsRefused contents.now refusals fault) }
 {
     let features = contents.features.as_slice();
     match first_unknown_feature(alloc, contents.modules.as_slice(), features)? {
@@ -145,7 +153,8 @@ fn running_of(alloc: Global, contents: &Contents, schema: &Schema) -> Result<Con
     requires { IsProperSchema schema.now }
     ensures read { MatchResult result
         (IsInitial schema.now contents.now.initial)
-        (λ fault. HasSchema contents.now schema.now → IsRefused contents.now fault) }
+        (λ fault. (refusals : Refusals) → HasSchema contents.now schema.now
+        → IsRefused contents.now refusals fault) }
     ensures configuration { IfOk result (IsConfiguration schema.now) }
     ensures valid { IfOk result (IsValid schema.now) }
 {
@@ -158,15 +167,20 @@ fn running_of(alloc: Global, contents: &Contents, schema: &Schema) -> Result<Con
 }
 
 /// Makes the server of what the folder of a device holds: the schema that the modules define where the
-/// features are on, and the initial configuration as the running one. It is refused for a rule that the
-/// modules break, then for the first line that names no feature of them, then for what the initial
-/// configuration lacks.
-pub fn set_up(alloc: Global, contents: &Contents) -> Result<Setup, SetupFault>
-    ensures set_up { MatchResult result (IsSetup contents.now) (IsRefused contents.now) }
+/// features are on, and the initial configuration as the running one; `maker` makes the expressions of their
+/// patterns. It is refused for a rule that the modules break or a pattern that the maker refuses, then for the
+/// first line that names no feature of them, then for what the initial configuration lacks.
+pub fn set_up<M: Maker>(
+    alloc: Global,
+    contents: &Contents,
+    maker: &mut M,
+) -> Result<Setup, SetupFault>
+    ensures set_up { MatchResult result (IsSetup contents.now) (IsRefused contents.now
+        (refusing (M.refusals maker.old) (M.refusals maker.new) (M.last_refused maker.new))) }
     ensures proper { IfOk result (λ it. IsProperSchema it.schema) }
     ensures configuration { IfOk result (λ it. IsConfiguration it.schema it.running) }
 {
-    let schema = schema_of(alloc, contents)?;
+    let schema = schema_of(alloc, contents, maker)?;
     check_features(alloc, contents)?;
     let running = running_of(alloc, contents, &schema)?;
     Ok(Setup { schema, running })

@@ -12,7 +12,7 @@ use Rattle.nc_setup.specs.declared.fault.SetupFault.{SetupFault}
 use Rattle.nc_setup.specs.declared.fault.SetupFault.TheVariants.{Module, Feature, Unread, Invalid, Memory as SetupMemory}
 use Rattle.netconfd.proofs.Serving.{read_failed, write_failed}
 use Rattle.netconfd.specs.Ends.{session_status, setup_status, status_of}
-use Rattle.netconfd.specs.Run.{AreFaulty, HasFailed, HasMade, HasNoMemory, IsOver, MakesNone, Outside, Runs, Times, home_of, outside}
+use Rattle.netconfd.specs.Run.{AreFaulty, HasFailed, HasMade, HasNoMemory, IsOver, Making, MakesNone, Outside, Runs, Times, home_of, outside, refusals_of}
 use Rattle.netconfd.specs.Words.{HasNoReading, IsStdio}
 use Rattle.netconfd.specs.declared.end.RunEnd.{RunEnd}
 use Rattle.netconfd.specs.declared.end.RunEnd.TheVariants.{Words, Files, Setup, Session, Memory}
@@ -20,16 +20,17 @@ use Rattle.netconfd.specs.inner.Preparing.{Prepares}
 
 -- no server was made
 pub not_prepared : (words : List (List ℕ)) (folder : List ℕ) (peer : Peer) (files later : Option (List NamedFile)) (before now : ℕ)
-    (s : Streams) (t : Times) (end : RunEnd) → IsStdio words folder peer → later ≡ files → Prepares files folder before now (Err end)
-    → Runs words (outside files before s t) (outside later now s t) end
-not_prepared words folder peer files later before now s t Words is same none = absurd none
-not_prepared words folder peer files later before now s t Files is same rose =
-    HasFailed folder peer is rose (subst (λ f. outside f now s t ≡ outside files now s t) (sym same) refl)
-not_prepared words folder peer files later before now s t Memory is same kept =
-    HasNoMemory folder peer is (cc (same, kept))
-not_prepared words folder peer files later before now s t (Setup fault) is same (contents, holds, refused, kept) =
-    MakesNone folder peer contents fault is holds refused (cc (same, kept))
-not_prepared words folder peer files later before now s t (Session end) is same none = absurd none
+    (s : Streams) (t : Times) (m n : Making) (end : RunEnd) → IsStdio words folder peer → later ≡ files
+    → Prepares files folder before now (refusals_of m n) (Err end)
+    → Runs words (outside files before s t m) (outside later now s t n) end
+not_prepared words folder peer files later before now s t m n Words is same none = absurd none
+not_prepared words folder peer files later before now s t m n Files is same rose =
+    HasFailed folder peer is rose (subst (λ f. outside f now s t n ≡ outside files now s t n) (sym same) refl)
+not_prepared words folder peer files later before now s t m n Memory is same kept =
+    HasNoMemory folder peer is (λ i. outside (same i) (kept i) s t n)
+not_prepared words folder peer files later before now s t m n (Setup fault) is same (contents, holds, refused, kept) =
+    MakesNone folder peer contents fault is holds refused (λ i. outside (same i) (kept i) s t n)
+not_prepared words folder peer files later before now s t m n (Session end) is same none = absurd none
 
 -- the statuses
 setup_is : (fault : SetupFault) → (setup_status fault ≢ 2) × (setup_status fault ≢ 6) × (setup_status fault ≢ 7) × (setup_status fault ≢ 13)

@@ -11,7 +11,7 @@ use Rattle.nc_session.specs.declared.end.SessionEnd.TheVariants.{Closed, InputEn
 use Rattle.nc_setup.specs.declared.fault.SetupFault.{SetupFault}
 use Rattle.nc_setup.specs.declared.fault.SetupFault.TheVariants.{Module, Feature, Unread, Invalid, Memory as SetupMemory}
 use Rattle.nc_yang_statements.specs.declared.fault.ModuleWhy.{ModuleWhy}
-use Rattle.nc_yang_statements.specs.declared.fault.ModuleWhy.TheVariants.{NotText, BadWords, UnknownStatement, Unsupported, Missing, Twice, UnknownName, Loop, BadArgument, TooMany}
+use Rattle.nc_yang_statements.specs.declared.fault.ModuleWhy.TheVariants.{NotText, BadWords, UnknownStatement, Unsupported, Missing, Twice, UnknownName, Loop, BadArgument, TooMany, PatternRefused}
 use Rattle.netconfd.specs.declared.end.RunEnd.{RunEnd}
 use Rattle.netconfd.specs.declared.end.RunEnd.TheVariants.{Words, Files, Setup, Session, Memory}
 
@@ -82,6 +82,7 @@ why_word UnknownName = codes "UnknownName"
 why_word Loop = codes "Loop"
 why_word BadArgument = codes "BadArgument"
 why_word TooMany = codes "TooMany"
+why_word PatternRefused = codes "PatternRefused"
 
 -- a word, a number and the end of the line
 abbrev pub number_line : List ℕ → ℕ → List ℕ

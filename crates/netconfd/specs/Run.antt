@@ -13,6 +13,7 @@ use Rattle.nc_outside.specs.declared.files.NamedFile.{NamedFile}
 use Rattle.nc_session.specs.Serves.{Serves, called}
 use Rattle.nc_session.specs.declared.end.SessionEnd.{SessionEnd}
 use Rattle.nc_session.specs.declared.end.SessionEnd.TheVariants.{Full, Killed}
+use Rattle.nc_yang_leafs.specs.Patterns.{Refusals, refusing}
 use Rattle.nc_setup.specs.Folder.{Holds}
 use Rattle.nc_setup.specs.Setup.{IsRefused, IsSetup}
 use Rattle.nc_setup.specs.declared.fault.SetupFault.{SetupFault}
@@ -32,16 +33,29 @@ pub record Times : Type 0 where
 abbrev pub times : Option (List ℕ) → ℕ → Times
 times given answers = record { given = given; answers = answers }
 
--- what the files, the source, the sink and the clock tell, at one moment, and how often the files have failed
+-- how many patterns the maker of expressions has refused, and the last of their expressions
+pub record Making : Type 0 where
+  pub refusals : ℕ
+  pub last : Option (List ℕ)
+
+abbrev pub making : ℕ → Option (List ℕ) → Making
+making refusals last = record { refusals = refusals; last = last }
+
+-- what it refused between two moments
+abbrev pub refusals_of : (before now : Making) → Refusals
+refusals_of before now = refusing before.refusals now.refusals now.last
+
+-- what the files, the source, the sink, the clock and the maker tell, at one moment, and how often the files have failed
 pub record Outside : Type 0 where
   pub files : Option (List NamedFile)
   pub files_failed : ℕ
   pub streams : Streams
   pub times : Times
+  pub making : Making
 
-abbrev pub outside : Option (List NamedFile) → ℕ → Streams → Times → Outside
-outside files files_failed streams times =
-    record { files = files; files_failed = files_failed; streams = streams; times = times }
+abbrev pub outside : Option (List NamedFile) → ℕ → Streams → Times → Making → Outside
+outside files files_failed streams times made =
+    record { files = files; files_failed = files_failed; streams = streams; times = times; making = made }
 
 -- The server has made this history, and these of its entries are no readings of the clock: it is legal from the opening
 -- state, and at each moment of it the state is good, so that running is a valid configuration; no commit of it met a
@@ -83,17 +97,18 @@ HoldsIn files folder contents = IfSome files (λ fs. Holds fs folder contents)
 
 -- What a run came to: the words have no valid reading; the files failed, and their count of faults rose; no memory
 -- was found before there was a server; what the folder holds makes none; or it makes one, and the session was
--- served. Nothing is read or written but by a session.
+-- served. Nothing is read or written but by a session, and patterns are made before it.
 pub data Runs (words : List (List ℕ)) (before now : Outside) : RunEnd → Type 0 where
   AreFaulty : HasNoReading words → now ≡ before → Runs words before now Words
   HasFailed : (folder : List ℕ) (peer : Peer) → IsStdio words folder peer
-      → Rose before.files_failed now.files_failed → now ≡ record before { files_failed = now.files_failed }
+      → Rose before.files_failed now.files_failed
+      → now ≡ record before { files_failed = now.files_failed; making = now.making }
       → Runs words before now Files
-  HasNoMemory : (folder : List ℕ) (peer : Peer) → IsStdio words folder peer → now ≡ before
-      → Runs words before now Memory
+  HasNoMemory : (folder : List ℕ) (peer : Peer) → IsStdio words folder peer
+      → now ≡ record before { making = now.making } → Runs words before now Memory
   MakesNone : (folder : List ℕ) (peer : Peer) (contents : Contents) (fault : SetupFault) → IsStdio words folder peer
-      → HoldsIn before.files folder contents → IsRefused contents fault → now ≡ before
-      → Runs words before now (Setup fault)
+      → HoldsIn before.files folder contents → IsRefused contents (refusals_of before.making now.making) fault
+      → now ≡ record before { making = now.making } → Runs words before now (Setup fault)
   IsOver : (folder : List ℕ) (peer : Peer) (contents : Contents) (server : Server) (end : SessionEnd)
       → IsStdio words folder peer → HoldsIn before.files folder contents → IsSetup contents server
       → now.files ≡ before.files → now.files_failed ≡ before.files_failed

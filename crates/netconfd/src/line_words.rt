@@ -146,5 +146,6 @@ pub(crate) fn why_word(why: ModuleWhy) -> &'static str
         ModuleWhy::Loop => "Loop",
         ModuleWhy::BadArgument => "BadArgument",
         ModuleWhy::TooMany => "TooMany",
+        ModuleWhy::PatternRefused => "PatternRefused",
     }
 }

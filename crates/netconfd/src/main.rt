@@ -18,6 +18,7 @@ use adapters::SetupFiles;
 use end::RunEnd;
 use nc_names::Memory;
 use nc_outside::{MonotonicClock, ReaderSource, WriterSink};
+use nc_patterns::RegexMaker;
 use note::note_end;
 use run::{World, run};
 use std::env;
@@ -52,6 +53,7 @@ fn main(rt: HostRuntime) -> ExitCode {
         sink: WriterSink::new(rt.stdout()),
         notes: WriterSink::new(rt.stderr()),
         clock: MonotonicClock::new(rt),
+        patterns: RegexMaker::new(rt.alloc()),
     };
     ExitCode::from(run(rt.alloc(), words.as_slice(), world).status)
 }

@@ -6,6 +6,7 @@
 #![tactic(auto)]
 
 use nc_names::{Bytes, Many, Memory, Text};
+use nc_patterns::RegexMaker;
 use nc_yang::compile;
 use nc_yang_texts::{CompileFault, ModuleText};
 use std::alloc::Global;
@@ -26,7 +27,8 @@ fn files(alloc: Global, texts: &str) -> Result<Many<ModuleText>, Memory> {
 /// How many types the modules of a row have.
 fn answer(alloc: Global, texts: &str) -> Result<String, Memory> {
     let files = files(alloc, texts)?;
-    match compile(alloc, files.as_slice(), &[]) {
+    let mut maker = RegexMaker::new(alloc);
+    match compile(alloc, files.as_slice(), &[], &mut maker) {
         Ok(schema) => Ok(format!(in alloc; "{}", schema.types().len())?),
         Err(CompileFault::Module { .. }) => Ok(String::from_str(alloc, "no schema")?),
         Err(CompileFault::Memory) => Err(Memory),

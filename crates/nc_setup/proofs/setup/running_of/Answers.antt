@@ -5,5 +5,5 @@ use Rattle.nc_setup.proofs.setup.running_of.Goals as goal
 
 pub returns-in-Err-Refused-clause-read : goal.returns-in-Err-Refused-clause-read
 returns-in-Err-Refused-clause-read c =
-    λ has. cause_refuses c.args.contents.now c.args.schema.now c.in-Err-Refused.cause c.invalid.result has
+    λ refusals has. cause_refuses c.args.contents.now refusals c.args.schema.now c.in-Err-Refused.cause c.invalid.result has
     (refused_for _ _ _ c.in-Err-Refused.cause (search rules) c.in-Err-Refused.ensures.read) c.invalid.ensures

@@ -1,7 +1,7 @@
 use Rattle.std.proofs.Common.{refl, map, string_bytes, sym, subst}
 use Rattle.nc_outside.specs.Streams.{streams}
 use Rattle.netconfd.proofs.Running.{not_prepared}
-use Rattle.netconfd.specs.Run.{AreFaulty, HasNoMemory, IsOver, times}
+use Rattle.netconfd.specs.Run.{AreFaulty, HasNoMemory, IsOver, making, times}
 use Rattle.netconfd.specs.Words.{IsStdio}
 use Rattle.netconfd.proofs.run.served.Goals as goal
 
@@ -18,6 +18,8 @@ returns-in-Err g c =
     (g.F.Files.files c.server_of.new.files) (g.F.Files.faults c.args.files.now) (g.F.Files.faults c.server_of.new.files)
     (streams (g.S.Source.left c.args.source.now) (g.S.Source.ends c.args.source.now) (g.S.Source.faults c.args.source.now) (g.K.Sink.taken c.args.sink.now) (g.K.Sink.faults c.args.sink.now))
     (times (g.C.Clock.given c.args.clock) (g.C.Clock.count c.args.clock))
+    (making (g.P.Maker.refusals c.args.maker.now) (g.P.Maker.last_refused c.args.maker.now))
+    (making (g.P.Maker.refusals c.server_of.new.maker) (g.P.Maker.last_refused c.server_of.new.maker))
     c.in-Err.end c.in-Some.ensures told.files told.prepares
 
 pub returns-in-Ok-server_of : goal.returns-in-Ok-server_of

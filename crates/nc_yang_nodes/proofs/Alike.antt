@@ -1,30 +1,33 @@
 -- Two plans of the same texts are alike.
 use Rattle.std.proofs.Common.{◌≡◌, ◌+◌, ℕ, zero, suc, List, [], ◌∷◌, ◌++◌, length, map, refl, sym, ap, subst, ◌∙◌, arith}
-use Rattle.std.specs.Prelude.{Option, Some, None, slice_get, option_and_then}
+use Rattle.std.specs.Prelude.{Some, None, slice_get, option_and_then}
 use Rattle.std.proofs.lemmas.List.{length-map, map-append}
+use Rattle.nc_schema.specs.declared.node.Deny.{Deny}
+use Rattle.nc_schema.specs.declared.node.Deny.TheVariants.{Nothing}
 use Rattle.nc_yang_scopes.specs.Scopes.{Located, Scoping, root}
 use Rattle.nc_yang_nodes.specs.declared.context.Context.{Context}
 use Rattle.nc_yang_nodes.specs.declared.planned.Plan.{Plan}
 use Rattle.nc_yang_nodes.specs.declared.planned.Planned.{Planned}
-use Rattle.nc_yang_nodes.specs.declared.planned.PlannedChoice.{PlannedChoice}
 use Rattle.nc_yang_nodes.specs.declared.role.Role.{Role}
 use Rattle.nc_yang_nodes.specs.declared.role.Role.TheVariants.{Node, Choice, Case, Uses}
-use Rattle.nc_yang_nodes.specs.Roles.{FeatureTest, block, children, role}
+use Rattle.nc_yang_nodes.specs.Denials.{together}
+use Rattle.nc_yang_nodes.specs.Roles.{FeatureTest, block, children}
 use Rattle.nc_yang_nodes.specs.Expansion.{Gives, added, after, at_top, choice_of, given, in_block, inner, node_of, none, passed, within}
 use Rattle.nc_yang_nodes.specs.Plans.{GivesTexts, IsPlan, no_text, one_more, statement_of}
-use Rattle.nc_yang_nodes.specs.Alike.{AreAlike, SeenChoice, SeenNode, seen_choice, seen_node}
+use Rattle.nc_yang_nodes.specs.Alike.{AreAlike, SeenNode, seen_choice, seen_node}
 
 module _ (scoping : Scoping) where
   abbrev IsOne : ℕ → ℕ → Type 0
   IsOne n k = slice_get scoping.located n ≡ slice_get scoping.located k
 
-  node_alike : (n k : ℕ) (c d : Context) → IsOne n k → c ≡ d → seen_node scoping (node_of n c) ≡ seen_node scoping (node_of k d)
-  node_alike n k c d at e = λ i. record {
+  node_alike : (n k : ℕ) (c d : Context) (deny : Deny) → IsOne n k → c ≡ d → seen_node scoping (node_of n c deny) ≡ seen_node scoping (node_of k d deny)
+  node_alike n k c d deny at e = λ i. record {
     statement = at i;
     in_module = (e i).module;
     parent = (e i).parent;
     level = (e i).level;
     cases = within (e i);
+    deny = together (e i).deny deny;
   }
 
   choice_alike : (n k : ℕ) (c d : Context) → IsOne n k → c ≡ d → seen_choice scoping (choice_of n c) ≡ seen_choice scoping (choice_of k d)
@@ -32,22 +35,22 @@ module _ (scoping : Scoping) where
 
   added_alike : (n k : ℕ) (c d : Context) (r : Role) (p q : Plan) → IsOne n k → c ≡ d → AreAlike scoping p q →
       AreAlike scoping (added n c r p) (added k d r q)
-  added_alike n k c d Node p q at e h = record {
+  added_alike n k c d (Node deny) p q at e h = record {
     nodes =
-        map-append (seen_node scoping) p.nodes (node_of n c ∷ [])
-        ∙ (λ i. h.nodes i ++ node_alike n k c d at e i ∷ [])
-        ∙ sym (map-append (seen_node scoping) q.nodes (node_of k d ∷ []));
+        map-append (seen_node scoping) p.nodes (node_of n c deny ∷ [])
+        ∙ (λ i. h.nodes i ++ node_alike n k c d deny at e i ∷ [])
+        ∙ sym (map-append (seen_node scoping) q.nodes (node_of k d deny ∷ []));
     choices = h.choices;
   }
-  added_alike n k c d Choice p q at e h = record {
+  added_alike n k c d (Choice deny) p q at e h = record {
     nodes = h.nodes;
     choices =
         map-append (seen_choice scoping) p.choices (choice_of n c ∷ [])
         ∙ (λ i. h.choices i ++ choice_alike n k c d at e i ∷ [])
         ∙ sym (map-append (seen_choice scoping) q.choices (choice_of k d ∷ []));
   }
-  added_alike n k c d Case p q at e h = h
-  added_alike n k c d Uses p q at e h = h
+  added_alike n k c d (Case deny) p q at e h = h
+  added_alike n k c d (Uses deny) p q at e h = h
 
   pub as_many_nodes : (p q : Plan) → AreAlike scoping p q → length p.nodes ≡ length q.nodes
   as_many_nodes p q h = sym (length-map p.nodes (seen_node scoping)) ∙ ap length h.nodes ∙ length-map q.nodes (seen_node scoping)
@@ -56,12 +59,12 @@ module _ (scoping : Scoping) where
   as_many_choices p q h = sym (length-map p.choices (seen_choice scoping)) ∙ ap length h.choices ∙ length-map q.choices (seen_choice scoping)
 
   inner_alike : (c d : Context) (r : Role) (p q : Plan) → c ≡ d → AreAlike scoping p q → inner c p r ≡ inner d q r
-  inner_alike c d Node p q e h =
+  inner_alike c d (Node deny) p q e h =
       let many = as_many_nodes p q h in
-      λ i. record { «module» = (e i).module; parent = Some (many i); level = (e i).level + 1; cases = []; next = None }
-  inner_alike c d Choice p q e h = let many = as_many_choices p q h in λ i. in_block (e i) (Some (record { choice = many i; case = 0 }))
-  inner_alike c d Case p q e h = λ i. in_block (e i) None
-  inner_alike c d Uses p q e h = λ i. in_block (e i) None
+      λ i. record { «module» = (e i).module; parent = Some (many i); level = (e i).level + 1; cases = []; next = None; deny = Nothing }
+  inner_alike c d (Choice deny) p q e h = let many = as_many_choices p q h in λ i. in_block (e i) deny (Some (record { choice = many i; case = 0 }))
+  inner_alike c d (Case deny) p q e h = λ i. in_block (e i) deny None
+  inner_alike c d (Uses deny) p q e h = λ i. in_block (e i) deny None
 
   module _ (on : FeatureTest) where
     gives_alike : (c d : Context) (p q s t : Plan) (ls : List Located) → Gives scoping on c p ls q → Gives scoping on d s ls t → c ≡ d →

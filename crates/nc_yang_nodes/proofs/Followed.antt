@@ -2,6 +2,7 @@
 use Rattle.std.proofs.Common.{◌≡◌, ◌++◌, ◌&&◌, inl, inr, not, ℕ, suc, Bool, true, false, cond, List, [], ◌∷◌, length, refl, ap, subst, ◌∙◌}
 use Rattle.std.specs.Prelude.{Option, Some, None, slice_get, option_and_then}
 use Rattle.std.specs.Option.{option_map_or}
+use Rattle.nc_schema.specs.declared.node.Deny.{Deny}
 use Rattle.nc_yang_statements.specs.declared.keyword.Keyword.{Keyword}
 use Rattle.nc_yang_statements.specs.declared.keyword.Keyword.TheVariants.{Case as CaseWord, Choice as ChoiceWord, Container, Grouping, Leaf, LeafList, List as ListWord, Uses as UsesWord}
 use Rattle.nc_yang_statements.specs.Keywords.{is_closed}
@@ -15,6 +16,7 @@ use Rattle.nc_yang_nodes.specs.declared.role.Role.{Role}
 use Rattle.nc_yang_nodes.specs.declared.role.Role.TheVariants.{Node, Choice, Case, Uses}
 use Rattle.nc_yang_nodes.specs.Expansion.{Gives, added, after, at_top, given, inner, node_of, none, passed}
 use Rattle.nc_yang_nodes.specs.Plans.{GivesTexts, IsPlan, no_text, one_more, statement_of}
+use Rattle.nc_yang_nodes.specs.Denials.{denial}
 use Rattle.nc_yang_nodes.specs.Roles.{FeatureTest, block, children, is_supported, role, role_of}
 use Rattle.nc_yang_nodes.proofs.ListLemmas.{get_push}
 
@@ -23,15 +25,15 @@ abbrev pub AreAll : (Located → Type 0) → List Located → Type 0
 AreAll Good ls = (i : ℕ) (l : Located) → slice_get ls i ≡ Some l → Good l
 
 -- what gives something is not passed over
-giving_open : (keyword : Keyword) (r : Role) → role_of keyword ≡ Some r → is_closed keyword ≡ false
-giving_open Container r e = refl
-giving_open Leaf r e = refl
-giving_open LeafList r e = refl
-giving_open ListWord r e = refl
-giving_open ChoiceWord r e = refl
-giving_open CaseWord r e = refl
-giving_open UsesWord r e = refl
-giving_open keyword r e = absurd (cc)
+giving_open : (deny : Deny) (keyword : Keyword) (r : Role) → role_of deny keyword ≡ Some r → is_closed keyword ≡ false
+giving_open deny Container r e = refl
+giving_open deny Leaf r e = refl
+giving_open deny LeafList r e = refl
+giving_open deny ListWord r e = refl
+giving_open deny ChoiceWord r e = refl
+giving_open deny CaseWord r e = refl
+giving_open deny UsesWord r e = refl
+giving_open deny keyword r e = absurd (cc)
 
 -- what is so of the statements in each module, of those in an open statement of which it is so, and of those in each grouping
 -- that it names, is so of the statement of each planned node
@@ -42,8 +44,8 @@ module _ (scoping : Scoping) (on : FeatureTest) (Good : Located → Type 0)
   role_open : (l : Located) (r : Role) → role scoping.texts on l ≡ Some r → is_closed (kind l.statement) ≡ false
   role_open l r e = by (is_supported scoping.texts on l && not (is_state l.statement)) e
     where
-      by : (b : Bool) → cond b (role_of (kind l.statement)) None ≡ Some r → is_closed (kind l.statement) ≡ false
-      by true f = giving_open (kind l.statement) r f
+      by : (b : Bool) → cond b (role_of (denial scoping.texts l) (kind l.statement)) None ≡ Some r → is_closed (kind l.statement) ≡ false
+      by true f = giving_open (denial scoping.texts l) (kind l.statement) r f
       by false f = absurd (cc)
 
   uses_are : (l : Located) → Good l → AreAll Good (option_map_or children (resolved scoping.texts Grouping (name l.statement) l.place) [])
@@ -54,19 +56,19 @@ module _ (scoping : Scoping) (on : FeatureTest) (Good : Located → Type 0)
       by (Some g) e = grouped l g good e
 
   blocks : (l : Located) (r : Role) → Good l → role scoping.texts on l ≡ Some r → AreAll Good (block scoping.texts l r)
-  blocks l Uses good is = uses_are l good
-  blocks l Node good is = inward l good (role_open l Node is)
-  blocks l Choice good is = inward l good (role_open l Choice is)
-  blocks l Case good is = inward l good (role_open l Case is)
+  blocks l (Uses deny) good is = uses_are l good
+  blocks l (Node deny) good is = inward l good (role_open l (Node deny) is)
+  blocks l (Choice deny) good is = inward l good (role_open l (Choice deny) is)
+  blocks l (Case deny) good is = inward l good (role_open l (Case deny) is)
 
   abbrev NodesAre : Plan → Type 0
   NodesAre plan =
       (number : ℕ) (n : Planned) (l : Located) → slice_get plan.nodes number ≡ Some n → slice_get scoping.located n.statement ≡ Some l → Good l
 
-  more_nodes : (number : ℕ) (c : Context) (plan : Plan) (l : Located) → slice_get scoping.located number ≡ Some l → Good l → NodesAre plan →
-      NodesAre (record plan { nodes = plan.nodes ++ node_of number c ∷ [] })
-  more_nodes number c plan l at good are other n m is there =
-      elim (get_push plan.nodes (node_of number c) n other is) [
+  more_nodes : (number : ℕ) (c : Context) (deny : Deny) (plan : Plan) (l : Located) → slice_get scoping.located number ≡ Some l → Good l → NodesAre plan →
+      NodesAre (record plan { nodes = plan.nodes ++ node_of number c deny ∷ [] })
+  more_nodes number c deny plan l at good are other n m is there =
+      elim (get_push plan.nodes (node_of number c deny) n other is) [
         | inl old ↦ are other n m old there
         | inr new ↦
             let here : slice_get scoping.located number ≡ Some m = ap (λ (z : Planned). slice_get scoping.located z.statement) new.1 ∙ there in
@@ -76,10 +78,10 @@ module _ (scoping : Scoping) (on : FeatureTest) (Good : Located → Type 0)
 
   added_are : (number : ℕ) (c : Context) (r : Role) (plan : Plan) (l : Located) → slice_get scoping.located number ≡ Some l → Good l → NodesAre plan →
       NodesAre (added number c r plan)
-  added_are number c Node plan l at good are = more_nodes number c plan l at good are
-  added_are number c Choice plan l at good are = are
-  added_are number c Case plan l at good are = are
-  added_are number c Uses plan l at good are = are
+  added_are number c (Node deny) plan l at good are = more_nodes number c deny plan l at good are
+  added_are number c (Choice deny) plan l at good are = are
+  added_are number c (Case deny) plan l at good are = are
+  added_are number c (Uses deny) plan l at good are = are
 
   gives_are : (c : Context) (p q : Plan) (ls : List Located) → Gives scoping on c p ls q → AreAll Good ls → NodesAre p → NodesAre q
   gives_are c p q [] (none _ _) all are = are

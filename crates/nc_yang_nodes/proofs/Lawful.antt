@@ -37,26 +37,26 @@ more_choices : (cs : List PlannedChoice) (x : PlannedChoice) → length (cs ++ x
 more_choices cs x = simp length-append
 
 alike_added : (n k : ℕ) (c d : Context) (r : Role) (p q : Plan) → c.level ≡ d.level → Alike p q → Alike (added n c r p) (added k d r q)
-alike_added n k c d Node p q e h = record {
+alike_added n k c d (Node deny) p q e h = record {
   levels_are =
-      map-append (λ (n : Planned). n.level) p.nodes (node_of n c ∷ [])
+      map-append (λ (n : Planned). n.level) p.nodes (node_of n c deny ∷ [])
       ∙ ap (λ z. z ++ c.level ∷ []) h.levels_are
       ∙ ap (λ l. levels q.nodes ++ l ∷ []) e
-      ∙ sym (map-append (λ (n : Planned). n.level) q.nodes (node_of k d ∷ []));
+      ∙ sym (map-append (λ (n : Planned). n.level) q.nodes (node_of k d deny ∷ []));
   choices_are = h.choices_are;
 }
-alike_added n k c d Choice p q e h = record {
+alike_added n k c d (Choice deny) p q e h = record {
   levels_are = h.levels_are;
   choices_are = more_choices p.choices (choice_of n c) ∙ ap (λ z. z + 1) h.choices_are ∙ sym (more_choices q.choices (choice_of k d));
 }
-alike_added n k c d Case p q e h = h
-alike_added n k c d Uses p q e h = h
+alike_added n k c d (Case deny) p q e h = h
+alike_added n k c d (Uses deny) p q e h = h
 
 level_inner : (c d : Context) (r : Role) (p q : Plan) → c.level ≡ d.level → (inner c p r).level ≡ (inner d q r).level
-level_inner c d Node p q e = ap (λ l. l + 1) e
-level_inner c d Choice p q e = e
-level_inner c d Case p q e = e
-level_inner c d Uses p q e = e
+level_inner c d (Node deny) p q e = ap (λ l. l + 1) e
+level_inner c d (Choice deny) p q e = e
+level_inner c d (Case deny) p q e = e
+level_inner c d (Uses deny) p q e = e
 
 begins_self : (p : Plan) → Begins p p
 begins_self p = record { rest = []; levels_are = append-nil (levels p.nodes); choices_are = omega arith }
@@ -69,18 +69,18 @@ begins_on p q r a b = record {
 }
 
 begins_added : (n : ℕ) (c : Context) (r : Role) (p : Plan) → Begins p (added n c r p)
-begins_added n c Node p = record {
+begins_added n c (Node deny) p = record {
   rest = c.level ∷ [];
-  levels_are = sym (map-append (λ (n : Planned). n.level) p.nodes (node_of n c ∷ []));
+  levels_are = sym (map-append (λ (n : Planned). n.level) p.nodes (node_of n c deny ∷ []));
   choices_are = omega arith;
 }
-begins_added n c Choice p = record {
+begins_added n c (Choice deny) p = record {
   rest = [];
   levels_are = append-nil (levels p.nodes);
   choices_are = let e = more_choices p.choices (choice_of n c) in omega (arith, e);
 }
-begins_added n c Case p = begins_self p
-begins_added n c Uses p = begins_self p
+begins_added n c (Case deny) p = begins_self p
+begins_added n c (Uses deny) p = begins_self p
 
 begins_alike : (p q s : Plan) → Alike p q → Begins q s → Begins p s
 begins_alike p q s h b = record {

@@ -6,6 +6,7 @@ use Rattle.std.proofs.lemmas.List.{append-nil, length-append}
 use Rattle.std.proofs.lemmas.List.Elements.{All-cons, All-head, All-nil, All-push, All-tail}
 use Rattle.nc_schema.specs.Children.{IsAbove}
 use Rattle.nc_schema.specs.declared.node.Case.{Case as CaseNumber}
+use Rattle.nc_schema.specs.declared.node.Deny.{Deny}
 use Rattle.nc_yang_scopes.specs.Scopes.{Located, Scoping}
 use Rattle.nc_yang_nodes.specs.declared.context.Context.{Context}
 use Rattle.nc_yang_nodes.specs.declared.planned.Plan.{Plan}
@@ -101,10 +102,10 @@ above_on : (o : Option ℕ) (n m : ℕ) → n ≤ m → IsAbove o n → IsAbove 
 above_on None n m le h = h
 above_on (Some k) n m le h = let low : k < n = h in omega (arith, low, le)
 
-parent_pushed : (scoping : Scoping) (number : ℕ) (c : Context) (plan : Plan) → Fits scoping c plan → Keeps scoping plan →
-    (k : ℕ) (n : Planned) → slice_get (plan.nodes ++ node_of number c ∷ []) k ≡ Some n → IsAbove n.parent k
-parent_pushed scoping number c plan fits keeps k n e =
-    elim (get_push plan.nodes (node_of number c) n k e) [
+parent_pushed : (scoping : Scoping) (number : ℕ) (c : Context) (deny : Deny) (plan : Plan) → Fits scoping c plan → Keeps scoping plan →
+    (k : ℕ) (n : Planned) → slice_get (plan.nodes ++ node_of number c deny ∷ []) k ≡ Some n → IsAbove n.parent k
+parent_pushed scoping number c deny plan fits keeps k n e =
+    elim (get_push plan.nodes (node_of number c deny) n k e) [
       | inl old ↦ keeps.parents k n old
       | inr new ↦ subst (IsAbove n.parent) (sym new.0) (subst (λ (z : Planned). IsAbove z.parent (length plan.nodes)) new.1 fits.in_parent)
     ]
@@ -126,20 +127,20 @@ choices_grown choices more (c ∷ cs) h =
     (choices_grown choices more cs (All-tail (λ (c : PlannedChoice). AreCasesOf choices c.parent [] c.within) c cs h))
 
 added_keeps : (scoping : Scoping) (number : ℕ) (c : Context) (r : Role) (plan : Plan) → IsSome (slice_get scoping.located number) → Fits scoping c plan → Keeps scoping plan → Goes scoping plan (added number c r plan)
-added_keeps scoping number c Node plan there fits keeps = record {
+added_keeps scoping number c (Node deny) plan there fits keeps = record {
   keeps = record {
-    modules = All-push (λ (n : Planned). n.module < length scoping.texts) plan.nodes (node_of number c) keeps.modules fits.in_module;
-    statements = All-push (λ (n : Planned). IsSome (slice_get scoping.located n.statement)) plan.nodes (node_of number c) keeps.statements there;
+    modules = All-push (λ (n : Planned). n.module < length scoping.texts) plan.nodes (node_of number c deny) keeps.modules fits.in_module;
+    statements = All-push (λ (n : Planned). IsSome (slice_get scoping.located n.statement)) plan.nodes (node_of number c deny) keeps.statements there;
     of_choices = keeps.of_choices;
-    parents = parent_pushed scoping number c plan fits keeps;
-    cases = All-push (λ (n : Planned). AreCasesOf plan.choices n.parent [] n.cases) plan.nodes (node_of number c) keeps.cases fits.in_cases;
+    parents = parent_pushed scoping number c deny plan fits keeps;
+    cases = All-push (λ (n : Planned). AreCasesOf plan.choices n.parent [] n.cases) plan.nodes (node_of number c deny) keeps.cases fits.in_cases;
     outer_cases = keeps.outer_cases;
   };
   longer = simp length-append (omega arith);
   more = [];
   choices = append-nil plan.choices;
 }
-added_keeps scoping number c Choice plan there fits keeps = record {
+added_keeps scoping number c (Choice deny) plan there fits keeps = record {
   keeps = record {
     modules = keeps.modules;
     statements = keeps.statements;
@@ -155,12 +156,12 @@ added_keeps scoping number c Choice plan there fits keeps = record {
   more = choice_of number c ∷ [];
   choices = refl;
 }
-added_keeps scoping number c Case plan there fits keeps = record { keeps = keeps; longer = omega arith; more = []; choices = append-nil plan.choices }
-added_keeps scoping number c Uses plan there fits keeps = record { keeps = keeps; longer = omega arith; more = []; choices = append-nil plan.choices }
+added_keeps scoping number c (Case deny) plan there fits keeps = record { keeps = keeps; longer = omega arith; more = []; choices = append-nil plan.choices }
+added_keeps scoping number c (Uses deny) plan there fits keeps = record { keeps = keeps; longer = omega arith; more = []; choices = append-nil plan.choices }
 
 inner_fits : (scoping : Scoping) (number : ℕ) (c : Context) (r : Role) (plan : Plan) → Fits scoping c plan → Fits scoping (inner c plan r) (added number c r plan)
-inner_fits scoping number c Node plan fits = record { in_module = fits.in_module; in_parent = simp length-append (omega arith); in_cases = _ }
-inner_fits scoping number c Choice plan fits =
+inner_fits scoping number c (Node deny) plan fits = record { in_module = fits.in_module; in_parent = simp length-append (omega arith); in_cases = _ }
+inner_fits scoping number c (Choice deny) plan fits =
     let new : CaseNumber = record { choice = length plan.choices; case = 0 } in
     record {
       in_module = fits.in_module;
@@ -170,12 +171,12 @@ inner_fits scoping number c Choice plan fits =
           (cases_grown plan.choices (choice_of number c ∷ []) c.parent [] (within c) fits.in_cases)
           (record { choice = choice_of number c; is = get_last plan.choices (choice_of number c); stands = refl; after = refl });
     }
-inner_fits scoping number c Case plan fits = record {
+inner_fits scoping number c (Case deny) plan fits = record {
   in_module = fits.in_module;
   in_parent = fits.in_parent;
   in_cases = subst (AreCasesOf plan.choices c.parent []) (sym (append-nil (within c))) fits.in_cases;
 }
-inner_fits scoping number c Uses plan fits = record {
+inner_fits scoping number c (Uses deny) plan fits = record {
   in_module = fits.in_module;
   in_parent = fits.in_parent;
   in_cases = subst (AreCasesOf plan.choices c.parent []) (sym (append-nil (within c))) fits.in_cases;

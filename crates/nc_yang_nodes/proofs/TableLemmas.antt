@@ -111,10 +111,10 @@ stored_more scoping on entries number entry h count one k l it at is =
     ]
 
 plain_adds : (number : ℕ) (c : Context) (r : Role) (plan : Plan) → is_plain r ≡ true → added number c r plan ≡ plan
-plain_adds number c Node plan e = absurd (cc)
-plain_adds number c Choice plan e = absurd (cc)
-plain_adds number c Case plan e = refl
-plain_adds number c Uses plan e = refl
+plain_adds number c (Node deny) plan e = absurd (cc)
+plain_adds number c (Choice deny) plan e = absurd (cc)
+plain_adds number c (Case deny) plan e = refl
+plain_adds number c (Uses deny) plan e = refl
 
 module _ (scoping : Scoping) (on : FeatureTest) (number place child : ℕ) (entry : Entry) (found : IsChild scoping number place child) (known : IsEntry scoping on found.statement entry) where
   is_found : (l : Located) → slice_get (children_at scoping number) place ≡ Some l → found.statement ≡ l

@@ -1,6 +1,7 @@
 -- Plans that differ only in the numbers of statements that are written alike in one place.
 use Rattle.std.specs.Prelude.{◌≡◌, ℕ, List, map, Option, slice_get}
 use Rattle.nc_schema.specs.declared.node.Case.{Case as CaseNumber}
+use Rattle.nc_schema.specs.declared.node.Deny.{Deny}
 use Rattle.nc_yang_scopes.specs.Scopes.{Located, Scoping}
 use Rattle.nc_yang_nodes.specs.declared.planned.Plan.{Plan}
 use Rattle.nc_yang_nodes.specs.declared.planned.Planned.{Planned}
@@ -13,6 +14,7 @@ pub record SeenNode : Type 0 where
   pub parent : Option ℕ
   pub level : ℕ
   pub cases : List CaseNumber
+  pub deny : Deny
 
 abbrev pub seen_node : Scoping → Planned → SeenNode
 seen_node scoping p = record {
@@ -21,6 +23,7 @@ seen_node scoping p = record {
   parent = p.parent;
   level = p.level;
   cases = p.cases;
+  deny = p.deny;
 }
 
 -- a planned choice, in the same way

@@ -1,14 +1,17 @@
 -- The data nodes and choices that statements define, in document order, with groupings in place (RFC 7950 7.5 to 7.9,
--- 7.12, 7.13).
+-- 7.12, 7.13), and what access control denies at them (RFC 8341 3.5.2).
 use Rattle.std.specs.Prelude.{◌≡◌, ℕ, ◌+◌, List, [], ◌∷◌, ◌++◌, length, Option, Some, None, slice_get, option_map}
 use Rattle.nc_schema.specs.declared.node.Case.{Case as CaseNumber}
+use Rattle.nc_schema.specs.declared.node.Deny.{Deny}
+use Rattle.nc_schema.specs.declared.node.Deny.TheVariants.{Nothing}
 use Rattle.nc_yang_scopes.specs.Scopes.{Located, Scoping}
 use Rattle.nc_yang_nodes.specs.declared.context.Context.{Context}
 use Rattle.nc_yang_nodes.specs.declared.planned.Plan.{Plan}
 use Rattle.nc_yang_nodes.specs.declared.planned.Planned.{Planned}
 use Rattle.nc_yang_nodes.specs.declared.planned.PlannedChoice.{PlannedChoice}
 use Rattle.nc_yang_nodes.specs.declared.role.Role.{Role}
-use Rattle.nc_yang_nodes.specs.declared.role.Role.TheVariants.{Node, Choice}
+use Rattle.nc_yang_nodes.specs.declared.role.Role.TheVariants.{Node, Choice, Case, Uses}
+use Rattle.nc_yang_nodes.specs.Denials.{together}
 use Rattle.nc_yang_nodes.specs.Roles.{FeatureTest, block, role}
 
 abbrev pub list_of : {A : Type 0} → Option A → List A
@@ -29,37 +32,52 @@ after c = record c { next = option_map case_after c.next }
 
 -- at the top of the module of a text
 abbrev pub at_top : ℕ → Context
-at_top text = record { «module» = text; parent = None; level = 0; cases = []; next = None }
+at_top text = record { «module» = text; parent = None; level = 0; cases = []; next = None; deny = Nothing }
 
 -- for the statements of a data node that gets the next number
 abbrev pub in_node : Context → Plan → Context
 in_node c before =
     let number = length before.nodes in
-    record { «module» = c.module; parent = Some number; level = c.level + 1; cases = []; next = None }
+    record { «module» = c.module; parent = Some number; level = c.level + 1; cases = []; next = None; deny = Nothing }
 
--- for the statements of a choice, a case or a grouping, whose data nodes stand where it does
-abbrev pub in_block : Context → Option CaseNumber → Context
-in_block c next = record { «module» = c.module; parent = c.parent; level = c.level; cases = within c; next = next }
+-- for the statements of a choice, a case or a grouping, whose data nodes stand where it does. What the `choice`, `case`
+-- or `uses` statement denies it denies at each of them
+abbrev pub in_block : Context → Deny → Option CaseNumber → Context
+in_block c deny next = record {
+  «module» = c.module;
+  parent = c.parent;
+  level = c.level;
+  cases = within c;
+  next = next;
+  deny = together c.deny deny;
+}
 
 -- for the statements that are expanded where a statement stands. A grouping's nodes belong to the module that uses it
 -- (RFC 7950 7.13), and a choice's first statement is its first case
 abbrev pub inner : Context → Plan → Role → Context
-inner c before Node = in_node c before
-inner c before Choice = in_block c (Some (record { choice = length before.choices; case = 0 }))
-inner c before other = in_block c None
+inner c before (Node deny) = in_node c before
+inner c before (Choice deny) = in_block c deny (Some (record { choice = length before.choices; case = 0 }))
+inner c before (Case deny) = in_block c deny None
+inner c before (Uses deny) = in_block c deny None
 
-abbrev pub node_of : ℕ → Context → Planned
-node_of number c =
-    record { statement = number; «module» = c.module; parent = c.parent; level = c.level; cases = within c }
+abbrev pub node_of : ℕ → Context → Deny → Planned
+node_of number c deny = record {
+  statement = number;
+  «module» = c.module;
+  parent = c.parent;
+  level = c.level;
+  cases = within c;
+  deny = together c.deny deny;
+}
 
 abbrev pub choice_of : ℕ → Context → PlannedChoice
 choice_of number c = record { statement = number; parent = c.parent; within = within c }
 
 -- with what the statement of a number gives by itself: a data node or a choice, which gets the next number of its kind
 abbrev pub added : ℕ → Context → Role → Plan → Plan
-added number c Node before =
-    record before { nodes = before.nodes ++ node_of number c ∷ [] }
-added number c Choice before =
+added number c (Node deny) before =
+    record before { nodes = before.nodes ++ node_of number c deny ∷ [] }
+added number c (Choice deny) before =
     record before { choices = before.choices ++ choice_of number c ∷ [] }
 added number c other before = before
 

@@ -1,4 +1,5 @@
 pub mod FeaturesOn
+pub mod Denials
 pub mod Roles
 pub mod Supported
 pub mod Cases

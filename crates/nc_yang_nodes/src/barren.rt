@@ -14,8 +14,8 @@ fn is_plain(role: Role) -> bool
     ensures { result ≡ tables.is_plain role }
 {
     match role {
-        Role::Case | Role::Uses => true,
-        Role::Node | Role::Choice => false,
+        Role::Case(_) | Role::Uses(_) => true,
+        Role::Node(_) | Role::Choice(_) => false,
     }
 }
 

@@ -4,10 +4,11 @@ ghost use Rattle.nc_yang_nodes.specs.Expansion as expansion;
 ghost use Rattle.nc_yang_nodes.specs.Plans.{HasRoom};
 ghost use Rattle.nc_yang_nodes.specs.inner.Rooms.{fits};
 
+use crate::denial::together;
 use crate::planned::Plan;
 use crate::role::Role;
 use nc_names::{Copies, Many, Memory};
-use nc_schema::Case;
+use nc_schema::{Case, Deny};
 use std::alloc::Global;
 
 /// In which module, data node and cases statements are expanded.
@@ -23,6 +24,9 @@ pub(crate) struct Context {
     pub cases: Many<Case>,
     /// Directly in a choice, the case that the next statement is.
     pub next: Option<Case>,
+    /// What the `choice`, `case` and `uses` statements in which they stand deny, up to that data node (RFC
+    /// 8341 3.5.2).
+    pub deny: Deny,
 }
 
 // The case after a case.
@@ -50,6 +54,7 @@ impl Context {
             level: 0,
             cases: Many::new(alloc),
             next: None,
+            deny: Deny::Nothing,
         }
     }
 
@@ -87,12 +92,13 @@ impl Context {
             level: self.level + 1,
             cases: Many::new(self.cases.alloc()),
             next: None,
+            deny: Deny::Nothing,
         }
     }
 
-    // For the statements of another block.
-    fn in_block(&self, next: Option<Case>) -> Result<Context, Memory>
-        ensures { IfOk result (λ it. it ≡ expansion.in_block self.now next) }
+    // For the statements of another block, which the statement that opens it denies so.
+    fn in_block(&self, deny: Deny, next: Option<Case>) -> Result<Context, Memory>
+        ensures { IfOk result (λ it. it ≡ expansion.in_block self.now deny next) }
     {
         Ok(Context {
             module: self.module,
@@ -100,6 +106,7 @@ impl Context {
             level: self.level,
             cases: self.within()?,
             next,
+            deny: together(self.deny, deny),
         })
     }
 
@@ -110,12 +117,12 @@ impl Context {
         ensures { IfOk result (λ it. it ≡ expansion.inner self.now before.now role) }
     {
         match role {
-            Role::Node => Ok(self.in_node(before)),
-            Role::Choice => self.in_block(Some(Case {
-                choice: before.choices.len() as u32,
-                case: 0,
-            })),
-            Role::Case | Role::Uses => self.in_block(None),
+            Role::Node(_) => Ok(self.in_node(before)),
+            Role::Choice(deny) => {
+                let choice = before.choices.len() as u32;
+                self.in_block(deny, Some(Case { choice, case: 0 }))
+            }
+            Role::Case(deny) | Role::Uses(deny) => self.in_block(deny, None),
         }
     }
 }

@@ -5,6 +5,7 @@ ghost use Rattle.nc_yang_nodes.specs.FeaturesOn.{is_on};
 ghost use Rattle.nc_yang_nodes.specs.Roles as roles;
 ghost use Rattle.nc_yang_nodes.specs.inner.Tables as tables;
 
+use crate::denial::denial;
 use crate::features::Features;
 use crate::role::{Role, role_of};
 use crate::table::{Entry, child_of};
@@ -112,7 +113,7 @@ pub(crate) fn role_at<'a>(
         return None;
     }
     if is_supported(scopes, features, number, statement) {
-        role_of(kind(statement))
+        role_of(denial(scopes, number, statement), kind(statement))
     } else {
         None
     }
@@ -131,7 +132,7 @@ fn entry_of<'a>(
 {
     let role = role_at(scopes, features, number, statement);
     let block = match role {
-        Some(Role::Uses) => scopes.resolve(Keyword::Grouping, number, name(statement)),
+        Some(Role::Uses(_)) => scopes.resolve(Keyword::Grouping, number, name(statement)),
         _ => Some(number),
     };
     Entry { role, block }

@@ -1,5 +1,6 @@
 //! The data nodes and choices that YANG modules define, in document order, with groupings in place (RFC 7950
-//! 7.5 to 7.9, 7.13).
+//! 7.5 to 7.9, 7.13), and what access control denies at them by the extensions of ietf-netconf-acm (RFC 8341
+//! 3.5.2), whose text is the first.
 //!
 //! It stands on the statements of nc_yang_words under the numbers of nc_yang_scopes, on nc_yang_statements,
 //! for cases on nc_schema, and for the order of groupings on nc_yang_order.
@@ -16,6 +17,7 @@
 mod barren;
 mod cases;
 mod context;
+mod denial;
 mod entries;
 mod features;
 mod laws;

@@ -4,9 +4,10 @@ ghost use Rattle.nc_yang_nodes.specs.Expansion.{added};
 ghost use Rattle.nc_yang_nodes.specs.inner.Rooms.{fits, has_place};
 
 use crate::context::Context;
+use crate::denial::together;
 use crate::role::Role;
 use nc_names::{Many, Memory};
-use nc_schema::Case;
+use nc_schema::{Case, Deny};
 
 /// A data node (RFC 7950 3).
 #[derive(Debug, Drop, PartialEq, Eq)]
@@ -22,6 +23,9 @@ pub struct Planned {
     pub level: u32,
     /// The cases to which it belongs, the outermost first, up to its parent (RFC 7950 7.9).
     pub cases: Many<Case>,
+    /// What access control denies there without a rule: what its statement says, and the `choice`, `case` and
+    /// `uses` statements that bring it (RFC 8341 3.5.2).
+    pub deny: Deny,
 }
 
 /// A choice (RFC 7950 7.9).
@@ -64,9 +68,9 @@ impl Plan {
         ensures { result ≡ fits self.now context.now role }
     {
         match role {
-            Role::Node => self.has_place() && context.level < MOST_LEVELS,
-            Role::Choice => self.has_place(),
-            Role::Case | Role::Uses => true,
+            Role::Node(_) => self.has_place() && context.level < MOST_LEVELS,
+            Role::Choice(_) => self.has_place(),
+            Role::Case(_) | Role::Uses(_) => true,
         }
     }
 
@@ -80,19 +84,20 @@ impl Plan {
         ensures { OnOk result (self.new ≡ added statement context.now role self.old) }
     {
         match role {
-            Role::Node => self.nodes.push(Planned {
+            Role::Node(deny) => self.nodes.push(Planned {
                 statement,
                 module: context.module,
                 parent: context.parent,
                 level: context.level,
                 cases: context.within()?,
+                deny: together(context.deny, deny),
             }),
-            Role::Choice => self.choices.push(PlannedChoice {
+            Role::Choice(_) => self.choices.push(PlannedChoice {
                 statement,
                 parent: context.parent,
                 within: context.within()?,
             }),
-            Role::Case | Role::Uses => Ok(()),
+            Role::Case(_) | Role::Uses(_) => Ok(()),
         }
     }
 }

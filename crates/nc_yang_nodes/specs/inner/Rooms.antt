@@ -10,6 +10,6 @@ abbrev pub has_place : Plan → Bool
 has_place plan = nat_lt (length plan.nodes + length plan.choices) most_nodes
 
 abbrev pub fits : Plan → Context → Role → Bool
-fits plan c Node = has_place plan && nat_lt c.level most_levels
-fits plan c Choice = has_place plan
+fits plan c (Node deny) = has_place plan && nat_lt c.level most_levels
+fits plan c (Choice deny) = has_place plan
 fits plan c other = true

@@ -93,6 +93,6 @@ pub record IsTableOf (scoping : Scoping) (features : Features) (table : Table) :
 
 -- it gives nothing besides what stands in it or in its grouping
 abbrev pub is_plain : Role → Bool
-is_plain Case = true
-is_plain Uses = true
+is_plain (Case deny) = true
+is_plain (Uses deny) = true
 is_plain other = false

@@ -1,6 +1,6 @@
 -- Plans that are alike give the same data nodes, and break the same rules.
 use Rattle.std.proofs.Common.{◌≡◌, ◌+◌, ℕ, zero, suc, false, cond, List, [], ◌∷◌, ◌++◌, map, refl, sym, ap, ◌∙◌}
-use Rattle.std.specs.Prelude.{Option, Some, None, slice_get}
+use Rattle.std.specs.Prelude.{Option, slice_get}
 use Rattle.std.specs.List.{flat_map}
 use Rattle.std.specs.Option.{option_map_or}
 use Rattle.nc_schema.specs.Tables.{Tables}
@@ -32,7 +32,7 @@ map_seen seen f g same (x ∷ xs) = λ i. same x i ∷ map_seen seen f g same xs
 module _ (scoping : Scoping) (on : FeatureTest) where
   -- ---- data nodes
   abbrev planned_of : SeenNode → Planned
-  planned_of s = record { statement = 0; «module» = s.in_module; parent = s.parent; level = s.level; cases = s.cases }
+  planned_of s = record { statement = 0; «module» = s.in_module; parent = s.parent; level = s.level; cases = s.cases; deny = s.deny }
 
   abbrev draft_of : SeenNode → Node
   draft_of s =

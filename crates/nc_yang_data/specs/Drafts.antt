@@ -5,7 +5,6 @@ use Rattle.nc_names.specs.Same.{is_same_text}
 use Rattle.nc_schema.specs.Kinds.{has_entries}
 use Rattle.nc_schema.specs.NumberTexts.{number_of}
 use Rattle.nc_schema.specs.declared.node.Choice.{Choice}
-use Rattle.nc_schema.specs.declared.node.Deny.TheVariants.{Nothing}
 use Rattle.nc_schema.specs.declared.node.Kind.{Kind}
 use Rattle.nc_schema.specs.declared.node.Kind.TheVariants.{Container, Leaf, LeafList, List as ListKind}
 use Rattle.nc_schema.specs.declared.node.Node.{Node}
@@ -72,7 +71,7 @@ draft_in space p s = record {
   most = most_of (below s);
   by_user = has_entries (kind_of (kind s) (below s)) && is_by_user (below s);
   cases = p.cases;
-  deny = Nothing;
+  deny = p.deny;
 }
 
 -- of a node without a statement nothing is known; no plan has one
@@ -91,7 +90,7 @@ unknown_in space p = record {
   most = None;
   by_user = false;
   cases = p.cases;
-  deny = Nothing;
+  deny = p.deny;
 }
 
 -- a planned node by the statement that defines it

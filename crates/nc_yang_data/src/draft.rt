@@ -10,7 +10,7 @@ ghost use Rattle.nc_yang_scopes.specs.Prefixes.{namespace_in};
 
 use crate::texts::space_at;
 use nc_names::{Copies, Many, Memory, QName, Text};
-use nc_schema::{Deny, Kind, Node, read_number};
+use nc_schema::{Kind, Node, read_number};
 use nc_yang_nodes::Planned;
 use nc_yang_scopes::Scopes;
 use nc_yang_statements::{Keyword, has, is_same_keyword, kind, name, part};
@@ -142,7 +142,7 @@ fn unknown(alloc: Global, space: Text, planned: &Planned) -> Result<Node, Memory
         most: None,
         by_user: false,
         cases: planned.cases.copy()?,
-        deny: Deny::Nothing,
+        deny: planned.deny,
     })
 }
 

@@ -1,10 +1,12 @@
 -- What is found of one statement, from what the calls answer.
-use Rattle.std.proofs.Common.{◌≡◌, ◌<◌, ◌+◌, ℕ, zero, suc, List, [], ◌∷◌, ◌++◌, length, take, get_or, refl, sym, ap, ◌∙◌, subst, append_assoc, arith}
+use Rattle.std.proofs.Common.{true, ◌≡◌, ◌<◌, ◌+◌, ℕ, zero, suc, List, [], ◌∷◌, ◌++◌, length, take, get_or, refl, sym, ap, ◌∙◌, subst, append_assoc, arith}
 use Rattle.std.specs.Prelude.{Bool, Option, Some, None, Result, Ok, Err, IfOk, option_map, slice_get}
 use Rattle.std.proofs.lemmas.List.{append-nil}
 use Rattle.std.proofs.lemmas.Option.{slice_get-get_or}
 use Rattle.nc_names.specs.declared.memory.Memory.{Memory}
+use Rattle.nc_schema.specs.declared.value_type.Between.{Between}
 use Rattle.nc_schema.specs.declared.value_type.ValueType.{ValueType}
+use Rattle.nc_schema.specs.declared.value_type.ValueType.TheVariants.{Chars as String, Instance}
 use Rattle.nc_yang_words.specs.declared.statement.Statement.{Statement}
 use Rattle.nc_yang_statements.specs.declared.built_in.BuiltIn.{BuiltIn}
 use Rattle.nc_yang_statements.specs.declared.built_in.BuiltIn.TheVariants.{IdentityRef, LeafRef, Union}
@@ -21,11 +23,11 @@ use Rattle.nc_yang_statements.specs.Stops.{OnBroken}
 use Rattle.nc_yang_statements.specs.declared.stop.Stop.{Stop}
 use Rattle.nc_yang_statements.specs.declared.stop.Stop.TheVariants.{Broken as BrokenType}
 use Rattle.nc_yang_meanings.specs.Features.{stands}
-use Rattle.nc_yang_meanings.specs.Meanings.{meant}
+use Rattle.nc_yang_meanings.specs.Meanings.{DerivedFrom, Entry, Meaning, OneOf, Refers, in_text, meant, of_access, said}
 use Rattle.nc_yang_meanings.specs.Numbers.{AreNumbers, OnNumber}
 use Rattle.nc_yang_meanings.specs.Places.{built_in, parts_of}
 use Rattle.nc_yang_meanings.specs.inner.Footings.{AreFootings, IsFooting}
-use Rattle.nc_yang_meanings.specs.inner.Planning.{ArePlan, AreSoFar, HasBase, IsFound, IsOverBase, IsReady, StandsInText, Steps, footing_at, meant_with}
+use Rattle.nc_yang_meanings.specs.inner.Planning.{ArePlan, AreSoFar, HasBase, IsFound, IsOverBase, IsReady, StandsInText, Steps, footing_at, meant_with, plan_of_access, planned_in}
 use Rattle.nc_yang_meanings.specs.declared.footing.Footing.{Footing}
 use Rattle.nc_yang_meanings.specs.declared.footing.Footing.TheVariants.{OnNothing, OnType}
 use Rattle.nc_yang_meanings.specs.declared.found.Found.{Found}
@@ -33,24 +35,72 @@ use Rattle.nc_yang_meanings.specs.declared.found.Found.TheVariants.{New, Same}
 use Rattle.nc_yang_meanings.specs.declared.planned.Finding.TheVariants.{Broken, Nothing}
 use Rattle.nc_yang_meanings.specs.declared.planned.Meanings.{Meanings}
 use Rattle.nc_yang_meanings.specs.declared.planned.Planned.{Planned}
+use Rattle.nc_yang_meanings.specs.declared.planned.Planned.TheVariants.{Bases, Finished, Leafref, Members}
+use Rattle.nc_yang_meanings.specs.Plans.{IsPlan}
 use Rattle.nc_yang_meanings.proofs.MeaningLemmas.{itself_broken, itself_nothing, itself_plan, on_nothing, over_number}
 use Rattle.nc_yang_scopes.proofs.PartLemmas.{statement_is}
 use Rattle.nc_yang_meanings.proofs.TableLemmas.{base_known, footing_is, ready_within, step_more}
 
-meant_is : (on : ℕ → List ℕ → Bool) (one : BuiltIn) (l : Located) → meant on one l ≡ meant_with (own (stands on l.place.text) one (below l.statement)) one l
-meant_is on Union l = refl
-meant_is on IdentityRef l = refl
-meant_is on LeafRef l = refl
-meant_is on one l = refl
+said_is : (on : ℕ → List ℕ → Bool) (one : BuiltIn) (l : Located) → said on one l ≡ meant_with (own (stands on l.place.text) one (below l.statement)) one l
+said_is on Union l = refl
+said_is on IdentityRef l = refl
+said_is on LeafRef l = refl
+said_is on one l = refl
+
+-- what is planned in a text is of what is meant there
+access_is : (located : List Located) (entry : ValueType) (ns : List ℕ) (ps : List Located) → AreNumbers located ns ps → IsPlan located (plan_of_access entry ns) (of_access entry ps)
+access_is located (Instance need) ns ps are = (refl, are)
+access_is located (String among starless none) [] [] are = (refl, are)
+access_is located (String among starless none) [] (p ∷ ps) are = absurd (cc)
+access_is located (String among starless none) (n ∷ ns) [] are = absurd (cc)
+access_is located (String among starless none) (n ∷ ns) (p ∷ ps) are = (refl, refl)
+access_is located entry ns ps are = (refl, are)
+
+-- a string with patterns, and one without
+pub plan_of_some : (among : List Between) (starless : Bool) (none ns : List ℕ) → (ns ≡ [] → ⊥) → Finished (String among true none) [] ≡ plan_of_access (String among starless none) ns
+plan_of_some among starless none [] h = absurd (h refl)
+plan_of_some among starless none (n ∷ ns) h = refl
+
+pub plan_of_none : (among : List Between) (starless : Bool) (none ns : List ℕ) → ns ≡ [] → Finished (String among starless none) ns ≡ plan_of_access (String among starless none) ns
+plan_of_none among starless none [] h = refl
+plan_of_none among starless none (n ∷ ns) h = absurd (cc)
+
+plan_in : (located : List Located) (text : ℕ) (planned : Planned) (m : Meaning) → IsPlan located planned m → IsPlan located (planned_in text planned) (in_text text m)
+plan_in located (suc text) planned m is = is
+plan_in located zero (Finished entry ns) (Entry other ps) is = subst (λ z. IsPlan located (plan_of_access entry ns) (of_access z ps)) is.0 (access_is located entry ns ps is.1)
+plan_in located zero (Finished entry ns) (OneOf ls) is = absurd is
+plan_in located zero (Finished entry ns) (DerivedFrom ls) is = absurd is
+plan_in located zero (Finished entry ns) (Refers path need) is = absurd is
+plan_in located zero (Members ns) (Entry other ps) is = absurd is
+plan_in located zero (Members ns) (OneOf ls) is = is
+plan_in located zero (Members ns) (DerivedFrom ls) is = absurd is
+plan_in located zero (Members ns) (Refers path need) is = absurd is
+plan_in located zero (Bases ns) (Entry other ps) is = absurd is
+plan_in located zero (Bases ns) (OneOf ls) is = absurd is
+plan_in located zero (Bases ns) (DerivedFrom ls) is = is
+plan_in located zero (Bases ns) (Refers path need) is = absurd is
+plan_in located zero (Leafref n b) (Entry other ps) is = absurd is
+plan_in located zero (Leafref n b) (OneOf ls) is = absurd is
+plan_in located zero (Leafref n b) (DerivedFrom ls) is = absurd is
+plan_in located zero (Leafref n b) (Refers path need) is = is
+
+plans_in : (located : List Located) (text : ℕ) (o : Option Planned) (m : Option Meaning) → ArePlan located o m → ArePlan located (option_map (planned_in text) o) (option_map (in_text text) m)
+plans_in located text None None are = tt
+plans_in located text None (Some m) are = absurd are
+plans_in located text (Some planned) None are = absurd are
+plans_in located text (Some planned) (Some m) are = plan_in located text planned m are
 
 module _ (scoping : Scoping) (n : ℕ) (s : Statement) (number : HasNumber scoping n s) where
-  pub plan_is : (text : ℕ) → StandsInText scoping n text → (on : ℕ → List ℕ → Bool) (one : BuiltIn) (entry : Option ValueType) (it : Option Planned) → own (stands on text) one (below s) ≡ entry →
-      OnNumber scoping n (λ l. ArePlan scoping.located it (meant_with entry one l)) → OnNumber scoping n (λ l. ArePlan scoping.located it (meant on one l))
-  plan_is text in_text on one entry it is plan = λ l here.
+  pub plan_is : (text : ℕ) → StandsInText scoping n text → (on : ℕ → List ℕ → Bool) (one : BuiltIn) (entry : Option ValueType) (it planned : Option Planned) → own (stands on text) one (below s) ≡ entry →
+      OnNumber scoping n (λ l. ArePlan scoping.located it (meant_with entry one l)) → planned ≡ option_map (planned_in text) it →
+      OnNumber scoping n (λ l. ArePlan scoping.located planned (meant on one l))
+  plan_is text stands_there on one entry it planned is plan moved = λ l here.
       let same = statement_is scoping n s l number here in
-      let text_is : l.place.text ≡ text = (let e : Some l.place.text ≡ Some text = sym (ap (option_map (λ (k : Located). k.place.text)) here) ∙ in_text in cc) in
+      let text_is : l.place.text ≡ text = (let e : Some l.place.text ≡ Some text = sym (ap (option_map (λ (k : Located). k.place.text)) here) ∙ stands_there in cc) in
       let entry_is : entry ≡ own (stands on l.place.text) one (below l.statement) = sym (ap (λ t. own (stands on t) one (below l.statement)) text_is ∙ ap (λ z. own (stands on text) one (below z)) same ∙ is) in
-      subst (ArePlan scoping.located it) (ap (λ e. meant_with e one l) entry_is ∙ sym (meant_is on one l)) (plan l here)
+      let as_said = subst (ArePlan scoping.located it) (ap (λ e. meant_with e one l) entry_is ∙ sym (said_is on one l)) (plan l here) in
+      subst (λ z. ArePlan scoping.located z (meant on one l)) (sym (moved ∙ ap (λ t. option_map (planned_in t) it) (sym text_is)))
+      (plans_in scoping.located l.place.text it (said on one l) as_said)
 
   module _ (on : ℕ → List ℕ → Bool) (l : Located) (here : slice_get scoping.located n ≡ Some l) (one : BuiltIn) (built : built_in l ≡ Some one) (plans : List Planned) where
     pub found_plan : (field : Option Planned) (planned : Planned) → field ≡ Some planned → own_faults one s ≡ [] → ArePlan scoping.located field (meant on one l) → IsFound on scoping plans l (New planned)

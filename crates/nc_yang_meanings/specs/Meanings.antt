@@ -1,9 +1,9 @@
 -- What a `type` statement means (RFC 7950 7.3, 7.4, 9). Types whose parts break a rule mean nothing, and neither does one
 -- that leads to such a type, to no type, or back to itself.
-use Rattle.std.specs.Prelude.{◌≡◌, ℕ, Bool, true, List, [], ◌++◌, Option, Some, None, option_map, Contains}
+use Rattle.std.specs.Prelude.{◌≡◌, ℕ, zero, suc, Bool, true, List, [], ◌∷◌, ◌++◌, Option, Some, None, option_map, Contains}
 use Rattle.nc_schema.specs.declared.value_type.ValueType.{ValueType}
-use Rattle.nc_schema.specs.declared.value_type.ValueType.TheVariants.{Union as UnionType, Identity as IdentityType}
-use Rattle.nc_schema.specs.declared.value_type.ValueType.TheVariants.{Leafref as LeafrefType}
+use Rattle.nc_schema.specs.declared.value_type.ValueType.TheVariants.{Chars as String, Union as UnionType, Identity as IdentityType}
+use Rattle.nc_schema.specs.declared.value_type.ValueType.TheVariants.{Leafref as LeafrefType, Instance, NodeInstance}
 use Rattle.nc_yang_words.specs.declared.statement.Statement.{Statement}
 use Rattle.nc_yang_statements.specs.declared.built_in.BuiltIn.{BuiltIn}
 use Rattle.nc_yang_statements.specs.declared.built_in.BuiltIn.TheVariants.{IdentityRef, LeafRef, Union}
@@ -24,12 +24,29 @@ pub data Meaning : Type 0 where
   DerivedFrom : List Located → Meaning
   Refers : Located → Bool → Meaning
 
+-- what a built-in type says with the parts of a statement
+abbrev pub said : (on : ℕ → List ℕ → Bool) → BuiltIn → Located → Option Meaning
+said on Union l = Some (OneOf (parts_of TypeName l))
+said on IdentityRef l = Some (DerivedFrom (parts_of Base l))
+said on LeafRef l = option_map (λ path. Refers path (required true (below l.statement))) (part_of Path l)
+said on one l = option_map (λ entry. Entry entry (parts_of Pattern l)) (own (stands on l.place.text) one (below l.statement))
+
+-- in the module ietf-netconf-acm an instance identifier may leave out keys (`node-instance-identifier`), and the one
+-- pattern, that of `group-name-type`, says that a name does not begin with `*` (RFC 8341 3.5.2)
+abbrev pub of_access : ValueType → (patterns : List Located) → Meaning
+of_access (Instance need) patterns = Entry NodeInstance patterns
+of_access (String among starless none) (p ∷ patterns) = Entry (String among true none) []
+of_access entry patterns = Entry entry patterns
+
+-- what is said means that in the text of a number, of which the first is that module's
+abbrev pub in_text : (text : ℕ) → Meaning → Meaning
+in_text zero (Entry entry patterns) = of_access entry patterns
+in_text zero m = m
+in_text (suc text) m = m
+
 -- what a built-in type means with the parts of a statement
 abbrev pub meant : (on : ℕ → List ℕ → Bool) → BuiltIn → Located → Option Meaning
-meant on Union l = Some (OneOf (parts_of TypeName l))
-meant on IdentityRef l = Some (DerivedFrom (parts_of Base l))
-meant on LeafRef l = option_map (λ path. Refers path (required true (below l.statement))) (part_of Path l)
-meant on one l = option_map (λ entry. Entry entry (parts_of Pattern l)) (own (stands on l.place.text) one (below l.statement))
+meant on one l = option_map (in_text l.place.text) (said on one l)
 
 -- its kind, by which it is known which parts may stand in a type over it
 abbrev pub shape : Meaning → ValueType

@@ -1,5 +1,6 @@
 //! Plans of types over built-in types.
-ghost use Rattle.std.specs.Prelude.{◌≡◌, [], None, IfOk, IfErr, OnOk};
+ghost use Rattle.std.specs.Prelude.{◌≡◌, [], None, option_map, IfOk, IfErr, OnOk};
+ghost use Rattle.nc_schema.specs.declared.value_type.ValueType.TheVariants.{Chars};
 ghost use Rattle.nc_yang_statements.specs.declared.built_in.BuiltIn.TheVariants.{LeafRef};
 ghost use Rattle.nc_yang_statements.specs.Rules as rules;
 ghost use Rattle.nc_yang_statements.specs.Statements as statements;
@@ -8,17 +9,91 @@ ghost use Rattle.nc_yang_statements.specs.Stops.{OnBroken};
 ghost use Rattle.nc_yang_scopes.specs.inner.Naming.{HasNumber};
 ghost use Rattle.nc_yang_meanings.specs.Meanings as meanings;
 ghost use Rattle.nc_yang_meanings.specs.Numbers.{OnNumber};
-ghost use Rattle.nc_yang_meanings.specs.inner.Planning.{ArePlan, StandsInText, meant_with};
+ghost use Rattle.nc_yang_meanings.specs.inner.Planning.{ArePlan, StandsInText, meant_with, plan_of_access, planned_in};
 
 use crate::features::{Features, InText};
 use crate::planned::Planned;
-use nc_names::Memory;
-use nc_schema::ValueType;
+use nc_names::{Many, Memory};
+use nc_schema::{Between, ValueType};
 use nc_yang_scopes::{Scopes, part_of, parts_of};
 use nc_yang_statements::{BuiltIn, Fault, Keyword, Stop};
 use nc_yang_types::{own, required};
 use nc_yang_words::Statement;
 use std::alloc::Global;
+
+/// The number of the text of the module ietf-netconf-acm.
+const ACCESS_TEXT: usize = 0;
+
+// The plan of a string of ietf-netconf-acm, whose pattern is that of a group's name.
+fn plan_of_name(
+    alloc: Global,
+    lengths: Many<Between>,
+    starless: bool,
+    numbers: Many<u32>,
+    patterns: Many<usize>,
+) -> Planned
+    ensures { result ≡ plan_of_access (Chars lengths starless numbers) patterns }
+{
+    if patterns.is_empty() {
+        return Planned::Finished {
+            entry: ValueType::Chars {
+                lengths,
+                starless,
+                patterns: numbers,
+            },
+            patterns,
+        };
+    }
+    Planned::Finished {
+        entry: ValueType::Chars {
+            lengths,
+            starless: true,
+            patterns: numbers,
+        },
+        patterns: Many::new(alloc),
+    }
+}
+
+// The plan of an entry of ietf-netconf-acm (RFC 8341 3.5.2).
+fn plan_of_access(alloc: Global, entry: ValueType, patterns: Many<usize>) -> Planned
+    ensures { result ≡ plan_of_access entry patterns }
+{
+    match entry {
+        ValueType::Instance { .. } => Planned::Finished {
+            entry: ValueType::NodeInstance,
+            patterns,
+        },
+        ValueType::Chars {
+            lengths,
+            starless,
+            patterns: numbers,
+        } => plan_of_name(alloc, lengths, starless, numbers, patterns),
+        entry => Planned::Finished { entry, patterns },
+    }
+}
+
+// What is planned in the text of a number.
+fn planned_in(alloc: Global, text: usize, planned: Planned) -> Planned
+    ensures { result ≡ planned_in text planned }
+{
+    if text != ACCESS_TEXT {
+        return planned;
+    }
+    match planned {
+        Planned::Finished { entry, patterns } => plan_of_access(alloc, entry, patterns),
+        other => other,
+    }
+}
+
+// The same, where something is planned.
+fn in_text(alloc: Global, text: usize, planned: Option<Planned>) -> Option<Planned>
+    ensures { result ≡ option_map (planned_in text) planned }
+{
+    match planned {
+        Some(planned) => Some(planned_in(alloc, text, planned)),
+        None => None,
+    }
+}
 
 // The plan of a leafref.
 fn leafref(scopes: &Scopes, number: usize, statement: &Statement) -> Option<Planned>
@@ -88,5 +163,6 @@ pub(crate) fn by_itself<'a, F: Features<'a>>(
 {
     let conditions = InText { features, text };
     let entry = own(alloc, &conditions, one, statement)?;
-    Ok(plan_of(alloc, scopes, number, one, statement, entry)?)
+    let planned = plan_of(alloc, scopes, number, one, statement, entry)?;
+    Ok(in_text(alloc, text, planned))
 }

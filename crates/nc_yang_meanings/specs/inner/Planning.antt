@@ -1,9 +1,9 @@
 -- Plans of types by themselves and over others.
-use Rattle.std.specs.Prelude.{◌≡◌, ℕ, Bool, true, List, [], ◌∷◌, ◌++◌, length, Option, Some, None, option_map}
+use Rattle.std.specs.Prelude.{◌≡◌, ℕ, zero, suc, Bool, true, List, [], ◌∷◌, ◌++◌, length, Option, Some, None, option_map}
 use Rattle.std.specs.Prelude.{replicate, unwrap_or, slice_get, slice_set, IsSomeAnd, Contains, ◌⊎◌}
 use Rattle.nc_schema.specs.declared.value_type.ValueType.{ValueType}
-use Rattle.nc_schema.specs.declared.value_type.ValueType.TheVariants.{Union as UnionType, Identity as IdentityType}
-use Rattle.nc_schema.specs.declared.value_type.ValueType.TheVariants.{Leafref as LeafrefType}
+use Rattle.nc_schema.specs.declared.value_type.ValueType.TheVariants.{Chars as String, Union as UnionType, Identity as IdentityType}
+use Rattle.nc_schema.specs.declared.value_type.ValueType.TheVariants.{Leafref as LeafrefType, Instance, NodeInstance}
 use Rattle.nc_yang_words.specs.declared.statement.Statement.{Statement}
 use Rattle.nc_yang_statements.specs.declared.built_in.BuiltIn.{BuiltIn}
 use Rattle.nc_yang_statements.specs.declared.built_in.BuiltIn.TheVariants.{IdentityRef, LeafRef, Union}
@@ -32,7 +32,19 @@ use Rattle.nc_yang_meanings.specs.Plans.{IsFinding, IsPlan}
 abbrev pub StandsInText : Scoping → ℕ → ℕ → Type 0
 StandsInText scoping number text = option_map (λ l. l.place.text) (slice_get scoping.located number) ≡ Some text
 
--- what a built-in type means whose entry by its own parts is given
+-- the plan of an entry of ietf-netconf-acm
+abbrev pub plan_of_access : ValueType → (patterns : List ℕ) → Planned
+plan_of_access (Instance need) patterns = Finished NodeInstance patterns
+plan_of_access (String among starless none) (number ∷ patterns) = Finished (String among true none) []
+plan_of_access entry patterns = Finished entry patterns
+
+-- what is planned in the text of a number
+abbrev pub planned_in : (text : ℕ) → Planned → Planned
+planned_in zero (Finished entry patterns) = plan_of_access entry patterns
+planned_in zero planned = planned
+planned_in (suc text) planned = planned
+
+-- what a built-in type says whose entry by its own parts is given
 abbrev pub meant_with : Option ValueType → BuiltIn → Located → Option Meaning
 meant_with entry Union l = Some (OneOf (parts_of TypeName l))
 meant_with entry IdentityRef l = Some (DerivedFrom (parts_of Base l))

@@ -1,5 +1,5 @@
 -- The patterns of types: by the numbers of their statements, and by those that a schema gives them.
-use Rattle.std.proofs.Common.{◌≡◌, ◌<◌, ℕ, suc, Bool, true, false, cond, List, [], ◌∷◌, ◌++◌, length, map, get_or, Option, Some, None, refl, sym, ap, ◌∙◌, subst, arith}
+use Rattle.std.proofs.Common.{◌≡◌, ◌<◌, ℕ, suc, Bool, true, false, cond, List, [], ◌∷◌, ◌++◌, length, map, get_or, Option, Some, None, refl, sym, ap, ◌∙◌, subst, arith, zero}
 use Rattle.std.specs.Prelude.{IsSomeAnd, filter, option_map, slice_get}
 use Rattle.std.specs.List.{All}
 use Rattle.std.proofs.lemmas.List.{get_or-map, length-map}
@@ -12,7 +12,7 @@ use Rattle.nc_schema.specs.declared.node.Node.{Node}
 use Rattle.nc_schema.specs.declared.pattern.LeafrefEnd.{LeafrefEnd}
 use Rattle.nc_schema.specs.declared.value_type.Between.{Between}
 use Rattle.nc_schema.specs.declared.value_type.ValueType.{ValueType}
-use Rattle.nc_schema.specs.declared.value_type.ValueType.TheVariants.{Chars as String, Empty as Nothing, Union as UnionType, Identity as IdentityType, Leafref as LeafrefType}
+use Rattle.nc_schema.specs.declared.value_type.ValueType.TheVariants.{Chars as String, Empty as Nothing, Union as UnionType, Identity as IdentityType, Leafref as LeafrefType, Instance}
 use Rattle.nc_schema.specs.Tables.{NamesPatterns, Tables}
 use Rattle.nc_yang_order.proofs.Lists.{contains_at}
 use Rattle.nc_yang_words.specs.declared.statement.Statement.{Statement}
@@ -28,7 +28,7 @@ use Rattle.nc_yang_scopes.specs.Scopes.{Located}
 use Rattle.nc_yang_types.specs.Entries.{narrowed, own, required}
 use Rattle.nc_yang_types.proofs.PatternLemmas.{AreRead, narrowed_read, own_read}
 use Rattle.nc_yang_meanings.specs.Features.{stands}
-use Rattle.nc_yang_meanings.specs.Meanings.{DerivedFrom, Entry, Meaning, Means, OneOf, Refers, by_itself, meant, over, shape, with_parts}
+use Rattle.nc_yang_meanings.specs.Meanings.{DerivedFrom, Entry, Meaning, Means, OneOf, Refers, by_itself, in_text, meant, of_access, over, said, shape, with_parts}
 use Rattle.nc_yang_meanings.specs.Wholes.{members_of}
 use Rattle.nc_yang_leafs.specs.declared.bare.Typed.{Typed}
 use Rattle.nc_yang_leafs.specs.Bases.{Basis, leads}
@@ -222,11 +222,30 @@ as_read f (Some x) m h e = let same : f x ≡ m = cc in subst ReadsAll same (h x
 is_read : (one m : Meaning) → ReadsAll one → Some one ≡ Some m → ReadsAll m
 is_read one m h e = let same : one ≡ m = cc in subst ReadsAll same h
 
+said_reads : (on : ℕ → List ℕ → Bool) (one : BuiltIn) (l : Located) (m : Meaning) → All (λ (p : Located). IsPattern (name p.statement)) (parts_of Pattern l) → said on one l ≡ Some m → ReadsAll m
+said_reads on Union l m h e = is_read (OneOf (parts_of TypeName l)) m tt e
+said_reads on IdentityRef l m h e = is_read (DerivedFrom (parts_of Base l)) m tt e
+said_reads on LeafRef l m h e = as_read (λ path. Refers path (required true (below l.statement))) (part_of Path l) m (λ path. tt) e
+said_reads on one l m h e = as_read (λ entry. Entry entry (parts_of Pattern l)) (own (stands on l.place.text) one (below l.statement)) m (λ entry. h) e
+
+access_reads : (entry : ValueType) (patterns : List Located) → All (λ (p : Located). IsPattern (name p.statement)) patterns → ReadsAll (of_access entry patterns)
+access_reads (Instance need) patterns h = h
+access_reads (String among starless blank) (p ∷ patterns) h = All-nil (λ (p : Located). IsPattern (name p.statement))
+access_reads entry patterns h = h
+
+text_reads : (text : ℕ) (m : Meaning) → ReadsAll m → ReadsAll (in_text text m)
+text_reads zero (Entry entry patterns) h = access_reads entry patterns h
+text_reads zero (OneOf members) h = h
+text_reads zero (DerivedFrom bases) h = h
+text_reads zero (Refers path need) h = h
+text_reads (suc text) m h = h
+
 meant_reads : (on : ℕ → List ℕ → Bool) (one : BuiltIn) (l : Located) (m : Meaning) → All (λ (p : Located). IsPattern (name p.statement)) (parts_of Pattern l) → meant on one l ≡ Some m → ReadsAll m
-meant_reads on Union l m h e = is_read (OneOf (parts_of TypeName l)) m tt e
-meant_reads on IdentityRef l m h e = is_read (DerivedFrom (parts_of Base l)) m tt e
-meant_reads on LeafRef l m h e = as_read (λ path. Refers path (required true (below l.statement))) (part_of Path l) m (λ path. tt) e
-meant_reads on one l m h e = as_read (λ entry. Entry entry (parts_of Pattern l)) (own (stands on l.place.text) one (below l.statement)) m (λ entry. h) e
+meant_reads on one l m h e = by (said on one l) refl e
+  where
+    by : (o : Option Meaning) → said on one l ≡ o → option_map (in_text l.place.text) o ≡ Some m → ReadsAll m
+    by None is e = absurd (cc)
+    by (Some n) is e = let same : in_text l.place.text n ≡ m = cc in subst ReadsAll same (text_reads l.place.text n (said_reads on one l n h is))
 
 parts_read : (n m : Meaning) (l : Located) → ReadsAll n → All (λ (p : Located). IsPattern (name p.statement)) (parts_of Pattern l) → with_parts n l ≡ Some m → ReadsAll m
 parts_read (Entry base patterns) m l before h e =

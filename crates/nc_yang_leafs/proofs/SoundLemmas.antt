@@ -1,5 +1,5 @@
 -- What a `type` statement says by its own parts is in order: digits of decimals, names of bits.
-use Rattle.std.proofs.Common.{◌≡◌, ◌≢◌, ◌≤◌, sym, ◌++◌, ◌&&◌, ℕ, Bool, true, false, cond, List, [], Option, Some, None, refl, subst, arith}
+use Rattle.std.proofs.Common.{◌≡◌, ◌≢◌, ◌≤◌, sym, ◌++◌, ◌&&◌, ℕ, Bool, true, false, cond, List, [], Option, Some, None, refl, subst, arith, zero, suc, ◌∷◌, ◌∙◌}
 use Rattle.std.specs.Prelude.{ℤ, pos, negsuc, nat_le, option_map}
 use Rattle.std.specs.List.{AllPairs}
 use Rattle.nc_schema.specs.NumberTexts.{number_of}
@@ -17,7 +17,7 @@ use Rattle.nc_yang_types.specs.declared.bound.Counted.TheVariants.{Units, Length
 use Rattle.nc_yang_types.specs.Entries.{decimal, decimals, digits_by, digits_in, digits_of, integers, lengths, narrowed, own, own_faults, required, restricted}
 use Rattle.nc_yang_types.specs.Members.{bit_names, enum_names}
 use Rattle.nc_yang_meanings.specs.Features.{stands}
-use Rattle.nc_yang_meanings.specs.Meanings.{DerivedFrom, Entry, Meaning, Means, OneOf, Refers, by_itself, meant, over, with_parts}
+use Rattle.nc_yang_meanings.specs.Meanings.{DerivedFrom, Entry, Meaning, Means, OneOf, Refers, by_itself, in_text, meant, of_access, over, said, with_parts}
 use Rattle.nc_yang_meanings.specs.Places.{part_of, parts_of}
 use Rattle.nc_yang_leafs.specs.Typings.{IsPatterned}
 use Rattle.nc_yang_types.proofs.ApartLemmas.{names_apart}
@@ -109,26 +109,44 @@ as_meant f (Some x) m sound e = let same : f x ≡ m = cc in subst IsSoundMeanin
 is_meant : (one m : Meaning) → IsSoundMeaning one → Some one ≡ Some m → IsSoundMeaning m
 is_meant one m sound e = let same : one ≡ m = cc in subst IsSoundMeaning same sound
 
+said_sound : (on : ℕ → List ℕ → Bool) (one : BuiltIn) (l : Located) (m : Meaning) → own_faults one l.statement ≡ [] → said on one l ≡ Some m → IsSoundMeaning m
+said_sound on Union l m off e = is_meant (OneOf (parts_of TypeName l)) m tt e
+said_sound on IdentityRef l m off e = is_meant (DerivedFrom (parts_of Base l)) m tt e
+said_sound on LeafRef l m off e = as_meant (λ path. Refers path (required true (below l.statement))) (part_of Path l) m (λ path f. tt) e
+said_sound on Binary l m off e = as_meant (λ entry. Entry entry (parts_of Pattern l)) (own (stands on l.place.text) Binary (below l.statement)) m (λ entry f. own_sound (stands on l.place.text) Binary l.statement entry off f) e
+said_sound on Bits l m off e = as_meant (λ entry. Entry entry (parts_of Pattern l)) (own (stands on l.place.text) Bits (below l.statement)) m (λ entry f. own_sound (stands on l.place.text) Bits l.statement entry off f) e
+said_sound on Boolean l m off e = as_meant (λ entry. Entry entry (parts_of Pattern l)) (own (stands on l.place.text) Boolean (below l.statement)) m (λ entry f. own_sound (stands on l.place.text) Boolean l.statement entry off f) e
+said_sound on Decimal64 l m off e = as_meant (λ entry. Entry entry (parts_of Pattern l)) (own (stands on l.place.text) Decimal64 (below l.statement)) m (λ entry f. own_sound (stands on l.place.text) Decimal64 l.statement entry off f) e
+said_sound on Empty l m off e = as_meant (λ entry. Entry entry (parts_of Pattern l)) (own (stands on l.place.text) Empty (below l.statement)) m (λ entry f. own_sound (stands on l.place.text) Empty l.statement entry off f) e
+said_sound on Enumeration l m off e = as_meant (λ entry. Entry entry (parts_of Pattern l)) (own (stands on l.place.text) Enumeration (below l.statement)) m (λ entry f. own_sound (stands on l.place.text) Enumeration l.statement entry off f) e
+said_sound on InstanceIdentifier l m off e = as_meant (λ entry. Entry entry (parts_of Pattern l)) (own (stands on l.place.text) InstanceIdentifier (below l.statement)) m (λ entry f. own_sound (stands on l.place.text) InstanceIdentifier l.statement entry off f) e
+said_sound on Int8 l m off e = as_meant (λ entry. Entry entry (parts_of Pattern l)) (own (stands on l.place.text) Int8 (below l.statement)) m (λ entry f. own_sound (stands on l.place.text) Int8 l.statement entry off f) e
+said_sound on Int16 l m off e = as_meant (λ entry. Entry entry (parts_of Pattern l)) (own (stands on l.place.text) Int16 (below l.statement)) m (λ entry f. own_sound (stands on l.place.text) Int16 l.statement entry off f) e
+said_sound on Int32 l m off e = as_meant (λ entry. Entry entry (parts_of Pattern l)) (own (stands on l.place.text) Int32 (below l.statement)) m (λ entry f. own_sound (stands on l.place.text) Int32 l.statement entry off f) e
+said_sound on Int64 l m off e = as_meant (λ entry. Entry entry (parts_of Pattern l)) (own (stands on l.place.text) Int64 (below l.statement)) m (λ entry f. own_sound (stands on l.place.text) Int64 l.statement entry off f) e
+said_sound on Chars l m off e = as_meant (λ entry. Entry entry (parts_of Pattern l)) (own (stands on l.place.text) Chars (below l.statement)) m (λ entry f. own_sound (stands on l.place.text) Chars l.statement entry off f) e
+said_sound on Uint8 l m off e = as_meant (λ entry. Entry entry (parts_of Pattern l)) (own (stands on l.place.text) Uint8 (below l.statement)) m (λ entry f. own_sound (stands on l.place.text) Uint8 l.statement entry off f) e
+said_sound on Uint16 l m off e = as_meant (λ entry. Entry entry (parts_of Pattern l)) (own (stands on l.place.text) Uint16 (below l.statement)) m (λ entry f. own_sound (stands on l.place.text) Uint16 l.statement entry off f) e
+said_sound on Uint32 l m off e = as_meant (λ entry. Entry entry (parts_of Pattern l)) (own (stands on l.place.text) Uint32 (below l.statement)) m (λ entry f. own_sound (stands on l.place.text) Uint32 l.statement entry off f) e
+said_sound on Uint64 l m off e = as_meant (λ entry. Entry entry (parts_of Pattern l)) (own (stands on l.place.text) Uint64 (below l.statement)) m (λ entry f. own_sound (stands on l.place.text) Uint64 l.statement entry off f) e
+
+access_sound : (entry : ValueType) (patterns : List Located) → IsSound entry → IsSoundMeaning (of_access entry patterns)
+access_sound (Instance need) patterns h = tt
+access_sound (String among starless none) (p ∷ patterns) h = tt
+access_sound entry patterns h = h
+
+text_sound : (text : ℕ) (m : Meaning) → IsSoundMeaning m → IsSoundMeaning (in_text text m)
+text_sound zero (Entry entry patterns) h = access_sound entry patterns h
+text_sound zero (OneOf members) h = h
+text_sound zero (DerivedFrom bases) h = h
+text_sound zero (Refers path need) h = h
+text_sound (suc text) m h = h
+
 meant_sound : (on : ℕ → List ℕ → Bool) (one : BuiltIn) (l : Located) (m : Meaning) → own_faults one l.statement ≡ [] → meant on one l ≡ Some m → IsSoundMeaning m
-meant_sound on Union l m off e = is_meant (OneOf (parts_of TypeName l)) m tt e
-meant_sound on IdentityRef l m off e = is_meant (DerivedFrom (parts_of Base l)) m tt e
-meant_sound on LeafRef l m off e = as_meant (λ path. Refers path (required true (below l.statement))) (part_of Path l) m (λ path f. tt) e
-meant_sound on Binary l m off e = as_meant (λ entry. Entry entry (parts_of Pattern l)) (own (stands on l.place.text) Binary (below l.statement)) m (λ entry f. own_sound (stands on l.place.text) Binary l.statement entry off f) e
-meant_sound on Bits l m off e = as_meant (λ entry. Entry entry (parts_of Pattern l)) (own (stands on l.place.text) Bits (below l.statement)) m (λ entry f. own_sound (stands on l.place.text) Bits l.statement entry off f) e
-meant_sound on Boolean l m off e = as_meant (λ entry. Entry entry (parts_of Pattern l)) (own (stands on l.place.text) Boolean (below l.statement)) m (λ entry f. own_sound (stands on l.place.text) Boolean l.statement entry off f) e
-meant_sound on Decimal64 l m off e = as_meant (λ entry. Entry entry (parts_of Pattern l)) (own (stands on l.place.text) Decimal64 (below l.statement)) m (λ entry f. own_sound (stands on l.place.text) Decimal64 l.statement entry off f) e
-meant_sound on Empty l m off e = as_meant (λ entry. Entry entry (parts_of Pattern l)) (own (stands on l.place.text) Empty (below l.statement)) m (λ entry f. own_sound (stands on l.place.text) Empty l.statement entry off f) e
-meant_sound on Enumeration l m off e = as_meant (λ entry. Entry entry (parts_of Pattern l)) (own (stands on l.place.text) Enumeration (below l.statement)) m (λ entry f. own_sound (stands on l.place.text) Enumeration l.statement entry off f) e
-meant_sound on InstanceIdentifier l m off e = as_meant (λ entry. Entry entry (parts_of Pattern l)) (own (stands on l.place.text) InstanceIdentifier (below l.statement)) m (λ entry f. own_sound (stands on l.place.text) InstanceIdentifier l.statement entry off f) e
-meant_sound on Int8 l m off e = as_meant (λ entry. Entry entry (parts_of Pattern l)) (own (stands on l.place.text) Int8 (below l.statement)) m (λ entry f. own_sound (stands on l.place.text) Int8 l.statement entry off f) e
-meant_sound on Int16 l m off e = as_meant (λ entry. Entry entry (parts_of Pattern l)) (own (stands on l.place.text) Int16 (below l.statement)) m (λ entry f. own_sound (stands on l.place.text) Int16 l.statement entry off f) e
-meant_sound on Int32 l m off e = as_meant (λ entry. Entry entry (parts_of Pattern l)) (own (stands on l.place.text) Int32 (below l.statement)) m (λ entry f. own_sound (stands on l.place.text) Int32 l.statement entry off f) e
-meant_sound on Int64 l m off e = as_meant (λ entry. Entry entry (parts_of Pattern l)) (own (stands on l.place.text) Int64 (below l.statement)) m (λ entry f. own_sound (stands on l.place.text) Int64 l.statement entry off f) e
-meant_sound on Chars l m off e = as_meant (λ entry. Entry entry (parts_of Pattern l)) (own (stands on l.place.text) Chars (below l.statement)) m (λ entry f. own_sound (stands on l.place.text) Chars l.statement entry off f) e
-meant_sound on Uint8 l m off e = as_meant (λ entry. Entry entry (parts_of Pattern l)) (own (stands on l.place.text) Uint8 (below l.statement)) m (λ entry f. own_sound (stands on l.place.text) Uint8 l.statement entry off f) e
-meant_sound on Uint16 l m off e = as_meant (λ entry. Entry entry (parts_of Pattern l)) (own (stands on l.place.text) Uint16 (below l.statement)) m (λ entry f. own_sound (stands on l.place.text) Uint16 l.statement entry off f) e
-meant_sound on Uint32 l m off e = as_meant (λ entry. Entry entry (parts_of Pattern l)) (own (stands on l.place.text) Uint32 (below l.statement)) m (λ entry f. own_sound (stands on l.place.text) Uint32 l.statement entry off f) e
-meant_sound on Uint64 l m off e = as_meant (λ entry. Entry entry (parts_of Pattern l)) (own (stands on l.place.text) Uint64 (below l.statement)) m (λ entry f. own_sound (stands on l.place.text) Uint64 l.statement entry off f) e
+meant_sound on one l m off e = by (said on one l) refl e
+  where
+    by : (o : Option Meaning) → said on one l ≡ o → option_map (in_text l.place.text) o ≡ Some m → IsSoundMeaning m
+    by o is e = as_meant (in_text l.place.text) o m (λ n f. text_sound l.place.text n (said_sound on one l n off (is ∙ f))) e
 
 parts_sound : (n m : Meaning) (l : Located) → IsSoundMeaning n → with_parts n l ≡ Some m → IsSoundMeaning m
 parts_sound (Entry base patterns) m l h e =
@@ -144,7 +162,7 @@ means_sound on texts _ _ (over l base n m base_is means kept is) = parts_sound n
 -- an entry of such a meaning is in order, whatever the numbers of its patterns
 pub patterned_proper : (named : List ℕ → List Located → Type 0) (tables : Tables) (one : ValueType) (patterns : List Located) (entry : ValueType) → IsSound one → IsPatterned named one patterns entry →
     IsProperType tables entry
-patterned_proper named tables (String lengths starless none) patterns entry sound is = subst (IsProperType tables) (sym is.2) tt
+patterned_proper named tables (String among starless none) patterns entry sound is = subst (IsProperType tables) (sym is.2) tt
 patterned_proper named tables (Decimal digits among) patterns entry sound is = subst (IsProperType tables) is sound
 patterned_proper named tables (Set names) patterns entry sound is = subst (IsProperType tables) is sound
 patterned_proper named tables (Members members) patterns entry sound is = absurd sound
@@ -161,7 +179,7 @@ patterned_proper named tables NodeInstance patterns entry sound is = subst (IsPr
 -- and is no leafref
 pub patterned_apart : (named : List ℕ → List Located → Type 0) (one : ValueType) (patterns : List Located) (target : ℕ) (above : Option ℕ) (need : Bool) → IsSound one →
     IsPatterned named one patterns (Leafref target above need) → ⊥
-patterned_apart named (String lengths starless none) patterns target above need sound is = let e = is.2 in absurd (cc)
+patterned_apart named (String among starless none) patterns target above need sound is = let e = is.2 in absurd (cc)
 patterned_apart named (Decimal digits among) patterns target above need sound is = absurd (cc)
 patterned_apart named (Set names) patterns target above need sound is = absurd (cc)
 patterned_apart named (Members members) patterns target above need sound is = absurd sound

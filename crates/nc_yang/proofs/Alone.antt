@@ -1,5 +1,5 @@
 -- What a `type` statement means by an entry has no other types.
-use Rattle.std.proofs.Common.{◌≡◌, ◌++◌, ℕ, Bool, true, false, List, refl, subst, []}
+use Rattle.std.proofs.Common.{◌≡◌, ◌++◌, ℕ, Bool, true, false, List, refl, subst, [], zero, suc, ◌∷◌}
 use Rattle.std.specs.Prelude.{Option, Some, None, option_map}
 use Rattle.nc_schema.specs.declared.value_type.Between.{Between}
 use Rattle.nc_schema.specs.declared.value_type.ValueType.{ValueType}
@@ -13,7 +13,7 @@ use Rattle.nc_yang_scopes.specs.Scopes.{Located}
 use Rattle.nc_yang_types.specs.declared.bound.Counted.TheVariants.{Units, Lengths}
 use Rattle.nc_yang_types.specs.Entries.{decimal, decimals, digits_of, integers, lengths, narrowed, own, required, restricted}
 use Rattle.nc_yang_meanings.specs.Features.{stands}
-use Rattle.nc_yang_meanings.specs.Meanings.{DerivedFrom, Entry, Meaning, Means, OneOf, Refers, by_itself, meant, over, with_parts}
+use Rattle.nc_yang_meanings.specs.Meanings.{DerivedFrom, Entry, Meaning, Means, OneOf, Refers, by_itself, in_text, meant, of_access, over, said, with_parts}
 use Rattle.nc_yang_meanings.specs.Places.{part_of, parts_of}
 use Rattle.nc_yang_defaults.proofs.AlikeLemmas.{has_others}
 
@@ -61,11 +61,27 @@ leafref_alone : (o : Option Located) (need : Bool) → EachAlone (option_map (λ
 leafref_alone None need = tt
 leafref_alone (Some path) need = tt
 
+said_alone : (on : ℕ → List ℕ → Bool) (one : BuiltIn) (l : Located) → EachAlone (said on one l)
+said_alone on Union l = tt
+said_alone on IdentityRef l = tt
+said_alone on LeafRef l = leafref_alone (part_of Path l) (required true (below l.statement))
+said_alone on one l = by_entry (parts_of Pattern l) (own (stands on l.place.text) one (below l.statement)) (own_alone (stands on l.place.text) one (below l.statement))
+
+access_alone : (entry : ValueType) (patterns : List Located) → has_others entry ≡ false → IsAlone (of_access entry patterns)
+access_alone (Instance need) patterns e = refl
+access_alone (Chars among starless none) (p ∷ patterns) e = refl
+access_alone entry patterns e = e
+
+text_alone : (text : ℕ) (o : Option Meaning) → EachAlone o → EachAlone (option_map (in_text text) o)
+text_alone text None h = h
+text_alone zero (Some (Entry entry patterns)) h = access_alone entry patterns h
+text_alone zero (Some (OneOf members)) h = h
+text_alone zero (Some (DerivedFrom bases)) h = h
+text_alone zero (Some (Refers path need)) h = h
+text_alone (suc text) (Some m) h = h
+
 meant_alone : (on : ℕ → List ℕ → Bool) (one : BuiltIn) (l : Located) → EachAlone (meant on one l)
-meant_alone on Union l = tt
-meant_alone on IdentityRef l = tt
-meant_alone on LeafRef l = leafref_alone (part_of Path l) (required true (below l.statement))
-meant_alone on one l = by_entry (parts_of Pattern l) (own (stands on l.place.text) one (below l.statement)) (own_alone (stands on l.place.text) one (below l.statement))
+meant_alone on one l = text_alone l.place.text (said on one l) (said_alone on one l)
 
 narrowed_alone : (entry : ValueType) (ss : List Statement) → has_others entry ≡ false → OwnAlone (narrowed entry ss)
 narrowed_alone (Whole among) ss e = by_parts Whole (λ left. refl) (restricted (Units 0) Range among ss)

@@ -11,6 +11,7 @@ pub mod Modules
 pub mod NamingLemmas
 pub mod AlikeNames
 pub mod ReadyLemmas
+pub mod Reading
 pub mod Outcomes
 pub mod Carried
 pub mod IdentityNames

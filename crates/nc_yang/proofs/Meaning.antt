@@ -1,8 +1,9 @@
 -- Types of modules that keep all rules mean something, with all members of unions.
-use Rattle.std.proofs.Common.{inl, inr, ◌≡◌, ◌⊎◌, ℕ, Bool, true, false, cond, List, [], ◌∷◌, ◌++◌, refl, sym, ap, subst, ◌∙◌}
+use Rattle.std.proofs.Common.{inl, inr, ◌≡◌, ◌⊎◌, ℕ, Bool, true, false, cond, List, [], ◌∷◌, ◌++◌, refl, sym, ap, subst, ◌∙◌, zero, suc}
 use Rattle.std.specs.Prelude.{Option, Some, None, IsSome, is_some, slice_get, option_map, option_and_then, not, Contains}
 use Rattle.std.specs.List.{filter}
 use Rattle.nc_schema.specs.declared.value_type.ValueType.{ValueType}
+use Rattle.nc_schema.specs.declared.value_type.ValueType.TheVariants.{Chars as String, Instance}
 use Rattle.nc_yang_words.specs.declared.statement.Statement.{Statement}
 use Rattle.nc_yang_statements.specs.declared.built_in.BuiltIn.{BuiltIn}
 use Rattle.nc_yang_statements.specs.declared.built_in.BuiltIn.TheVariants.{IdentityRef, LeafRef, Union}
@@ -28,7 +29,7 @@ use Rattle.nc_yang_types.specs.Patterns.{ill_patterns}
 use Rattle.nc_yang_types.proofs.LawLemmas.{narrowed_gives, own_gives}
 use Rattle.nc_yang_meanings.specs.Faults.{KeepsTypes}
 use Rattle.nc_yang_meanings.specs.Features.{stands}
-use Rattle.nc_yang_meanings.specs.Meanings.{Breaks, DerivedFrom, Entry, Meaning, OneOf, Refers, by_itself, in_itself, meant, over, over_base, shape, with_parts}
+use Rattle.nc_yang_meanings.specs.Meanings.{Breaks, DerivedFrom, Entry, Meaning, OneOf, Refers, by_itself, in_itself, in_text, meant, of_access, over, over_base, said, shape, with_parts}
 use Rattle.nc_yang_meanings.specs.Places.{base_of, built_in, in_it, of_typedef, part_of, parts_of}
 use Rattle.nc_yang_meanings.specs.Wholes.{MeansWhole, members_of, whole}
 use Rattle.nc_yang.specs.Laws.{TypesMean}
@@ -52,9 +53,26 @@ entry_gives : (patterns : List Located) (o : Option ValueType) (members : List L
 entry_gives patterns None members e = absurd (cc)
 entry_gives patterns (Some entry) members e = (Entry entry patterns, refl, (λ member h. absurd (contains_none member h)))
 
+-- so it is in the text of ietf-netconf-acm
+access_members : (entry : ValueType) (patterns : List Located) → members_of (of_access entry patterns) ≡ []
+access_members (Instance need) patterns = refl
+access_members (String among starless none) (p ∷ patterns) = refl
+access_members entry patterns = refl
+
+text_members : (text : ℕ) (m : Meaning) → members_of (in_text text m) ≡ members_of m
+text_members zero (Entry entry patterns) = access_members entry patterns
+text_members zero (OneOf members) = refl
+text_members zero (DerivedFrom bases) = refl
+text_members zero (Refers path need) = refl
+text_members (suc text) m = refl
+
+text_gives : (text : ℕ) (o : Option Meaning) (members : List Located) → Gives o members → Gives (option_map (in_text text) o) members
+text_gives text o members g =
+    (in_text text g.0, ap (option_map (in_text text)) g.1, (λ member h. g.2 member (subst (λ ls. Contains ls member) (text_members text g.0) h)))
+
 -- what a built-in type means
 module _ (on : ℕ → List ℕ → Bool) (l : Located) where
-  leafref_gives : own_faults LeafRef l.statement ≡ [] → Gives (meant on LeafRef l) (parts_of TypeName l)
+  leafref_gives : own_faults LeafRef l.statement ≡ [] → Gives (said on LeafRef l) (parts_of TypeName l)
   leafref_gives kept =
       let lacks : lacking LeafRef l.statement ≡ [] = empty_right (foreign LeafRef (below l.statement)) (lacking LeafRef l.statement)
       (empty_left (misshapen LeafRef l.statement) (ill_patterns (below l.statement) ++ misused LeafRef (below l.statement)) kept) in
@@ -64,11 +82,14 @@ module _ (on : ℕ → List ℕ → Bool) (l : Located) where
         (λ member h. absurd (contains_none member h)),
       )
 
+  said_gives : (one : BuiltIn) → own_faults one l.statement ≡ [] → Gives (said on one l) (parts_of TypeName l)
+  said_gives Union kept = (OneOf (parts_of TypeName l), refl, (λ member h. h))
+  said_gives IdentityRef kept = (DerivedFrom (parts_of Base l), refl, (λ member h. absurd (contains_none member h)))
+  said_gives LeafRef kept = leafref_gives kept
+  said_gives one kept = entry_gives (parts_of Pattern l) (own (stands on l.place.text) one (below l.statement)) (parts_of TypeName l) (own_gives (stands on l.place.text) one l.statement refl kept)
+
   meant_gives : (one : BuiltIn) → own_faults one l.statement ≡ [] → Gives (meant on one l) (parts_of TypeName l)
-  meant_gives Union kept = (OneOf (parts_of TypeName l), refl, (λ member h. h))
-  meant_gives IdentityRef kept = (DerivedFrom (parts_of Base l), refl, (λ member h. absurd (contains_none member h)))
-  meant_gives LeafRef kept = leafref_gives kept
-  meant_gives one kept = entry_gives (parts_of Pattern l) (own (stands on l.place.text) one (below l.statement)) (parts_of TypeName l) (own_gives (stands on l.place.text) one l.statement refl kept)
+  meant_gives one kept = text_gives l.place.text (said on one l) (parts_of TypeName l) (said_gives one kept)
 
 -- what a type over another means
 parts_give : (n : Meaning) (l : Located) → narrowed_faults (shape n) (below l.statement) ≡ [] → Gives (with_parts n l) (members_of n)

@@ -16,7 +16,6 @@ use Rattle.nc_yang_scopes.specs.declared.naming.TextFault.{TextFault}
 use Rattle.nc_yang_scopes.proofs.Scopings.{one_scoping}
 use Rattle.nc_yang_texts.specs.Rules.{BreaksText, KeepsTexts}
 use Rattle.nc_yang_texts.specs.declared.text.ModuleText.{ModuleText}
-use Rattle.nc_yang_texts.proofs.OneWay.{read_one_way, read_or_faulty}
 use Rattle.nc_yang_nodes.specs.Plans.{IsPlan}
 use Rattle.nc_yang_nodes.specs.Roles.{FeatureTest}
 use Rattle.nc_yang_nodes.specs.Supported.{AreOn}
@@ -40,10 +39,12 @@ use Rattle.nc_yang_circles.specs.Circles.{BreaksCircle, HasNoCircle}
 use Rattle.nc_yang_defaults.specs.Defaults.{BreaksDefault, KeepsDefaults}
 use Rattle.nc_yang_defaults.specs.Readings.{value_of}
 use Rattle.nc_yang_defaults.proofs.AlikeLemmas.{TakesAlike, canonical_alike, defaults_kept, keep_alike, path_tables, value_alike}
+use Rattle.nc_yang.specs.Access.{in_file}
 use Rattle.nc_yang.specs.Features.{is_given}
 use Rattle.nc_yang.specs.Laws.{NeverBoth}
 use Rattle.nc_yang.specs.Schemas.{AreNames, Breaks, BreaksPlan, BreaksSchema, Defines, GivesSchema, IsBegun, IsSchemaOf, basis, by_pattern, circle, default, identity_name, ill_typed, in_place, in_plan, in_schema, leafref, past, text, unread}
 use Rattle.nc_yang.proofs.DataTypes.{data_types_mean}
+use Rattle.nc_yang.proofs.Reading.{have_one_way, have_or_faulty}
 use Rattle.nc_yang.proofs.LeafTypes.{LeafAt, leaf_at, leaf_there, leafs_end, no_path_lost, nodes_paired, paths_as_given}
 use Rattle.nc_yang.proofs.SamePlans.{circle_here, default_here, lost_here, typed_here}
 use Rattle.nc_yang.proofs.SameTypes.{Both, Kinds, nodes_take, whole_alike}
@@ -199,7 +200,7 @@ module _ (modules : List ModuleText) (lines : List (List ℕ)) (tables : Tables)
   begun_broken : (scoping : Scoping) (on : FeatureTest) (found : TextFault) → IsBegun modules lines scoping on → BreaksSchema scoping on found → ⊥
   begun_broken scoping on found begun breaks =
       let same : scoping ≡ d.scoping =
-      one_scoping scoping d.scoping begun.numbers d.begun.numbers (read_one_way modules scoping.texts d.scoping.texts begun.read d.begun.read) in
+      one_scoping scoping d.scoping begun.numbers d.begun.numbers (have_one_way modules scoping.texts d.scoping.texts begun.read d.begun.read) in
       by scoping same begun breaks
     where
       here : (on : FeatureTest) → IsBegun modules lines d.scoping on → BreaksSchema d.scoping on found → ⊥
@@ -212,10 +213,10 @@ module _ (modules : List ModuleText) (lines : List (List ℕ)) (tables : Tables)
           here on (subst (λ z. IsBegun modules lines z on) same begun) (subst (λ z. BreaksSchema z on found) same breaks)
 
   broken : (file : ℕ) (fault : Fault) → Breaks modules lines file fault → ⊥
-  broken _ _ (unread file fault h) = read_or_faulty modules d.scoping.texts file fault d.begun.read h
-  broken _ _ (text roots found read h) =
-      d.begun.keeps found (subst (λ z. BreaksText z found) (read_one_way modules roots d.scoping.texts read d.begun.read) h)
-  broken _ _ (in_schema scoping on found begun h) = begun_broken scoping on found begun h
+  broken _ _ (unread file fault h) = have_or_faulty modules d.scoping.texts file fault d.begun.read h
+  broken _ _ (text texts file fault read h) =
+      d.begun.keeps (in_file file fault) (subst (λ z. BreaksText z (in_file file fault)) (have_one_way modules texts d.scoping.texts read d.begun.read) h)
+  broken _ _ (in_schema scoping on file fault begun h) = begun_broken scoping on (in_file file fault) begun h
 
 pub never_both : NeverBoth
 never_both modules lines tables file fault d h = broken modules lines tables d file fault h

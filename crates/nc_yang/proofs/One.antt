@@ -5,7 +5,6 @@ use Rattle.nc_yang_scopes.specs.Scopes.{Scoping}
 use Rattle.nc_yang_scopes.proofs.Scopings.{one_scoping}
 use Rattle.nc_yang_texts.specs.Rules.{KeepsTexts}
 use Rattle.nc_yang_texts.specs.declared.text.ModuleText.{ModuleText}
-use Rattle.nc_yang_texts.proofs.OneWay.{read_one_way}
 use Rattle.nc_yang_nodes.specs.Plans.{IsPlan}
 use Rattle.nc_yang_nodes.specs.Roles.{FeatureTest}
 use Rattle.nc_yang_nodes.specs.declared.planned.Plan.{Plan}
@@ -24,6 +23,7 @@ use Rattle.nc_yang.specs.Schemas.{AreNames, Defines, GivesSchema, IsBegun, IsSch
 use Rattle.nc_yang.proofs.DataTypes.{data_types_mean}
 use Rattle.nc_yang.proofs.LeafTypes.{pair_at}
 use Rattle.nc_yang.proofs.Never.{each_agree, one_on, texts_same, values_same}
+use Rattle.nc_yang.proofs.Reading.{have_one_way}
 use Rattle.nc_yang.proofs.ReadyLemmas.{is_ready}
 use Rattle.nc_yang.proofs.SamePlans.{defaults_here, typed_here}
 
@@ -69,4 +69,4 @@ module _ (modules : List ModuleText) (lines : List (List ℕ)) (one other : Tabl
 pub one_schema : OneSchema
 one_schema modules lines one other d e =
     on_scoping modules lines one other d e.scoping e.on
-    (one_scoping e.scoping d.scoping e.begun.numbers d.begun.numbers (read_one_way modules e.scoping.texts d.scoping.texts e.begun.read d.begun.read)) e.begun e.gives
+    (one_scoping e.scoping d.scoping e.begun.numbers d.begun.numbers (have_one_way modules e.scoping.texts d.scoping.texts e.begun.read d.begun.read)) e.begun e.gives

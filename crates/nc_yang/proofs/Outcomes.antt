@@ -1,5 +1,5 @@
 -- What each pass answers, as what modules define or the rule that they break.
-use Rattle.std.proofs.Common.{inl, inr, ◌≡◌, ℕ, List, [], length, ap, sym, subst, ◌∙◌}
+use Rattle.std.proofs.Common.{inl, inr, ◌≡◌, ℕ, suc, List, [], length, ap, sym, subst, ◌∙◌}
 use Rattle.std.specs.Prelude.{slice_get, Option, Result, Ok, Err, Some, IfOk, MatchResult}
 use Rattle.nc_names.specs.declared.memory.Memory.{Memory as NamesMemory}
 use Rattle.nc_schema.specs.Tables.{Tables}
@@ -13,7 +13,7 @@ use Rattle.nc_yang_statements.proofs.Firsts.{first_contains}
 use Rattle.nc_yang_scopes.specs.Scopes.{Scoping}
 use Rattle.nc_yang_scopes.specs.declared.naming.TextFault.{TextFault}
 use Rattle.nc_yang_texts.specs.Rules.{BreaksText}
-use Rattle.nc_yang_texts.specs.Texts.{AreRead, IsUnread, OnModule}
+use Rattle.nc_yang_texts.specs.Texts.{IsUnread, OnModule}
 use Rattle.nc_yang_texts.specs.declared.fault.CompileFault.{CompileFault}
 use Rattle.nc_yang_texts.specs.declared.fault.CompileFault.TheVariants.{Module, Memory as NoMemory}
 use Rattle.nc_yang_texts.specs.declared.text.ModuleText.{ModuleText}
@@ -34,10 +34,11 @@ use Rattle.nc_yang_leafs.proofs.PatternLemmas.{patterns_left_out, refused_in_use
 use Rattle.nc_yang_circles.specs.Circles.{BreaksCircle, HasNoCircle, JudgesCircles}
 use Rattle.nc_yang_defaults.specs.Defaults.{BreaksDefault, HasDefaults, KeepsDefaults}
 use Rattle.nc_yang_defaults.specs.Typed.{IsTyped as IsReady}
+use Rattle.nc_yang.specs.Access.{HaveStatements, in_file}
 use Rattle.nc_yang.specs.Features.{is_given}
-use Rattle.nc_yang.specs.Schemas.{AreNames, Defines, GivesNone, GivesSchema, IsBegun, IsSchemaOf, IsTypedOf, basis, by_pattern, circle, default, ill_typed, in_place, in_plan, in_schema, leafref, past, text, unread}
+use Rattle.nc_yang.specs.Schemas.{AreNames, BreaksSchema, Defines, GivesNone, GivesSchema, IsBegun, IsSchemaOf, IsTypedOf, RefusesSchema, basis, by_pattern, circle, default, ill_typed, in_place, in_plan, in_schema, leafref, past, text, unread}
 use Rattle.nc_yang.specs.inner.Finishing.{Ends, Finishes, GivesNoSchema, GivesNothing, broken, refused, unsuited}
-use Rattle.nc_yang.specs.inner.Stops.{IsInFile}
+use Rattle.nc_yang.specs.inner.Stops.{IsInFile, OnFile}
 
 -- ---- faults of the passes
 pub data_stops : (scoping : Scoping) (on : FeatureTest) (plan : Plan) (refusals : Refusals) (met : Stop TextFault) → OnBroken (λ (found : TextFault). Some found ≡ first (data_faults scoping on plan)) met
@@ -157,17 +158,17 @@ plans scoping on plan refusals types planned (Err (Broken found)) (inl h) = inl 
 plans scoping on plan refusals types planned (Err (Broken found)) (inr h) = inr (record { types = types; plan = plan; planned = planned; refuses = h })
 plans scoping on plan refusals types planned (Err Memory) h = tt
 
-pub text_stops : (modules : List ModuleText) (lines : List (List ℕ)) (refusals : Refusals) (roots : List Statement) → AreRead modules roots → (stop : Stop TextFault) → OnBroken (BreaksText roots) stop
-    → OnBroken (λ (found : TextFault). GivesNone modules lines refusals found.text found.fault) stop
-text_stops modules lines refusals roots read (Broken found) b = inl (text roots found read b)
+pub text_stops : (modules : List ModuleText) (lines : List (List ℕ)) (refusals : Refusals) (roots : List Statement) → HaveStatements modules roots → (stop : Stop TextFault) → OnBroken (BreaksText roots) stop
+    → OnBroken (OnFile (GivesNone modules lines refusals)) stop
+text_stops modules lines refusals roots read (Broken found) b = λ file is. inl (text roots file found.fault read (subst (BreaksText roots) is b))
 text_stops modules lines refusals roots read Memory b = tt
 
 pub defines : (modules : List ModuleText) (lines : List (List ℕ)) (refusals : Refusals) (scoping : Scoping) (on : FeatureTest) → IsBegun modules lines scoping on
     → (result : Result Tables (Stop TextFault)) → MatchResult result (GivesSchema scoping on) (OnBroken (GivesNothing scoping on refusals))
-    → MatchResult result (Defines modules lines) (OnBroken (λ (found : TextFault). GivesNone modules lines refusals found.text found.fault))
+    → MatchResult result (Defines modules lines) (OnBroken (OnFile (GivesNone modules lines refusals)))
 defines modules lines refusals scoping on begun (Ok tables) h = record { scoping = scoping; on = on; begun = begun; gives = h }
-defines modules lines refusals scoping on begun (Err (Broken found)) (inl h) = inl (in_schema scoping on found begun h)
-defines modules lines refusals scoping on begun (Err (Broken found)) (inr h) = inr (record { scoping = scoping; on = on; begun = begun; refuses = h })
+defines modules lines refusals scoping on begun (Err (Broken found)) (inl h) = λ file is. inl (in_schema scoping on file found.fault begun (subst (BreaksSchema scoping on) is h))
+defines modules lines refusals scoping on begun (Err (Broken found)) (inr h) = λ file is. inr (record { scoping = scoping; on = on; begun = begun; refuses = subst (RefusesSchema scoping on refusals) is h })
 defines modules lines refusals scoping on begun (Err Memory) h = tt
 
 -- ---- of files
@@ -175,7 +176,13 @@ pub unread_stops : (modules : List ModuleText) (lines : List (List ℕ)) (refusa
 unread_stops modules lines refusals (Module file line why) h = inl (unread file (record { line = line; why = why }) h)
 unread_stops modules lines refusals NoMemory h = tt
 
-pub file_stops : (P : ℕ → Fault → Type 0) (stop : Stop TextFault) (fault : CompileFault) → IsInFile stop fault → OnBroken (λ (found : TextFault). P found.text found.fault) stop → OnModule P fault
-file_stops P (Broken found) (Module file line why) is b = subst (λ (f : TextFault). P f.text f.fault) is b
+-- a fault of a text after the first is one of the file before it
+pub file_of : (found : TextFault) (file : ℕ) → suc file ≡ found.text → found ≡ in_file file (record { line = found.fault.line; why = found.fault.why })
+file_of found file is = λ i. record { text = sym is i; fault = found.fault }
+
+pub file_stops : (P : ℕ → Fault → Type 0) (stop : Stop TextFault) (fault : CompileFault) → IsInFile stop fault → OnBroken (OnFile P) stop → OnModule P fault
+file_stops P (Broken found) (Module file line why) is b =
+    let same : found.fault ≡ record { line = line; why = why } = ap (λ (f : TextFault). f.fault) is in
+    subst (P file) same (b file (is ∙ ap (in_file file) (sym same)))
 file_stops P Memory (Module file line why) is b = absurd is
 file_stops P stop NoMemory is b = tt

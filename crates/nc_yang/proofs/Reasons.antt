@@ -20,6 +20,7 @@ use Rattle.nc_yang_data.specs.Data.{data_faults}
 use Rattle.nc_yang_types.specs.Entries.{narrowed_faults, own_faults}
 use Rattle.nc_yang_meanings.specs.Meanings.{Breaks as BreaksParts, in_itself, over_base, shape}
 use Rattle.nc_yang_leafs.specs.Patterns.{Refusals}
+use Rattle.nc_yang.specs.Access.{in_file}
 use Rattle.nc_yang.specs.Schemas.{Breaks, BreaksPlan, BreaksSchema, Defines, GivesNone, by_pattern, circle, default, ill_typed, in_place, in_plan, in_schema, leafref, past, text, unread}
 use Rattle.nc_yang.proofs.TextReasons.{OfRule, OfTextRule, no_refusal, of_text, of_unread}
 use Rattle.nc_yang.proofs.TypeReasons.{of_data, of_narrowed, of_own}
@@ -42,8 +43,8 @@ of_schema scoping on _ (in_plan plan found types planned breaks) = of_plan scopi
 
 of_modules : (modules : List ModuleText) (lines : List (List ℕ)) (file : ℕ) (fault : Fault) → Breaks modules lines file fault → OfRule fault
 of_modules modules lines _ _ (unread file fault is) = of_unread modules file fault is
-of_modules modules lines _ _ (text roots found read breaks) = of_text roots found breaks
-of_modules modules lines _ _ (in_schema scoping on found begun breaks) = of_schema scoping on found breaks
+of_modules modules lines _ _ (text texts file fault read breaks) = of_text texts (in_file file fault) breaks
+of_modules modules lines _ _ (in_schema scoping on file fault begun breaks) = of_schema scoping on (in_file file fault) breaks
 
 -- a broken rule is another reason
 pub never_refused : (modules : List ModuleText) (lines : List (List ℕ)) (file : ℕ) (fault : Fault) → Breaks modules lines file fault → fault.why ≡ PatternRefused → ⊥

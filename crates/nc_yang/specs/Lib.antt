@@ -1,3 +1,4 @@
+pub mod Access
 pub mod Features
 pub mod Laws
 pub mod Schemas

@@ -1,4 +1,4 @@
--- The schema that modules define, or the rules that they break (RFC 7950 5 to 9).
+-- The schema that modules define, or the rules that they break (RFC 7950 5 to 9). Before them comes ietf-netconf-acm.
 use Rattle.std.specs.Prelude.{◌≡◌, ℕ, List, [], map, Contains, ◌⊎◌}
 use Rattle.nc_names.specs.declared.name.QName.{QName}
 use Rattle.nc_schema.specs.Tables.{Tables}
@@ -10,7 +10,7 @@ use Rattle.nc_yang_scopes.specs.Prefixes.{namespace_at}
 use Rattle.nc_yang_scopes.specs.Scopes.{Located, Scoping}
 use Rattle.nc_yang_scopes.specs.declared.naming.TextFault.{TextFault}
 use Rattle.nc_yang_texts.specs.Rules.{BreaksText, KeepsTexts}
-use Rattle.nc_yang_texts.specs.Texts.{AreRead, IsUnread}
+use Rattle.nc_yang_texts.specs.Texts.{IsUnread}
 use Rattle.nc_yang_texts.specs.declared.text.ModuleText.{ModuleText}
 use Rattle.nc_yang_nodes.specs.Plans.{IsFirstPast, IsPlan}
 use Rattle.nc_yang_nodes.specs.Roles.{FeatureTest}
@@ -26,12 +26,13 @@ use Rattle.nc_yang_leafs.specs.Patterns.{IsRefused, Refusals, without_patterns}
 use Rattle.nc_yang_leafs.specs.Typings.{IsTyped}
 use Rattle.nc_yang_circles.specs.Circles.{BreaksCircle, HasNoCircle}
 use Rattle.nc_yang_defaults.specs.Defaults.{BreaksDefault, HasDefaults, KeepsDefaults}
+use Rattle.nc_yang.specs.Access.{HaveStatements, in_file}
 use Rattle.nc_yang.specs.Features.{is_given}
 
 -- texts whose statements keep all rules that need no data node, the numbers of these statements, and the features that
 -- are on by the lines that name some
 pub record IsBegun (modules : List ModuleText) (lines : List (List ℕ)) (scoping : Scoping) (on : FeatureTest) : Type 0 where
-  pub read : AreRead modules scoping.texts
+  pub read : HaveStatements modules scoping.texts
   pub keeps : KeepsTexts scoping.texts
   pub numbers : IsScoping scoping
   pub features : AreOn scoping (is_given scoping.texts lines) on
@@ -116,10 +117,10 @@ pub record Defines (modules : List ModuleText) (lines : List (List ℕ)) (tables
 -- nodes is, where texts keep theirs
 pub data Breaks (modules : List ModuleText) (lines : List (List ℕ)) : ℕ → Fault → Type 0 where
   unread : (file : ℕ) (fault : Fault) → IsUnread modules file fault → Breaks modules lines file fault
-  text : (roots : List Statement) (found : TextFault) → AreRead modules roots → BreaksText roots found
-      → Breaks modules lines found.text found.fault
-  in_schema : (scoping : Scoping) (on : FeatureTest) (found : TextFault) → IsBegun modules lines scoping on
-      → BreaksSchema scoping on found → Breaks modules lines found.text found.fault
+  text : (texts : List Statement) (file : ℕ) (fault : Fault) → HaveStatements modules texts
+      → BreaksText texts (in_file file fault) → Breaks modules lines file fault
+  in_schema : (scoping : Scoping) (on : FeatureTest) (file : ℕ) (fault : Fault) → IsBegun modules lines scoping on
+      → BreaksSchema scoping on (in_file file fault) → Breaks modules lines file fault
 
 -- a maker refused a pattern that modules use, and these keep all rules in which no pattern is asked
 pub record Refuses (modules : List ModuleText) (lines : List (List ℕ)) (refusals : Refusals) (found : TextFault) : Type 0 where
@@ -131,4 +132,4 @@ pub record Refuses (modules : List ModuleText) (lines : List (List ℕ)) (refusa
 -- why modules give no schema: a file breaks a rule, or a maker refused a pattern in it
 abbrev pub GivesNone : List ModuleText → List (List ℕ) → Refusals → ℕ → Fault → Type 0
 GivesNone modules lines refusals file fault =
-    Breaks modules lines file fault ⊎ Refuses modules lines refusals (record { text = file; fault = fault })
+    Breaks modules lines file fault ⊎ Refuses modules lines refusals (in_file file fault)

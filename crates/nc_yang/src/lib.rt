@@ -6,6 +6,7 @@
 //! table of types, nc_yang_identities the identities in it, and nc_yang_defaults the defaults. The expressions of
 //! patterns are made by a maker of nc_patterns that is handed in.
 //!
+//! Before the modules that are handed in stands ietf-netconf-acm, whose text is a definition (RFC 8341 3.5.2).
 //! `compile` promises the schema that modules define, a proper one with canonical defaults, or a rule that a
 //! file breaks, or a pattern that the maker refused; `first_unknown_feature` the first line that names no feature
 //! of the modules. By the law `types_mean`, in modules that keep all rules each `type` statement means something,
@@ -17,6 +18,7 @@
 //! `rules_refuse_nothing` PatternRefused is the reason of no rule: it comes only where the maker refused.
 #![tactic(auto)]
 
+mod access;
 mod features;
 mod laws;
 mod names;

@@ -8,14 +8,16 @@ ghost use Rattle.nc_yang_nodes.specs.Supported.{AreOn};
 ghost use Rattle.nc_yang_statements.specs.Stops.{OnBroken};
 ghost use Rattle.nc_yang_statements.specs.declared.fault.ModuleWhy.TheVariants.{PatternRefused};
 ghost use Rattle.nc_yang_texts.specs.Rules.{BreaksText, KeepsTexts};
-ghost use Rattle.nc_yang_texts.specs.Texts.{AreRead, OnModule};
+ghost use Rattle.nc_yang_texts.specs.Texts.{OnModule};
 ghost use Rattle.nc_yang_texts.specs.declared.text.ModuleText.{ModuleText as TheModuleText};
+ghost use Rattle.nc_yang.specs.Access.{HaveStatements};
 ghost use Rattle.nc_yang.specs.Features.{is_given};
 ghost use Rattle.nc_yang.specs.Laws.{HasCanonicalDefaults};
 ghost use Rattle.nc_yang.specs.Schemas as schemas;
 ghost use Rattle.nc_yang.specs.inner.Finishing.{GivesNothing};
-ghost use Rattle.nc_yang.specs.inner.Stops.{IsInFile};
+ghost use Rattle.nc_yang.specs.inner.Stops.{IsInFile, OnFile};
 
+use crate::access::all_statements;
 use crate::features::given;
 use crate::schema::schema_of;
 use crate::supported::Supported;
@@ -26,7 +28,7 @@ use nc_yang_meanings::meanings_of;
 use nc_yang_nodes::{Features, features_on, plan_of};
 use nc_yang_scopes::{Scopes, TextFault};
 use nc_yang_statements::Stop;
-use nc_yang_texts::{CompileFault, ModuleText, first_break, read_texts};
+use nc_yang_texts::{CompileFault, ModuleText, first_break};
 use nc_yang_words::Statement;
 use std::alloc::Global;
 
@@ -75,18 +77,17 @@ fn compiled<'a, M: Maker>(
     schema_of(alloc, scopes, features, &meanings, &plan, maker)
 }
 
-// The schema of modules by their statements.
+// The schema of modules by their statements, of which the first are those of ietf-netconf-acm.
 fn of_roots<'a, M: Maker>(
     alloc: Global,
     roots: &'a [Statement],
     lines: &'a [Text],
     maker: &mut M,
 ) -> Result<Schema, Stop<TextFault>>
-    ensures { (modules : List TheModuleText) → AreRead modules roots.now → MatchResult result
+    ensures { (modules : List TheModuleText) → HaveStatements modules roots.now → MatchResult result
         (schemas.Defines modules lines.now)
-        (OnBroken (λ found. schemas.GivesNone modules lines.now
-        (refusing (M.refusals maker.old) (M.refusals maker.new) (M.last_refused maker.new))
-        found.text found.fault)) }
+        (OnBroken (OnFile (schemas.GivesNone modules lines.now
+        (refusing (M.refusals maker.old) (M.refusals maker.new) (M.last_refused maker.new))))) }
 {
     let scopes = Scopes::of(alloc, roots)?;
     keep_texts(alloc, roots, &scopes)?;
@@ -94,21 +95,21 @@ fn of_roots<'a, M: Maker>(
     compiled(alloc, &scopes, &features, maker)
 }
 
-// As a fault of a file.
+// As a fault of a file. The text of ietf-netconf-acm breaks no rule.
 fn in_file(stop: Stop<TextFault>) -> CompileFault
     ensures { IsInFile stop result }
 {
     let Stop::Broken(found) = stop else {
         return CompileFault::Memory;
     };
-    match u32::try_from(found.text) {
-        Ok(file) => CompileFault::Module {
-            file,
-            line: found.fault.line,
-            why: found.fault.why,
-        },
-        // no file has that number
-        Err(_) => CompileFault::Memory,
+    if found.text == 0 || found.text > u32::MAX as usize {
+        // no file has that text
+        return CompileFault::Memory;
+    }
+    CompileFault::Module {
+        file: (found.text - 1) as u32,
+        line: found.fault.line,
+        why: found.fault.why,
     }
 }
 
@@ -123,7 +124,7 @@ fn of_modules<M: Maker>(
         (OnModule (schemas.GivesNone modules.now lines.now
         (refusing (M.refusals maker.old) (M.refusals maker.new) (M.last_refused maker.new)))) }
 {
-    let roots = read_texts(alloc, modules)?;
+    let roots = all_statements(alloc, modules)?;
     match of_roots(alloc, roots.as_slice(), lines, maker) {
         Ok(schema) => Ok(schema),
         Err(stop) => Err(in_file(stop)),
@@ -132,10 +133,11 @@ fn of_modules<M: Maker>(
 
 /// The schema that modules define (RFC 7950), with those features on which lines name, each `module:feature`:
 /// its data nodes and choices in document order, module after module, with groupings in place, their types and
-/// defaults; or a rule that is broken, or a limit that is passed, at its file and line. A line that names no
-/// feature of the modules counts for nothing. The expressions of patterns are made by `maker`; where it refuses
-/// one, and so its count of refusals rises, the answer is PatternRefused at that `pattern` statement, and all
-/// rules are kept in which no pattern is asked (RFC 7950 9.4.5).
+/// defaults; or a rule that is broken, or a limit that is passed, at its file and line. Before these modules
+/// comes ietf-netconf-acm, which they may import, so that its 22 data nodes have the numbers from 0 to 21 (RFC
+/// 8341 3.5.2). A line that names no feature of the modules counts for nothing. The expressions of patterns are
+/// made by `maker`; where it refuses one, and so its count of refusals rises, the answer is PatternRefused at
+/// that `pattern` statement, and all rules are kept in which no pattern is asked (RFC 7950 9.4.5).
 #[tactic(auto, using(crate::proofs::ProperSchema::proper, crate::proofs::ProperSchema::canonical))]
 pub fn compile<M: Maker>(
     alloc: Global,

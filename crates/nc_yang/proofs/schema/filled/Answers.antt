@@ -1,7 +1,7 @@
 use Rattle.std.proofs.lemmas.Result.{err_from_is_err_and}
 use Rattle.nc_yang_leafs.specs.Patterns.{refusing}
 use Rattle.nc_yang_nodes.specs.FeaturesOn.{is_on}
-use Rattle.nc_yang.specs.Schemas.{AreNames, basis}
+use Rattle.nc_yang.specs.Schemas.{AreNames}
 use Rattle.nc_yang.proofs.Outcomes.{circle_stops, finishes, leafref_stops}
 use Rattle.nc_yang.proofs.ReadyLemmas.{bare_ready}
 use Rattle.nc_yang.proofs.schema.filled.Goals as goal

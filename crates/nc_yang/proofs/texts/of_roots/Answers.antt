@@ -3,7 +3,7 @@ use Rattle.std.proofs.lemmas.Result.{err_from_is_err_and}
 use Rattle.nc_yang_leafs.specs.Patterns.{refusing}
 use Rattle.nc_yang_nodes.specs.FeaturesOn.{is_on}
 use Rattle.nc_yang_texts.specs.Rules.{KeepsTexts}
-use Rattle.nc_yang_texts.specs.Texts.{AreRead}
+use Rattle.nc_yang.specs.Access.{HaveStatements}
 use Rattle.nc_yang.proofs.Outcomes.{defines, text_stops}
 use Rattle.nc_yang.proofs.texts.of_roots.Goals as goal
 
@@ -23,7 +23,7 @@ returns g c = λ modules read.
     (refusing (g.M.Maker.refusals c.args.maker.now) (g.M.Maker.refusals c.compiled.new.maker) (g.M.Maker.last_refused c.compiled.new.maker))
     c.in_ok-scopes.scopes on
     (record {
-      read = subst (AreRead modules) (sym c.in_ok-scopes.ensures.texts) read;
+      read = subst (HaveStatements modules) (sym c.in_ok-scopes.ensures.texts) read;
       keeps = subst KeepsTexts (sym c.in_ok-scopes.ensures.texts) c.in_ok-keep_texts.ensures;
       numbers = c.in_ok-scopes.ensures.numbers;
       features = c.in_ok-features.ensures;

@@ -12,6 +12,13 @@ disk_of journal = journal.disk
 abbrev pub records_of : {D : Type 0} → Journal D → ℕ
 records_of journal = journal.records
 
+-- where the live area of a journal stands in the file, and where its last gate, which is closed
+abbrev pub start_of : {D : Type 0} → Journal D → ℕ
+start_of journal = journal.start
+
+abbrev pub gate_of : {D : Type 0} → Journal D → ℕ
+gate_of journal = journal.gate
+
 -- the disk tells its bytes, and the journal knows where the live area's gate stands and how many records it has
 pub record IsPlaced {D : Type 0} (seen : D → Option (List ℕ)) (header : List ℕ) (journal : Journal D)
     (bodies : List (List ℕ)) : Type 0 where

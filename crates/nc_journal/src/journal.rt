@@ -33,7 +33,7 @@ pub struct Journal<D> {
 }
 
 impl<D: Disk> Journal<D> {
-    ghost use Rattle.nc_journal.specs.Journal.{Stands, IsSound, allowed, disk_of, records_of};
+    ghost use Rattle.nc_journal.specs.Journal.{Stands, IsSound, allowed, disk_of, gate_of, records_of, start_of};
     ghost use Rattle.nc_journal.specs.Keeping.{Changes, KeepsCount};
     ghost use Rattle.nc_journal.specs.Format.{framed as in_frame, area as up_to_gate};
     ghost use Rattle.nc_journal.specs.Format.{areas_begin};
@@ -195,6 +195,20 @@ impl<D: Disk> Journal<D> {
         ensures { result ≡ records_of self.now }
     {
         self.records
+    }
+
+    /// Where the live area stands in the file.
+    pub fn start(&self) -> u64
+        ensures { result ≡ start_of self.now }
+    {
+        self.start
+    }
+
+    /// Where the last gate of the live area stands, which is closed.
+    pub fn gate(&self) -> u64
+        ensures { result ≡ gate_of self.now }
+    {
+        self.gate
     }
 
     /// Gives the disk back.

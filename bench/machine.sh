@@ -63,7 +63,7 @@ fn start(alloc: Global, machine: &mut Machine<MemKeeper>) -> Result<(), Memory> 
     let peer = Peer {
         user: Text::new(alloc),
         groups: Many::new(alloc),
-        recovery: false,
+        recovery: true,
     };
     hand_in(machine, Event::Start { peer })?;
     Ok(())

@@ -118,8 +118,8 @@ def ran(texts):
         for name, text in texts.items():
             with open(f"{room}/modules/{name}.yang", "w") as file:
                 file.write(text)
-        run = subprocess.Popen([program, "stdio", room, "alice"], stdin=subprocess.PIPE, stdout=subprocess.PIPE,
-                               stderr=subprocess.PIPE)
+        words = ["stdio", "--recovery", room, "alice"]
+        run = subprocess.Popen([program, *words], stdin=subprocess.PIPE, stdout=subprocess.PIPE, stderr=subprocess.PIPE)
         begun = run.stdout.read(1)
         memory = 0
         if begun:

@@ -57,7 +57,8 @@ def read_to(stream, end, number):
 
 def ran(folder, framing, requests):
     """The seconds of processor time, the peak of memory in kB and the bytes of the replies of a session."""
-    run = subprocess.Popen([program, "stdio", folder, "alice"], stdin=subprocess.PIPE, stdout=subprocess.PIPE)
+    words = ["stdio", "--recovery", folder, "alice"]
+    run = subprocess.Popen([program, *words], stdin=subprocess.PIPE, stdout=subprocess.PIPE)
     writer = threading.Thread(target=send, args=(run.stdin, session(framing, requests)))
     writer.start()
     text = read_to(run.stdout, b"</hello>", 1) if not requests else read_to(run.stdout, b"</rpc-reply>", len(requests))

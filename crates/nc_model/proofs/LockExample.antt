@@ -17,6 +17,7 @@ use Rattle.nc_protocol.specs.declared.datastore.Datastore.TheVariants.{Running, 
 use Rattle.nc_protocol.specs.declared.datastore.Origin.TheVariants.{Store}
 use Rattle.nc_protocol.specs.declared.peer.Peer.{Peer}
 use Rattle.nc_protocol.specs.declared.verdict.Verdict.TheVariants.{Done, Locked, Refused}
+use Rattle.nc_model.specs.Access.{access_policy}
 use Rattle.nc_model.specs.State.{State, NodeLock, Pending, no_holders, opening, session_ended}
 use Rattle.nc_model.specs.Step.{changed_by, outcome_of}
 use Rattle.nc_model.specs.Verdict.{asked_verdict, commit_refusal, kill_refusal, lock_refusal, partial_lock_refusal, unlock_refusal}
@@ -133,15 +134,15 @@ kill_ends = refl
 -- ---- a partial lock in the way of a commit
 -- port b is new: a lock of the container above it is in the way, one of port a is not
 commit_is_locked : commit_refusal (partly (top ∷ [])) 1 None ≡ Some (plain_cause InUsePartial (decimal 3 ∷ decimal 2 ∷ []))
-unfolding node tables port name rows_of_port
+unfolding node tables port name rows_of_port access_policy
 commit_is_locked = refl
 
 commit_beside_lock : commit_refusal (partly (port (codes "a") ∷ [])) 1 None ≡ None
-unfolding node tables port name rows_of_port
+unfolding node tables port name rows_of_port access_policy
 commit_beside_lock = refl
 
 own_lock_is_no_hindrance : commit_refusal (partly (top ∷ [])) 2 None ≡ None
-unfolding node tables port name rows_of_port
+unfolding node tables port name rows_of_port access_policy
 own_lock_is_no_hindrance = refl
 
 -- ---- partial locks
@@ -159,24 +160,24 @@ select_b = selecting (codes "/e:top/e:port[e:name='b']")
 
 -- a name without a prefix, a list without its key, a value that is not of the type
 select_is_bad : partial_lock_refusal both 1 (select_a ∷ selecting (codes "/top") ∷ []) ≡ Some (plain_cause BadSelect [])
-unfolding node tables port name rows_of_port instance_path pattern_step written_step written_name predicate predicate_key quoted_string canonical
+unfolding node tables port name rows_of_port instance_path pattern_step written_step written_name predicate predicate_key quoted_string canonical access_policy
 select_is_bad = refl
 
 key_is_missing : partial_lock_refusal both 1 (selecting (codes "/e:top/e:port") ∷ []) ≡ Some (plain_cause BadSelect [])
-unfolding node tables port name rows_of_port instance_path pattern_step written_step written_name predicate predicate_key quoted_string canonical
+unfolding node tables port name rows_of_port instance_path pattern_step written_step written_name predicate predicate_key quoted_string canonical access_policy
 key_is_missing = refl
 
 value_is_bad : partial_lock_refusal both 1 (selecting (codes "/e:top/e:port[e:name='c']") ∷ []) ≡ Some (plain_cause BadSelect [])
-unfolding node tables port name rows_of_port instance_path pattern_step written_step written_name predicate predicate_key quoted_string canonical
+unfolding node tables port name rows_of_port instance_path pattern_step written_step written_name predicate predicate_key quoted_string canonical access_policy
 value_is_bad = refl
 
 nothing_matches : partial_lock_refusal both 1 (select_b ∷ []) ≡ Some (plain_cause NoMatch [])
-unfolding node tables port name rows_of_port instance_path pattern_step written_step written_name predicate predicate_key quoted_string canonical
+unfolding node tables port name rows_of_port instance_path pattern_step written_step written_name predicate predicate_key quoted_string canonical access_policy
 nothing_matches = refl
 
 -- one select matches; a container is matched by what stands in it; a node is listed once
 some_match : asked_verdict both 1 (PartialLock (select_b ∷ select_a ∷ selecting (codes "/e:top") ∷ select_a ∷ [])) false ≡ Locked 1 (port (codes "a") ∷ top ∷ [])
-unfolding node tables port name rows_of_port instance_path pattern_step written_step written_name predicate predicate_key quoted_string canonical
+unfolding node tables port name rows_of_port instance_path pattern_step written_step written_name predicate predicate_key quoted_string canonical access_policy
 some_match = refl
 
 partial_lock_is_kept : changed_by both 1 (PartialLock (select_a ∷ [])) (Locked 1 (port (codes "a") ∷ []))
@@ -185,15 +186,15 @@ partial_lock_is_kept = refl
 
 -- below a node that another session has locked, and above one
 partial_below : partial_lock_refusal (partly (top ∷ [])) 1 (select_a ∷ []) ≡ Some (plain_cause LockPartial (decimal 3 ∷ decimal 2 ∷ []))
-unfolding node tables port name rows_of_port instance_path pattern_step written_step written_name predicate predicate_key quoted_string canonical
+unfolding node tables port name rows_of_port instance_path pattern_step written_step written_name predicate predicate_key quoted_string canonical access_policy
 partial_below = refl
 
 partial_above : partial_lock_refusal (partly (port (codes "a") ∷ [])) 1 (selecting (codes "/e:top") ∷ []) ≡ Some (plain_cause LockPartial (decimal 3 ∷ decimal 2 ∷ []))
-unfolding node tables port name rows_of_port instance_path pattern_step written_step written_name predicate predicate_key quoted_string canonical
+unfolding node tables port name rows_of_port instance_path pattern_step written_step written_name predicate predicate_key quoted_string canonical access_policy
 partial_above = refl
 
 own_partial : partial_lock_refusal (partly (top ∷ [])) 2 (select_a ∷ []) ≡ None
-unfolding node tables port name rows_of_port instance_path pattern_step written_step written_name predicate predicate_key quoted_string canonical
+unfolding node tables port name rows_of_port instance_path pattern_step written_step written_name predicate predicate_key quoted_string canonical access_policy
 own_partial = refl
 
 partial_while_pending : partial_lock_refusal outstanding 2 (select_a ∷ []) ≡ Some (plain_cause LockPending (decimal 2 ∷ []))
@@ -205,11 +206,11 @@ partial_while_locked = refl
 -- a session with 64 partial locks, and the last lock-id
 too_many_locks : partial_lock_refusal (record both { partial = replicate 64 (lock_of (port (codes "a") ∷ [])); last_lock = 3 }) 2 (select_a ∷ [])
     ≡ Some (plain_cause Limit (partial_locks_word ∷ []))
-unfolding node tables port name rows_of_port instance_path pattern_step written_step written_name predicate predicate_key quoted_string canonical
+unfolding node tables port name rows_of_port instance_path pattern_step written_step written_name predicate predicate_key quoted_string canonical access_policy
 too_many_locks = refl
 
 no_lock_id : partial_lock_refusal (record both { last_lock = 4294967295 }) 1 (select_a ∷ []) ≡ Some (plain_cause Limit (lock_ids_word ∷ []))
-unfolding node tables port name rows_of_port instance_path pattern_step written_step written_name predicate predicate_key quoted_string canonical
+unfolding node tables port name rows_of_port instance_path pattern_step written_step written_name predicate predicate_key quoted_string canonical access_policy
 no_lock_id = refl
 
 unlock_of_other_lock : asked_verdict (partly (top ∷ [])) 1 (PartialUnlock 3) false ≡ Refused (plain_cause BadParameter (lock_id_word ∷ []) ∷ [])
@@ -253,7 +254,7 @@ lowest_is_named : lock_refusal exchanged 1 Running ≡ Some (plain_cause LockPar
 lowest_is_named = refl
 
 deleted_goes_first : commit_refusal exchanged 1 None ≡ Some (plain_cause InUsePartial (decimal 4 ∷ decimal 2 ∷ []))
-unfolding node tables port name rows_of_port
+unfolding node tables port name rows_of_port access_policy
 deleted_goes_first = refl
 
 -- with 64 live sessions, or once the last session-id was given, none is started

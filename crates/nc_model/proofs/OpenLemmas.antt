@@ -2,7 +2,6 @@
 use Rattle.std.proofs.Common.{◌≡◌, ◌&&◌, ◌||◌, ℕ, Bool, true, false, not, List, [], ◌∷◌, refl, ap, ◌∙◌}
 use Rattle.std.specs.Prelude.{option_map}
 use Rattle.std.specs.List.{find, list_all}
-use Rattle.nc_names.specs.declared.path.Path.{Path}
 use Rattle.nc_names.specs.declared.path.Right.TheVariants.{Read}
 use Rattle.nc_names.specs.declared.path.Row.{Row}
 use Rattle.nc_names.specs.declared.path.Step.{Step}
@@ -10,11 +9,9 @@ use Rattle.nc_schema.specs.Tables.{Tables}
 use Rattle.nc_protocol.specs.declared.access.By.TheVariants.{Off, Recovery}
 use Rattle.nc_protocol.specs.declared.peer.Peer.{Peer}
 use Rattle.nc_protocol.proofs.KeyLemmas.{filter_whole}
-use Rattle.nc_model.specs.Access.{access_policy, peer_of, sees_of, visible}
 use Rattle.nc_model.specs.Decision.{Question, by_default, by_rule, decision, denied_by, first_made, made_if, of_data, of_operation, permitted_by, rules_for, subject}
 use Rattle.nc_model.specs.Laws.{NothingIsDenied}
 use Rattle.nc_model.specs.Sight.{beginnings, is_open, may_read, may_see}
-use Rattle.nc_model.specs.State.{State}
 use Rattle.nc_model.specs.declared.policy.Policy.{Policy}
 
 -- whatever is asked
@@ -43,10 +40,3 @@ nothing_is_denied = record {
   nodes = open_sees;
   rows = λ tables policy peer rows open_is. filter_whole (λ row. may_see tables policy peer row.path.steps) rows (λ row has. open_sees tables policy peer row.path.steps open_is);
 }
-
--- today every session sees every node and every row
-pub every_node_seen : (s : State) (session : ℕ) → ◌≡◌ {A = Path → Bool} (λ path. sees_of s session path) (λ path. true)
-every_node_seen s session = λ i path. open_sees s.schema (access_policy s) (peer_of s session) path.steps refl i
-
-pub every_row_seen : (s : State) (session : ℕ) (rows : List Row) → visible s session rows ≡ rows
-every_row_seen s session rows = nothing_is_denied.rows s.schema (access_policy s) (peer_of s session) rows refl

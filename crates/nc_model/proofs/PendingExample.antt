@@ -9,6 +9,7 @@ use Rattle.nc_protocol.specs.Words.{running_word}
 use Rattle.nc_protocol.specs.declared.asked.Asked.TheVariants.{CloseSession, Commit, CancelCommit, KillSession}
 use Rattle.nc_protocol.specs.declared.verdict.Verdict.TheVariants.{Done}
 use Rattle.nc_model.specs.History.{returning}
+use Rattle.nc_model.specs.Access.{access_policy}
 use Rattle.nc_model.specs.State.{State, base_of, expired, no_holders, session_ended}
 use Rattle.nc_model.specs.Step.{appends_record, changed_by}
 use Rattle.nc_model.specs.Verdict.{cancel_refusal, commit_admission, commit_refusal}
@@ -135,9 +136,9 @@ cancel_in_use : cancel_refusal (record confirming { holders = record no_holders 
 cancel_in_use = refl
 
 cancel_is_locked : cancel_refusal (record confirming { partial = record { id = 3; session = 2; nodes = port (codes "b") ∷ [] } ∷ []; last_lock = 3 }) 1 None ≡ Some (plain_cause InUsePartial (decimal 3 ∷ decimal 2 ∷ []))
-unfolding node tables port name rows_of_port
+unfolding node tables port name rows_of_port access_policy
 cancel_is_locked = refl
 
 any_session_cancels : cancel_refusal persisting 2 (Some token) ≡ None
-unfolding node tables port name rows_of_port
+unfolding node tables port name rows_of_port access_policy
 any_session_cancels = refl

@@ -26,6 +26,7 @@ use Rattle.nc_protocol.specs.declared.peer.Peer.{Peer}
 use Rattle.nc_protocol.specs.declared.verdict.Verdict.{Verdict}
 use Rattle.nc_protocol.specs.declared.verdict.Verdict.TheVariants.{Done, Refused}
 use Rattle.nc_model.specs.History.{after, doubts_after, IsLegal}
+use Rattle.nc_model.specs.Access.{access_policy}
 use Rattle.nc_model.specs.State.{State, no_holders, opening}
 use Rattle.nc_model.specs.Step.{Fits, outcome_of}
 use Rattle.nc_protocol.specs.Reply.{reply_of}
@@ -86,36 +87,36 @@ refused : Verdict
 refused = Refused (record { kind = DiskFault; path = None; names = [] } ∷ [])
 
 ports_are_in_candidate : after (opening tables [] 0) merged ≡ state [] (Some both) 2 0
-unfolding node tables port name element rows_of_port answer alice with_port asks_for merges commits entry state both merged canonical hidden-the_row-Part-0 hidden-the_row-Elem-1 hidden
+unfolding node tables port name element rows_of_port answer alice with_port asks_for merges commits entry state both merged canonical hidden-the_row-Part-0 hidden-the_row-Elem-1 hidden access_policy
 ports_are_in_candidate = refl
 
 commit_is_done : outcome_of (state [] (Some both) 2 0) (Requested 1 commits) false ≡ answer commits Done
-unfolding node tables port name element rows_of_port answer alice asks_for commits state both
+unfolding node tables port name element rows_of_port answer alice asks_for commits state both access_policy
 commit_is_done = refl
 
 ports_are_in_running : after (state [] (Some both) 2 0) (entry 3 (Requested 1 commits) (answer commits Done) 0 0 ∷ []) ≡ state both None 3 0
-unfolding node tables port name element rows_of_port answer alice asks_for commits entry state both
+unfolding node tables port name element rows_of_port answer alice asks_for commits entry state both access_policy
 ports_are_in_running = refl
 
 failed_commit_is_refused : outcome_of (state [] (Some both) 2 0) (Requested 1 commits) true ≡ answer commits refused
-unfolding node tables port name element rows_of_port answer alice asks_for commits state both refused
+unfolding node tables port name element rows_of_port answer alice asks_for commits state both refused access_policy
 failed_commit_is_refused = refl
 
 failed_commit_changes_nothing : after (state [] (Some both) 2 0) (entry 3 (Requested 1 commits) (answer commits refused) 0 1 ∷ []) ≡ state [] (Some both) 3 1
-unfolding node tables port name element rows_of_port answer alice asks_for commits entry state both refused
+unfolding node tables port name element rows_of_port answer alice asks_for commits entry state both refused access_policy
 failed_commit_changes_nothing = refl
 
 next_commit_is_done : after (state [] (Some both) 3 1) (entry 4 (Requested 1 commits) (answer commits Done) 1 1 ∷ []) ≡ state both None 4 1
-unfolding node tables port name element rows_of_port answer alice asks_for commits entry state both
+unfolding node tables port name element rows_of_port answer alice asks_for commits entry state both access_policy
 next_commit_is_done = refl
 
 -- a commit that the disk refused is in doubt until one is done
 in_doubt_now : doubts_after (state [] (Some both) 2 0) [] (entry 3 (Requested 1 commits) (answer commits refused) 0 1) ≡ both ∷ []
-unfolding node tables port name element rows_of_port answer alice asks_for commits entry state both refused
+unfolding node tables port name element rows_of_port answer alice asks_for commits entry state both refused access_policy
 in_doubt_now = refl
 
 no_doubt_left : doubts_after (state [] (Some both) 3 1) (both ∷ []) (entry 4 (Requested 1 commits) (answer commits Done) 1 1) ≡ []
-unfolding node tables port name element rows_of_port answer alice asks_for commits entry state both
+unfolding node tables port name element rows_of_port answer alice asks_for commits entry state both access_policy
 no_doubt_left = refl
 
 began : State
@@ -129,15 +130,15 @@ unfolding alice entry
 start_fits = record { proper = tt; outcome = refl; before = refl; faults = refl }
 
 first_fits : Fits began (entry 1 (Requested 1 (merges (codes "b"))) (answer (merges (codes "b")) Done) 0 0)
-unfolding node tables port name element rows_of_port answer alice with_port asks_for merges entry state began canonical hidden-the_row-Part-0 hidden-the_row-Elem-1 hidden
+unfolding node tables port name element rows_of_port answer alice with_port asks_for merges entry state began canonical hidden-the_row-Part-0 hidden-the_row-Elem-1 hidden access_policy
 first_fits = record { proper = refl; outcome = refl; before = refl; faults = refl }
 
 second_fits : Fits with_b (entry 2 (Requested 1 (merges (codes "a"))) (answer (merges (codes "a")) Done) 0 0)
-unfolding node tables port name element rows_of_port answer alice with_port asks_for merges entry state with_b canonical hidden-the_row-Part-0 hidden-the_row-Elem-1 hidden
+unfolding node tables port name element rows_of_port answer alice with_port asks_for merges entry state with_b canonical hidden-the_row-Part-0 hidden-the_row-Elem-1 hidden access_policy
 second_fits = record { proper = refl; outcome = refl; before = refl; faults = refl }
 
 merged_is_legal : IsLegal 0 (opening tables [] 0) merged
-unfolding node tables port name element rows_of_port answer alice with_port asks_for merges entry state began with_b merged canonical hidden-the_row-Part-0 hidden-the_row-Elem-1 hidden
+unfolding node tables port name element rows_of_port answer alice with_port asks_for merges entry state began with_b merged canonical hidden-the_row-Part-0 hidden-the_row-Elem-1 hidden access_policy
 merged_is_legal =
     let start = entry 0 (Start alice) (Started 1) 0 0 in
     let first = entry 1 (Requested 1 (merges (codes "b"))) (answer (merges (codes "b")) Done) 0 0 in

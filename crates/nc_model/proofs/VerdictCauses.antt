@@ -39,7 +39,7 @@ use Rattle.nc_protocol.specs.RequestLaws.{CausesAre}
 use Rattle.nc_protocol.specs.Words.{source_word, lock_id_word}
 use Rattle.nc_model.specs.Access.{exec_of, rights_of}
 use Rattle.nc_model.specs.State.{State, Pending, NodeLock, candidate_in_force, is_held_by, last_lock_id, locks_of, locks_some, most_locks}
-use Rattle.nc_model.specs.Verdict.{operation_refused, is_offered, exec_denied, asked_verdict, unsupported, unsupported_origin, is_source, is_target, is_same_store, is_too_large, stored, shown, edit_verdict, edits_made, edit_checks, made_by, causes_of_test, done_where, copied, copy_checks, unless_denied, rows_copied, changes_denied, denied_among, validated, rows_to_validate, kept_unless, holder_of, global_lock_cause, partial_lock_cause, pending_cause, in_use, in_use_at, in_use_partial, lock_of_other, covers_path, is_candidate, is_running, pending_of_other, partly_locked, lock_checks, lock_refusal, unlock_checks, unlock_refusal, kill_refusal, refused_by, admission, commit_changes, commit_checks, commit_refusal, cancel_changes, cancel_checks, cancel_refusal, are_selects, is_none_of, nodes_selected, partial_lock_checks, partial_lock_refusal, has_lock, partial_unlock_refusal}
+use Rattle.nc_model.specs.Verdict.{operation_refused, asked_verdict, unsupported, unsupported_origin, is_source, is_target, is_same_store, is_too_large, stored, shown, edit_verdict, edits_made, edit_checks, made_by, causes_of_test, done_where, copied, copy_checks, unless_denied, rows_copied, changes_denied, denied_among, validated, rows_to_validate, kept_unless, holder_of, global_lock_cause, partial_lock_cause, pending_cause, in_use, in_use_at, in_use_partial, lock_of_other, covers_path, is_candidate, is_running, pending_of_other, partly_locked, lock_checks, lock_refusal, unlock_checks, unlock_refusal, kill_refusal, refused_by, admission, commit_changes, commit_checks, commit_refusal, cancel_changes, cancel_checks, cancel_refusal, are_selects, is_none_of, nodes_selected, partial_lock_checks, partial_lock_refusal, has_lock, partial_unlock_refusal}
 use Rattle.nc_model.specs.Words.{partial_locks_word, lock_ids_word, record_word}
 use Rattle.nc_model.proofs.KindLemmas.{ErrIs}
 use Rattle.nc_protocol.proofs.ListLemmas.{all_one, all_append}
@@ -361,7 +361,4 @@ module _ (P : Cause → Type 0) (s : State) (n : ℕ)
   pub refused_is : (operation : Option Operation) → IfSome (operation_refused s n operation) P
   refused_is None = tt
   refused_is (Some operation) =
-      let exec = exec_denied (exec_of s n operation) in
-      or_is (cause_where (not (is_offered operation)) (plain_cause UnknownOperation [])) exec
-      (where_plain (not (is_offered operation)) UnknownOperation [] refl)
-      (where_is P (not (exec_of s n operation).permit) (plain_cause ExecDenied (decision_names MayExec (exec_of s n operation).by)) (no_exec operation))
+      where_is P (not (exec_of s n operation).permit) (plain_cause ExecDenied (decision_names MayExec (exec_of s n operation).by)) (no_exec operation)

@@ -11,7 +11,7 @@ use Rattle.nc_protocol.specs.declared.asked.Operation.{Operation}
 use Rattle.nc_protocol.specs.declared.asked.Operation.TheVariants.{Get, GetConfig, EditConfig, CopyConfig, DeleteConfig, Lock, Unlock, CloseSession, KillSession, Commit, DiscardChanges, CancelCommit, Validate, PartialLock, PartialUnlock}
 use Rattle.nc_protocol.specs.declared.peer.Peer.{Peer}
 use Rattle.nc_model.specs.Decision.{data_decision, exec_decision}
-use Rattle.nc_model.specs.Policy.{off_policy}
+use Rattle.nc_model.specs.Policy.{policy_of}
 use Rattle.nc_model.specs.Sight.{may_see, visible_rows}
 use Rattle.nc_model.specs.State.{State}
 use Rattle.nc_model.specs.Words.{netconf_module, partial_lock_module}
@@ -54,9 +54,9 @@ abbrev pub peer_of : State → ℕ → Peer
 peer_of s number =
     option_map_or (λ session. session.peer) (find (λ session. session.number == number) s.sessions) nobody
 
--- the policy by which the server decides: access control is not offered yet, so it is off (RFC 8341 3.3.4.1)
-abbrev pub access_policy : State → Policy
-access_policy s = off_policy
+-- the policy by which the server decides: that of the running configuration in force (RFC 8341 3.4.1, 3.5.2)
+unfoldable pub access_policy : State → Policy
+access_policy s = policy_of s.schema s.running
 
 -- whether a session may ask for an operation (RFC 8341 3.4.4)
 abbrev pub exec_of : State → ℕ → Operation → Decision

@@ -1,4 +1,4 @@
--- States that are alike for a session: what it may learn of them is the same (RFC 8341 3.2.4, 3.4.5).
+-- States that are alike for a session: what it may learn of them is the same (RFC 8341 3.2.4, 3.4.3).
 use Rattle.std.specs.Prelude.{◌≡◌, ◌⊎◌, ℕ, Bool, true, false, List, map, Option, Some, is_some, option_map}
 use Rattle.std.specs.List.{list_any}
 use Rattle.nc_names.specs.declared.cause.CauseKind.{CauseKind}
@@ -21,7 +21,7 @@ use Rattle.nc_model.specs.State.{State, IsGood, NodeLock, Pending, candidate_in_
 use Rattle.nc_model.specs.Verdict.{verdict}
 
 -- what a reply tells of a decision: whether it permits, and what decided, without the names of a rule that is not seen
--- (RFC 8341 3.4.5)
+-- (RFC 8341 3.4.3)
 abbrev pub decision_told : (Path → Bool) → Right → Decision → Bool × List (List ℕ)
 decision_told sees right decision = (decision.permit, seen_names sees (decision_names right decision.by))
 
@@ -93,7 +93,7 @@ is_reading operation = false
 
 -- least disclosure: states in which the clock was read, and that are alike for a session, give equal replies to its
 -- request, or one of the verdicts has such a cause; to a get or get-config they give equal replies (RFC 8341 3.2.4,
--- 3.4.5)
+-- 3.4.3)
 pub record DisclosesLeast : Type 0 where
   pub requests :
       (s t : State) (session : ℕ) (request : Request) (failed failing : Bool) →

@@ -140,10 +140,6 @@ no_policy = record {
   lists = [];
 }
 
--- access control is off (RFC 8341 3.3.4.1)
-abbrev pub off_policy : Policy
-off_policy = record no_policy { on = false }
-
 -- the policy in the container `nacm` (RFC 8341 3.5.2). Where no value of `enable-nacm` is in use, access control is on
 abbrev pub policy_at : Tables → Place → Policy
 policy_at tables place = record {

@@ -5,7 +5,7 @@ use Rattle.std.specs.List.{filter, filter_map, find, list_all, list_any}
 use Rattle.std.specs.Option.{option_map_or, option_or, option_to_list}
 use Rattle.nc_names.specs.Same.{is_at_or_below, is_same_path, is_same_text}
 use Rattle.nc_names.specs.declared.cause.CauseKind.{CauseKind}
-use Rattle.nc_names.specs.declared.cause.CauseKind.TheVariants.{UnknownOperation, ExecDenied, BadParameter, UnsupportedTarget, LockHeld, LockModified, LockPending, LockPartial, NotHeld, InUseGlobal, InUsePartial, InUsePending, NoPending, BadToken, NotLiveTarget, BadSelect, NoMatch, Limit, DataDenied, DiskFault}
+use Rattle.nc_names.specs.declared.cause.CauseKind.TheVariants.{ExecDenied, BadParameter, UnsupportedTarget, LockHeld, LockModified, LockPending, LockPartial, NotHeld, InUseGlobal, InUsePartial, InUsePending, NoPending, BadToken, NotLiveTarget, BadSelect, NoMatch, Limit, DataDenied, DiskFault}
 use Rattle.nc_names.specs.declared.name.Bound.{Bound}
 use Rattle.nc_names.specs.declared.path.Path.{Path}
 use Rattle.nc_names.specs.declared.path.Right.{Right}
@@ -26,7 +26,6 @@ use Rattle.nc_protocol.specs.declared.asked.Asked.TheVariants.{Get, GetConfig, E
 use Rattle.nc_protocol.specs.declared.asked.Default3.{Default3}
 use Rattle.nc_protocol.specs.declared.asked.ErrorOption.{ErrorOption}
 use Rattle.nc_protocol.specs.declared.asked.Operation.{Operation}
-use Rattle.nc_protocol.specs.declared.asked.Operation.TheVariants.{Get as GetOperation, GetConfig as GetConfigOperation, EditConfig as EditConfigOperation, CopyConfig as CopyConfigOperation, DeleteConfig as DeleteConfigOperation, Lock as LockOperation, Unlock as UnlockOperation, CloseSession as CloseSessionOperation, KillSession as KillSessionOperation, Commit as CommitOperation, DiscardChanges as DiscardChangesOperation, CancelCommit as CancelCommitOperation, Validate as ValidateOperation, PartialLock as PartialLockOperation, PartialUnlock as PartialUnlockOperation}
 use Rattle.nc_protocol.specs.declared.asked.Select.{Select}
 use Rattle.nc_protocol.specs.declared.asked.TestOption.{TestOption}
 use Rattle.nc_protocol.specs.declared.asked.TestOption.TheVariants.{TestThenSet, Set, TestOnly}
@@ -51,26 +50,6 @@ use Rattle.nc_protocol.specs.Words.{source_word, lock_id_word}
 use Rattle.nc_model.specs.Access.{exec_of, rights_of, visible}
 use Rattle.nc_model.specs.State.{State, Holders, NodeLock, Pending, base_of, candidate_in_force, is_held_by, is_live, last_lock_id, locks_of, locks_some, most_locks}
 use Rattle.nc_model.specs.Words.{partial_locks_word, lock_ids_word, record_word}
-
--- ---- what the server offers
-
--- the operations that the server offers
-abbrev pub is_offered : Operation → Bool
-is_offered GetOperation = true
-is_offered GetConfigOperation = true
-is_offered EditConfigOperation = true
-is_offered CopyConfigOperation = true
-is_offered DeleteConfigOperation = true
-is_offered LockOperation = true
-is_offered UnlockOperation = true
-is_offered CloseSessionOperation = true
-is_offered KillSessionOperation = true
-is_offered CommitOperation = true
-is_offered DiscardChangesOperation = true
-is_offered CancelCommitOperation = true
-is_offered ValidateOperation = true
-is_offered PartialLockOperation = true
-is_offered PartialUnlockOperation = true
 
 -- the record of a configuration is larger than the server keeps
 abbrev pub is_too_large : List Row → Bool
@@ -474,13 +453,10 @@ asked_verdict s session (PartialUnlock id) failed = checked (partial_unlock_refu
 abbrev pub exec_denied : Decision → Option Cause
 exec_denied decision = cause_where (not decision.permit) (plain_cause ExecDenied (decision_names Exec decision.by))
 
--- an operation that is not offered, and one that the session may not ask for, are refused before their
--- parameters are looked at (RFC 8341 3.4.4)
+-- an operation that the session may not ask for is refused before its parameters are looked at (RFC 8341 3.4.4)
 abbrev pub operation_refused : State → ℕ → Option Operation → Option Cause
 operation_refused s session None = None
-operation_refused s session (Some operation) =
-    option_or (cause_where (not (is_offered operation)) (plain_cause UnknownOperation []))
-    (exec_denied (exec_of s session operation))
+operation_refused s session (Some operation) = exec_denied (exec_of s session operation)
 
 -- the verdict on the reading of a request's parameters
 abbrev pub verdict_on : State → ℕ → Result Asked Cause → Bool → Verdict

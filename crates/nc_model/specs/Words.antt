@@ -1,4 +1,4 @@
--- The fixed texts of access control and of limits (RFC 8341 3.5.2, RFC 6241 10.2, RFC 5717 appendix B). Those that
+-- The fixed texts of access control and of limits (RFC 8341 3.5.2, RFC 6241 appendix C, RFC 5717 appendix B). Those that
 -- requests and replies have too stand in nc_protocol.
 use Rattle.std.specs.Prelude.{ℕ, List, codes}
 
@@ -26,7 +26,7 @@ update_word = codes "update"
 
 -- ---- the modules of operations
 
--- the module of the protocol operations (RFC 6241 10.2, appendix C)
+-- the module of the protocol operations (RFC 6241 appendix C)
 unfoldable pub netconf_module : List ℕ
 netconf_module = codes "ietf-netconf"
 

@@ -65,11 +65,11 @@ live_outcome s session request failed live =
     sym (ap (λ (b : Bool). cond b (answer_to s session request failed) NotLive) live)
 
 pub answered_is : (s new : State) (session : ℕ) (request : Request) (v : Verdict) (c : Change) (outcome : Outcome) →
-    IsProper request → true ≡ is_live s session → Answer v c ≡ course s session request →
+    true ≡ is_live s session → Answer v c ≡ course s session request →
     outcome ≡ answered_by s session request v → new ≡ made s session c → Answers s new session request outcome
 unfolding answered_by
-answered_is s new session request v c outcome proper live is told new_is =
-    let answer = answers s session request v c proper (sym is) in
+answered_is s new session request v c outcome live is told new_is =
+    let answer = answers s session request v c (sym is) in
     let failed = has_failed (answered_by s session request v) in
     subst (λ (o : Outcome). Answers s new session request o) (sym told)
     (subst (λ (n : State). Answers s n session request (answered_by s session request v)) (sym new_is)
@@ -89,9 +89,9 @@ not_live s session request dead = record {
   state_is = refl;
 }
 
-pub unreached : (s : State) (session : ℕ) (request : Request) (v : Verdict) (c : Change) → IsProper request →
+pub unreached : (s : State) (session : ℕ) (request : Request) (v : Verdict) (c : Change) →
     Answer v c ≡ course s session request → reaches_disk s (Requested session request) ≡ false
-unreached s session request v c proper is = reach_is s session request v c (answers s session request v c proper (sym is))
+unreached s session request v c is = reach_is s session request v c (answers s session request v c (sym is))
 
 -- ---- a commit
 

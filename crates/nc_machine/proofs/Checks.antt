@@ -1,5 +1,5 @@
 -- The first check of several that fails, as it is looked for one after another.
-use Rattle.std.proofs.Common.{◌≡◌, ◌⊎◌, ◌≤◌, ◌<◌, ℕ, Bool, true, false, not, List, [], ◌∷◌, refl, sym, ap, ◌∙◌, inl, inr, Option, Some, None}
+use Rattle.std.proofs.Common.{◌≡◌, ◌⊎◌, ◌≤◌, ◌<◌, ℕ, Bool, true, false, not, List, [], ◌∷◌, refl, sym, ap, ◌∙◌, inl, inr, Option, Some, None, Err}
 use Rattle.std.specs.Prelude.{cond, nat_le, nat_lt}
 use Rattle.std.specs.Option.{option_or}
 use Rattle.std.proofs.lemmas.Bool.{le-ltb, lt-ltb}
@@ -14,11 +14,11 @@ use Rattle.nc_protocol.specs.declared.datastore.Origin.{Origin}
 use Rattle.nc_protocol.specs.declared.request.Cause.{Cause}
 use Rattle.nc_protocol.specs.Asking.{plain_cause}
 use Rattle.nc_protocol.specs.Edited.{cause_where, first_cause}
-use Rattle.nc_protocol.specs.Refusals.{violation_in}
+use Rattle.nc_protocol.specs.Refusals.{result_unless, violation_in}
 use Rattle.nc_model.specs.Access.{rights_of}
 use Rattle.nc_model.specs.State.{State, candidate_in_force}
 use Rattle.nc_model.specs.Words.{record_word}
-use Rattle.nc_model.specs.Verdict.{cancel_admission, cancel_refusal, changes_denied, commit_admission, commit_changes, commit_refusal, copy_checks, edit_checks, in_use, in_use_partial, is_running, is_source, is_target, lock_refusal, partly_locked, pending_of_other, record_refusal, unlock_refusal, unsupported, unsupported_origin}
+use Rattle.nc_model.specs.Verdict.{cancel_admission, cancel_refusal, changes_denied, commit_admission, commit_changes, commit_refusal, copied, copy_checks, edit_checks, in_use, in_use_partial, is_running, is_source, is_target, lock_refusal, partly_locked, pending_of_other, record_refusal, rows_copied, unless_denied, unlock_refusal, unsupported, unsupported_origin}
 use Rattle.nc_machine.specs.inner.Courses.{cancel_refused, commit_refused, held_refusal, lock_refused, modified_refusal, not_held, reversion_refusal, same_store, uncopied, unedited, unlock_refused}
 
 first_of_two : (a b : Option Cause) → first_cause (a ∷ b ∷ []) ≡ option_or a b
@@ -66,6 +66,18 @@ pub copy_checked : (s : State) (session : ℕ) (target : Datastore) (source : Or
     first_cause (copy_checks s session target source) ≡ uncopied s session target source
 copy_checked s session target source =
     first_of_four (unsupported is_target target) (unsupported_origin source) (same_store target source) (in_use s session Candidate)
+
+pub copied_by : (s : State) (session : ℕ) (target : Datastore) (source : Origin) → None ≡ uncopied s session target source →
+    unless_denied s session (rows_copied s session source) ≡ copied s session target source
+copied_by s session target source is =
+    ap (λ (why : Option Cause). result_unless why (unless_denied s session (rows_copied s session source)))
+    (is ∙ sym (copy_checked s session target source))
+
+pub not_copied : (s : State) (session : ℕ) (target : Datastore) (source : Origin) (cause : Cause) →
+    Some cause ≡ uncopied s session target source → Err cause ≡ copied s session target source
+not_copied s session target source cause is =
+    ap (λ (why : Option Cause). result_unless why (unless_denied s session (rows_copied s session source)))
+    (is ∙ sym (copy_checked s session target source))
 
 pub lock_checked : (s : State) (session : ℕ) (target : Datastore) → lock_refusal s session target ≡ lock_refused s session target
 lock_checked s session target =

@@ -1,10 +1,9 @@
 -- The pending commit, as it is looked at and changed.
 use Rattle.std.proofs.Common.{◌≡◌, ◌==◌, ◌+◌, ◌&&◌, ℕ, Bool, true, false, not, cond, List, [], refl, sym, ap, ◌∙◌, Option, Some, None, Result, Ok, Err}
-use Rattle.std.specs.Option.{option_copied, option_map_or, option_or}
+use Rattle.std.specs.Option.{option_map_or, option_or}
 use Rattle.std.specs.Prelude.{is_some, option_and_then}
 use Rattle.nc_names.specs.declared.cause.CauseKind.TheVariants.{BadToken, NoPending}
 use Rattle.nc_names.specs.declared.path.Row.{Row}
-use Rattle.nc_protocol.specs.declared.request.Cause.{Cause}
 use Rattle.nc_protocol.specs.Asking.{plain_cause}
 use Rattle.nc_protocol.specs.Edited.{cause_where}
 use Rattle.nc_model.specs.State.{Pending, State, candidate_in_force, left_by_end, released, reverted, session_ended, without_session}

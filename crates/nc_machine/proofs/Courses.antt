@@ -1,9 +1,6 @@
 -- What a request comes to is its verdict, and what it changes is what the verdict says.
-use Rattle.std.proofs.Common.{◌≡◌, ◌≤◌, ◌&&◌, ◌+◌, ℕ, Bool, true, false, not, cond, List, [], ◌∷◌, refl, sym, ap, ◌∙◌, Option, Some, None, Result, Ok, Err}
-use Rattle.std.specs.Option.{option_or}
-use Rattle.std.specs.Prelude.{IfOk}
-use Rattle.nc_names.specs.declared.memory.Memory.{Memory}
-use Rattle.nc_names.specs.declared.cause.CauseKind.TheVariants.{DiskFault, UnknownOperation}
+use Rattle.std.proofs.Common.{◌≡◌, ◌≤◌, ◌&&◌, ◌+◌, ℕ, Bool, true, false, List, [], ◌∷◌, refl, sym, ap, ◌∙◌, Option, Some, None, Result, Ok, Err}
+use Rattle.nc_names.specs.declared.cause.CauseKind.TheVariants.{DiskFault}
 use Rattle.nc_names.specs.declared.path.Path.{Path}
 use Rattle.nc_names.specs.declared.path.Row.{Row}
 use Rattle.nc_schema.specs.Record.{record_size}
@@ -11,27 +8,20 @@ use Rattle.nc_names.specs.Limits.{body_limit}
 use Rattle.nc_schema.specs.Violations.{IsValid}
 use Rattle.nc_protocol.specs.declared.asked.Asked.{Asked}
 use Rattle.nc_protocol.specs.declared.asked.Asked.TheVariants.{Get, GetConfig, EditConfig, CopyConfig, DeleteConfig, Lock, Unlock, CloseSession, KillSession, Commit as AsksCommit, DiscardChanges, CancelCommit, Validate, PartialLock, PartialUnlock}
-use Rattle.nc_protocol.specs.declared.asked.Operation.{Operation}
 use Rattle.nc_protocol.specs.declared.datastore.Datastore.TheVariants.{Candidate as CandidateStore}
 use Rattle.nc_protocol.specs.declared.request.Cause.{Cause}
 use Rattle.nc_protocol.specs.declared.request.Request.{Request}
 use Rattle.nc_protocol.specs.declared.verdict.Verdict.{Verdict}
 use Rattle.nc_protocol.specs.declared.verdict.Verdict.TheVariants.{Done, Locked, Refused}
-use Rattle.nc_model.specs.Access.{exec_of}
-use Rattle.nc_protocol.specs.Edited.{cause_where}
-use Rattle.nc_protocol.specs.Proper.{IsAskedOf, IsProper, operation_of}
 use Rattle.nc_model.specs.State.{State, candidate_in_force}
 use Rattle.nc_model.specs.Step.{answered, answered_unless, appends_record, committed, is_done, rows_of_ok, with_candidate}
-use Rattle.nc_protocol.specs.Asking.{plain_cause}
-use Rattle.nc_model.specs.Verdict.{commit_refusal, copied, edits_made, exec_denied, in_use, is_offered, kept_unless, kill_refusal, nodes_selected, operation_refused, partial_lock_refusal, partial_unlock_refusal, rows_set, verdict, verdict_on}
+use Rattle.nc_model.specs.Verdict.{commit_refusal, copied, edits_made, in_use, kept_unless, kill_refusal, nodes_selected, operation_refused, partial_lock_refusal, partial_unlock_refusal, rows_set, verdict, verdict_on}
 use Rattle.nc_protocol.specs.Refusals.{checked, refused_for}
 use Rattle.nc_model.proofs.GoodLemmas.{commit_is_small, commit_is_valid}
-use Rattle.nc_model.proofs.SessionLemmas.{is_false_not}
 use Rattle.nc_machine.specs.declared.course.Change.{Change}
 use Rattle.nc_machine.specs.declared.course.Change.TheVariants.{Nothing, Discard, Grant, Release, Confirm, Revert, Over, GrantNodes, ReleaseNodes}
-use Rattle.nc_machine.specs.declared.course.Course.{Course}
 use Rattle.nc_machine.specs.declared.course.Course.TheVariants.{Answer, Commit}
-use Rattle.nc_machine.specs.inner.Courses.{asked_course, cancel_course, cancel_refused, changed_to, commit_asked_course, commit_course, commit_refused, copy_config_course, course, course_on, discard_course, done_unless, edit_config_course, edit_course, get_config_course, get_course, is_not_offered, kill_course, lock_course, lock_refused, made, partial_lock_course, partial_unlock_course, unlock_course, unlock_refused, validate_course}
+use Rattle.nc_machine.specs.inner.Courses.{asked_course, cancel_course, cancel_refused, changed_to, commit_asked_course, commit_refused, copy_config_course, course, course_on, discard_course, done_unless, edit_config_course, edit_course, get_config_course, get_course, kill_course, lock_course, lock_refused, made, partial_unlock_course, unless_refused, unlock_course, unlock_refused, validate_course}
 use Rattle.nc_machine.proofs.Checks.{cancel_checked, commit_checked, lock_checked, unlock_checked}
 use Rattle.nc_machine.proofs.Confirmed.{confirmed_is}
 use Rattle.nc_machine.proofs.Held.{lock_granted, lock_released}
@@ -57,9 +47,6 @@ changed_to_is s session (Some rows) = refl
 changes_nothing : (s : State) (session : ℕ) (c : Change) → Nothing ≡ c → s ≡ made s session c
 unfolding made
 changes_nothing s session c is = ap (made s session) is
-
-not_true : false ≡ true → ⊥
-not_true is = cc
 
 and_false : (b : Bool) → (b && false) ≡ false
 and_false true = refl
@@ -144,7 +131,7 @@ locking_nodes s session asked (Some cause) v lock nodes c verdicts appends locks
 -- a commit that is refused, whatever it would come to
 refused_commit : (s : State) (session : ℕ) (asked : Result Asked Cause) (why : Option Cause) (otherwise : Bool → Verdict) (v : Verdict)
     (c : Change) → ((failed : Bool) → verdict_on s session asked failed ≡ checked why (otherwise failed)) →
-    ((causes : List Cause) → answered s session asked (Refused causes) ≡ s) → commit_course why Commit ≡ Answer v c →
+    ((causes : List Cause) → answered s session asked (Refused causes) ≡ s) → unless_refused why Commit ≡ Answer v c →
     IsSettled s session asked v c
 unfolding made
 refused_commit s session asked None otherwise v c verdicts stays is = absurd (by is)
@@ -165,73 +152,70 @@ commit_stays : (s : State) (session : ℕ) (confirmed : Bool) (timeout : ℕ) (p
 commit_stays s session true timeout persist persist_id causes = refl
 commit_stays s session false timeout persist persist_id causes = refl
 
-as_done : (why : Option Cause) (change : Change) → done_unless why change ≡ commit_course why (Answer Done change)
+as_done : (why : Option Cause) (change : Change) → done_unless why change ≡ unless_refused why (Answer Done change)
 as_done None change = refl
 as_done (Some cause) change = refl
 
-asked_settles : (s : State) (session : ℕ) (asked : Asked) (v : Verdict) (c : Change) → is_offered (operation_of asked) ≡ true →
+asked_settles : (s : State) (session : ℕ) (asked : Asked) (v : Verdict) (c : Change) →
     asked_course s session asked ≡ Answer v c → IsSettled s session (Ok asked) v c
 unfolding asked_course get_course get_config_course edit_config_course edit_course copy_config_course commit_asked_course discard_course lock_course unlock_course kill_course cancel_course partial_unlock_course validate_course made
-asked_settles s session (Get filter) v c offered is =
+asked_settles s session (Get filter) v c is =
     plain s session (Ok (Get filter)) _ v c (λ failed. refl) refl (λ w. refl) is
-asked_settles s session (GetConfig source filter) v c offered is =
+asked_settles s session (GetConfig source filter) v c is =
     plain s session (Ok (GetConfig source filter)) _ v c (λ failed. refl) refl (λ w. refl) is
-asked_settles s session (EditConfig target default_operation test on_error config) v c offered is =
+asked_settles s session (EditConfig target default_operation test on_error config) v c is =
     setting s session (Ok (EditConfig target default_operation test on_error config)) _ v
     (rows_set s.schema test (edits_made s session target default_operation on_error config)) c
     (λ failed. refl) refl (λ w. refl) is
-asked_settles s session (CopyConfig target source) v c offered is =
+asked_settles s session (CopyConfig target source) v c is =
     setting s session (Ok (CopyConfig target source)) _ v (rows_of_ok (copied s session target source)) c
     (λ failed. refl) refl (λ w. refl) is
-asked_settles s session (DeleteConfig target) v c offered is =
+asked_settles s session (DeleteConfig target) v c is =
     plain s session (Ok (DeleteConfig target)) _ v c (λ failed. refl) refl (λ w. refl) is
-asked_settles s session CloseSession v c offered is =
+asked_settles s session CloseSession v c is =
     doing s session (Ok CloseSession) v (Over session) c (λ failed. refl) refl refl is
-asked_settles s session DiscardChanges v c offered is =
+asked_settles s session DiscardChanges v c is =
     checking s session (Ok DiscardChanges) (in_use s session CandidateStore) v Discard c (λ failed. refl) refl (λ free. refl)
     (λ causes. refl) is
-asked_settles s session (AsksCommit false timeout persist persist_id) v c offered is =
+asked_settles s session (AsksCommit false timeout persist persist_id) v c is =
     refused_commit s session (Ok (AsksCommit false timeout persist persist_id)) (commit_refused s session persist_id) kept_unless v c
     (λ failed. ap (λ (why : Option Cause). checked why (kept_unless failed)) (commit_checked s session persist_id))
     (commit_stays s session false timeout persist persist_id) is
-asked_settles s session (AsksCommit true timeout persist persist_id) v c offered is =
+asked_settles s session (AsksCommit true timeout persist persist_id) v c is =
     let change : Change = Confirm (candidate_in_force s) timeout persist in
     checking s session (Ok (AsksCommit true timeout persist persist_id)) (commit_refused s session persist_id) v change c
     (λ failed. ap (λ (why : Option Cause). checked why Done) (commit_checked s session persist_id)) refl
     (λ free. confirmed_is s session timeout persist) (commit_stays s session true timeout persist persist_id)
     (as_done (commit_refused s session persist_id) change ∙ is)
-asked_settles s session (Validate source) v c offered is =
+asked_settles s session (Validate source) v c is =
     plain s session (Ok (Validate source)) _ v c (λ failed. refl) refl (λ w. refl) is
-asked_settles s session (Lock target) v c offered is =
+asked_settles s session (Lock target) v c is =
     checking s session (Ok (Lock target)) (lock_refused s session target) v (Grant target) c
     (λ failed. ap (λ (why : Option Cause). checked why Done) (lock_checked s session target)) refl
     (λ free. lock_granted s session target (lock_checked s session target ∙ free)) (λ causes. refl) is
-asked_settles s session (Unlock target) v c offered is =
+asked_settles s session (Unlock target) v c is =
     checking s session (Ok (Unlock target)) (unlock_refused s session target) v (Release target) c
     (λ failed. ap (λ (why : Option Cause). checked why Done) (unlock_checked s session target)) refl
     (λ free. lock_released s session target (unlock_checked s session target ∙ free)) (λ causes. refl) is
-asked_settles s session (KillSession number) v c offered is =
+asked_settles s session (KillSession number) v c is =
     checking s session (Ok (KillSession number)) (kill_refusal s session number) v (Over number) c (λ failed. refl) refl
     (λ free. refl) (λ causes. refl) is
-asked_settles s session (CancelCommit persist_id) v c offered is =
+asked_settles s session (CancelCommit persist_id) v c is =
     checking s session (Ok (CancelCommit persist_id)) (cancel_refused s session persist_id) v Revert c
     (λ failed. ap (λ (why : Option Cause). checked why Done) (cancel_checked s session persist_id)) refl (λ free. refl)
     (λ causes. refl) is
-asked_settles s session (PartialLock selects) v c offered is =
+asked_settles s session (PartialLock selects) v c is =
     locking_nodes s session (Ok (PartialLock selects)) (partial_lock_refusal s session selects) v (s.last_lock + 1)
     (nodes_selected s session selects) c (λ failed. refl) refl (nodes_granted s session selects) (λ causes. refl)
     (partial_lock_is s session selects ∙ is)
-asked_settles s session (PartialUnlock lock) v c offered is =
+asked_settles s session (PartialUnlock lock) v c is =
     checking s session (Ok (PartialUnlock lock)) (partial_unlock_refusal s session lock) v (ReleaseNodes lock) c (λ failed. refl) refl
     (nodes_released s session lock) (λ causes. refl) is
 
-settles : (s : State) (session : ℕ) (operation : Option Operation) (asked : Result Asked Cause) (v : Verdict) (c : Change) →
-    is_not_offered operation ≡ false → IsAskedOf operation asked → course_on s session asked ≡ Answer v c →
-    IsSettled s session asked v c
-settles s session None (Ok asked) v c offered fits is = absurd fits
-settles s session (Some operation) (Ok asked) v c offered fits is =
-    asked_settles s session asked v c (ap is_offered fits ∙ is_false_not (is_offered operation) offered) is
-settles s session operation (Err cause) v c offered fits is =
+settles : (s : State) (session : ℕ) (asked : Result Asked Cause) (v : Verdict) (c : Change) →
+    course_on s session asked ≡ Answer v c → IsSettled s session asked v c
+settles s session (Ok asked) v c is = asked_settles s session asked v c is
+settles s session (Err cause) v c is =
     plain s session (Err cause) (Refused (cause ∷ [])) v c (λ failed. refl) refl (λ w. refl) is
 
 -- a request has that verdict and changes that, whatever the disk does
@@ -240,50 +224,33 @@ pub record IsAnswer (s : State) (session : ℕ) (request : Request) (v : Verdict
   pub disk : (appends_record request.asked && is_done v) ≡ false
   pub state_is : answered_unless (operation_refused s session request.operation) s session request.asked v ≡ made s session change
 
--- an operation that is offered is not refused, since every one may be asked for
-none_refused : (s : State) (session : ℕ) (operation : Option Operation) → is_not_offered operation ≡ false →
-    operation_refused s session operation ≡ None
-none_refused s session None offered = refl
-none_refused s session (Some operation) offered =
-    ap (λ (unoffered : Bool). option_or (cause_where unoffered (plain_cause UnknownOperation []))
-    (exec_denied (exec_of s session operation))) offered
-
-some_refused : (s : State) (session : ℕ) (operation : Option Operation) → is_not_offered operation ≡ true →
-    operation_refused s session operation ≡ Some (plain_cause UnknownOperation [])
-some_refused s session None unoffered = absurd (not_true unoffered)
-some_refused s session (Some operation) unoffered =
-    ap (λ (is : Bool). option_or (cause_where is (plain_cause UnknownOperation []))
-    (exec_denied (exec_of s session operation))) unoffered
-
--- by whether the operation is offered
-by_offer : (s : State) (session : ℕ) (request : Request) (v : Verdict) (c : Change) (unoffered : Bool) →
-    is_not_offered request.operation ≡ unoffered → IsAskedOf request.operation request.asked →
-    cond unoffered (Answer (refused_for UnknownOperation []) Nothing) (course_on s session request.asked) ≡ Answer v c →
-    IsAnswer s session request v c
-by_offer s session request v c false offers proper is =
-    let settled = settles s session request.operation request.asked v c offers proper is in
-    let free = none_refused s session request.operation offers in
+-- where an operation is refused before its parameters are looked at, and where it is not
+by_refusal : (s : State) (session : ℕ) (request : Request) (v : Verdict) (c : Change) (why : Option Cause) →
+    operation_refused s session request.operation ≡ why →
+    unless_refused why (course_on s session request.asked) ≡ Answer v c → IsAnswer s session request v c
+by_refusal s session request v c None free is =
+    let settled = settles s session request.asked v c is in
     record {
       verdict_is = λ failed.
           ap (λ (why : Option Cause). checked why (verdict_on s session request.asked failed)) free ∙ settled.verdict_is failed;
       disk = settled.disk;
       state_is = ap (λ (why : Option Cause). answered_unless why s session request.asked v) free ∙ settled.state_is;
     }
-by_offer s session request v c true offers proper is =
-    let same = verdict_same (refused_for UnknownOperation []) v Nothing c is in
-    let refused = some_refused s session request.operation offers in
+by_refusal s session request v c (Some cause) refused is =
+    let same = verdict_same (Refused (cause ∷ [])) v Nothing c is in
     record {
       verdict_is = λ failed.
           ap (λ (why : Option Cause). checked why (verdict_on s session request.asked failed)) refused ∙ same;
       disk = ap (λ (w : Verdict). appends_record request.asked && is_done w) (sym same) ∙ and_false (appends_record request.asked);
       state_is = ap (λ (why : Option Cause). answered_unless why s session request.asked v) refused
-          ∙ changes_nothing s session c (change_same (refused_for UnknownOperation []) v Nothing c is);
+          ∙ changes_nothing s session c (change_same (Refused (cause ∷ [])) v Nothing c is);
     }
 
-pub answers : (s : State) (session : ℕ) (request : Request) (v : Verdict) (c : Change) → IsProper request →
-    course s session request ≡ Answer v c → IsAnswer s session request v c
+pub answers : (s : State) (session : ℕ) (request : Request) (v : Verdict) (c : Change) → course s session request ≡ Answer v c →
+    IsAnswer s session request v c
 unfolding course
-answers s session request v c proper is = by_offer s session request v c (is_not_offered request.operation) refl proper is
+answers s session request v c is =
+    by_refusal s session request v c (operation_refused s session request.operation) refl is
 
 -- a request that nothing but the disk makes fail
 pub record IsCommit (s : State) (session : ℕ) (request : Request) : Type 0 where
@@ -316,7 +283,7 @@ none_locks (Some cause) lock nodes is = cc
 
 -- a commit that is not refused, and not confirmed
 committed_by : (s : State) (session : ℕ) (timeout : ℕ) (persist persist_id : Option (List ℕ)) (why : Option Cause) →
-    commit_refusal s session persist_id ≡ why → commit_course why Commit ≡ Commit →
+    commit_refusal s session persist_id ≡ why → unless_refused why Commit ≡ Commit →
     IsCommitted s session (Ok (AsksCommit false timeout persist persist_id))
 committed_by s session timeout persist persist_id None why_is is = record {
   verdict_is = λ failed. ap (λ (why : Option Cause). checked why (kept_unless failed)) why_is;
@@ -356,13 +323,12 @@ on_commits : (s : State) (session : ℕ) (asked : Result Asked Cause) → course
 on_commits s session (Ok asked) is = asked_commits s session asked is
 on_commits s session (Err cause) is = absurd (no_commit _ _ is)
 
-commits_by_offer : (s : State) (session : ℕ) (request : Request) (unoffered : Bool) → is_not_offered request.operation ≡ unoffered →
-    cond unoffered (Answer (refused_for UnknownOperation []) Nothing) (course_on s session request.asked) ≡ Commit →
-    IsCommit s session request
-commits_by_offer s session request true offers is = absurd (no_commit _ _ is)
-commits_by_offer s session request false offers is =
+commits_by : (s : State) (session : ℕ) (request : Request) (why : Option Cause) →
+    operation_refused s session request.operation ≡ why →
+    unless_refused why (course_on s session request.asked) ≡ Commit → IsCommit s session request
+commits_by s session request (Some cause) refused is = absurd (no_commit _ _ is)
+commits_by s session request None free is =
     let made = on_commits s session request.asked is in
-    let free = none_refused s session request.operation offers in
     record {
       verdict_is = λ failed.
           ap (λ (why : Option Cause). checked why (verdict_on s session request.asked failed)) free ∙ made.verdict_is failed;
@@ -376,4 +342,4 @@ commits_by_offer s session request false offers is =
 
 pub commits : (s : State) (session : ℕ) (request : Request) → course s session request ≡ Commit → IsCommit s session request
 unfolding course
-commits s session request is = commits_by_offer s session request (is_not_offered request.operation) refl is
+commits s session request is = commits_by s session request (operation_refused s session request.operation) refl is

@@ -11,17 +11,23 @@ use Rattle.nc_protocol.specs.declared.asked.ErrorOption.{ErrorOption}
 use Rattle.nc_protocol.specs.declared.datastore.Datastore.{Datastore}
 use Rattle.nc_protocol.specs.declared.edit.Edit.{Edit}
 use Rattle.nc_protocol.specs.declared.request.Cause.{Cause}
-use Rattle.nc_protocol.specs.Unchecked.{every_right}
 use Rattle.nc_protocol.specs.Applied.{Applied, applied}
 use Rattle.nc_protocol.specs.Edited.{first_cause}
+use Rattle.nc_protocol.specs.Unchecked.{every_right}
+use Rattle.nc_model.specs.Access.{access_policy, peer_of, rights_of}
+use Rattle.nc_model.specs.Decision.{data_decision}
+use Rattle.nc_model.specs.Sight.{Viewer, is_open}
 use Rattle.nc_model.specs.State.{State, candidate_in_force}
 use Rattle.nc_model.specs.Verdict.{causes_of_test, edit_checks, made_by, rows_set}
 use Rattle.nc_protocol.specs.Refusals.{done_unless, result_unless, violation_in}
+use Rattle.nc_model.proofs.OpenLemmas.{nothing_is_denied}
 use Rattle.nc_machine.specs.declared.course.Change.{Change}
 use Rattle.nc_machine.specs.declared.course.Course.{Course}
 use Rattle.nc_machine.specs.declared.course.Course.TheVariants.{Answer}
 use Rattle.nc_machine.specs.inner.Courses.{change_by, changed_to, edit_course, refused_course, unedited, violation_by}
+use Rattle.nc_machine.specs.inner.Governing.{viewer_of}
 use Rattle.nc_machine.proofs.Checks.{edits_checked}
+use Rattle.nc_machine.proofs.Freely.{freely}
 
 causes_are : (tables : Tables) (test : TestOption) (rows : List Row) →
     option_to_list (violation_by tables test rows) ≡ causes_of_test tables test rows
@@ -60,7 +66,7 @@ payload_refused s session tables test on_error read cause is =
 
 pub payload_read : (s : State) (session : ℕ) (test : TestOption) (on_error : ErrorOption)
     (read : Result (List Edit) Cause) (edits : List Edit) → Ok edits ≡ read →
-    edit_course s.schema test (Ok (applied s.schema every_right on_error (candidate_in_force s) edits))
+    edit_course s.schema test (Ok (applied s.schema (rights_of s session) on_error (candidate_in_force s) edits))
     ≡ edit_course s.schema test (made_by s session on_error read)
 payload_read s session test on_error read edits is =
     ap (λ (r : Result (List Edit) Cause). edit_course s.schema test (made_by s session on_error r)) is
@@ -78,15 +84,33 @@ pub edits_taken : (s : State) (session : ℕ) (tables : Tables) (test : TestOpti
 edits_taken s session tables test target made is =
     ap (λ (w : Option Cause). edit_course tables test (result_unless w made)) (is ∙ sym (edits_checked s session target))
 
-pub edit_by_is : (s : State) (test : TestOption) (on_error : ErrorOption) (tables : Tables) (before : List Row)
-    (given edits : List Edit) (rows : List Row) (causes : List Cause) (result : Result Course Memory) →
-    tables ≡ s.schema → before ≡ candidate_in_force s → given ≡ edits →
-    record { rows = rows; causes = causes } ≡ applied tables every_right on_error before given →
+-- edits are made by the access that is made for the session
+pub made_within : (s : State) (session : ℕ) (on_error : ErrorOption) (tables : Tables) (viewer : Viewer) (before : List Row)
+    (edits : List Edit) (after : Applied) → tables ≡ s.schema → viewer ≡ viewer_of s session →
+    after ≡ applied tables (λ path right. data_decision viewer.tables viewer.policy viewer.peer path.steps right) on_error before edits →
+    after ≡ applied s.schema (rights_of s session) on_error before edits
+made_within s session on_error tables viewer before edits after by sees made =
+    made ∙ (ap (λ (t : Tables). applied t (λ path right. data_decision viewer.tables viewer.policy viewer.peer path.steps right) on_error before edits) by
+    ∙ ap (λ (v : Viewer). applied s.schema (λ path right. data_decision v.tables v.policy v.peer path.steps right) on_error before edits) sees)
+
+-- or with every right, where nothing is denied to it
+pub made_freely : (s : State) (session : ℕ) (on_error : ErrorOption) (tables : Tables) (before : List Row) (edits : List Edit)
+    (after : Applied) → true ≡ is_open (access_policy s) (peer_of s session) → tables ≡ s.schema →
+    after ≡ applied tables every_right on_error before edits →
+    after ≡ applied s.schema (rights_of s session) on_error before edits
+made_freely s session on_error tables before edits after open_is by made =
+    made ∙ (ap (λ (t : Tables). applied t every_right on_error before edits) by
+    ∙ freely s.schema (rights_of s session)
+    (λ path right. nothing_is_denied.rights s.schema (access_policy s) (peer_of s session) path.steps right (sym open_is))
+    on_error before edits)
+
+pub edit_by_is : (s : State) (session : ℕ) (test : TestOption) (on_error : ErrorOption) (before : List Row) (given edits : List Edit)
+    (rows : List Row) (causes : List Cause) (result : Result Course Memory) → before ≡ candidate_in_force s → given ≡ edits →
+    record { rows = rows; causes = causes } ≡ applied s.schema (rights_of s session) on_error before given →
     IfOk result (λ it. it ≡ edit_course s.schema test (Ok (record { rows = rows; causes = causes }))) →
-    IfOk result (λ it. it ≡ edit_course s.schema test (Ok (applied s.schema every_right on_error (candidate_in_force s) edits)))
-edit_by_is s test on_error tables before given edits rows causes (Err memory) by at same made told = tt
-edit_by_is s test on_error tables before given edits rows causes (Ok it) by at same made told =
+    IfOk result (λ it. it ≡ edit_course s.schema test (Ok (applied s.schema (rights_of s session) on_error (candidate_in_force s) edits)))
+edit_by_is s session test on_error before given edits rows causes (Err memory) at same made told = tt
+edit_by_is s session test on_error before given edits rows causes (Ok it) at same made told =
     told ∙ ap (λ (left : Applied). edit_course s.schema test (Ok left))
-    (made ∙ (ap (λ (t : Tables). applied t every_right on_error before given) by
-    ∙ (ap (λ (b : List Row). applied s.schema every_right on_error b given) at
-    ∙ ap (applied s.schema every_right on_error (candidate_in_force s)) same)))
+    (made ∙ (ap (λ (b : List Row). applied s.schema (rights_of s session) on_error b given) at
+    ∙ ap (applied s.schema (rights_of s session) on_error (candidate_in_force s)) same))

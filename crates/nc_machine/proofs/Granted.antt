@@ -1,11 +1,11 @@
 -- What nothing stands against is granted.
 use Rattle.std.proofs.Common.{◌≡◌, ◌+◌, ◌&&◌, ℕ, Bool, true, false, not, List, [], ◌∷◌, refl, sym, ap, subst, ◌∙◌, Option, Some, None, Result, Ok}
 use Rattle.std.specs.Prelude.{cond, fold, option_map, slice_get}
-use Rattle.std.specs.Option.{option_or, option_to_list}
+use Rattle.std.specs.Option.{option_to_list}
 use Rattle.std.proofs.lemmas.Bool.{le-ltb}
 use Rattle.nc_message.specs.declared.tree.Elem.{Elem}
 use Rattle.nc_message.specs.declared.tree.Tree.{Tree}
-use Rattle.nc_names.specs.declared.cause.CauseKind.TheVariants.{ExecDenied, Limit, UnknownOperation, UnsupportedTarget}
+use Rattle.nc_names.specs.declared.cause.CauseKind.TheVariants.{ExecDenied, Limit, UnsupportedTarget}
 use Rattle.nc_names.specs.declared.path.Path.{Path}
 use Rattle.nc_names.specs.declared.path.Right.{Right}
 use Rattle.nc_names.specs.declared.path.Right.TheVariants.{Exec}
@@ -44,7 +44,7 @@ use Rattle.nc_model.specs.declared.event.Outcome.TheVariants.{Answered, NotLive}
 use Rattle.nc_model.specs.Access.{exec_of, rights_of, sees_of}
 use Rattle.nc_model.specs.State.{State, candidate_in_force, expired}
 use Rattle.nc_model.specs.Step.{answer_to, has_failed, outcome_of}
-use Rattle.nc_model.specs.Verdict.{asked_verdict, commit_changes, commit_checks, copied, done_where, edit_verdict, edits_made, exec_denied, in_use, is_source, is_too_large, kept_unless, made_by, nodes_selected, operation_refused, rows_copied, shown, stored, unless_denied, unsupported, validated, verdict, verdict_on}
+use Rattle.nc_model.specs.Verdict.{asked_verdict, commit_changes, commit_checks, copied, done_where, edit_verdict, edits_made, in_use, is_source, is_too_large, kept_unless, made_by, nodes_selected, operation_refused, rows_copied, shown, stored, unless_denied, unsupported, validated, verdict, verdict_on}
 use Rattle.nc_model.specs.Words.{record_word}
 use Rattle.nc_model.proofs.DiskLemmas.{disk_fault_has_cause}
 use Rattle.nc_machine.specs.Laws.{AreMade, ArePermitted, IsCommittable, IsFree, IsGranted, IsUnopposed, MayAsk, PassesTest, UnopposedIsGranted}
@@ -231,9 +231,8 @@ module _ (s : State) (session : ℕ) where
   -- the operation is not refused, so the verdict is that on what is asked for
   may_ask : (operation : Option Operation) → MayAsk s session operation → operation_refused s session operation ≡ None
   may_ask None may = absurd may
-  may_ask (Some operation) (offers, permits) =
-      ap (λ (b : Bool). option_or (cause_where (not b) (plain_cause UnknownOperation [])) (exec_denied (exec_of s session operation))) offers
-      ∙ ap (λ (b : Bool). cause_where (not b) (plain_cause ExecDenied (decision_names Exec (exec_of s session operation).by))) permits
+  may_ask (Some operation) permits =
+      ap (λ (b : Bool). cause_where (not b) (plain_cause ExecDenied (decision_names Exec (exec_of s session operation).by))) permits
 
   verdict_is : (request : Request) (asked : Asked) → request.asked ≡ Ok asked → MayAsk s session request.operation →
       verdict s session request false ≡ asked_verdict s session asked false

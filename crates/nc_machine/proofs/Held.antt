@@ -1,5 +1,5 @@
 -- The locks of datastores, as they are looked at and changed.
-use Rattle.std.proofs.Common.{◌≡◌, ◌==◌, ◌||◌, ℕ, Bool, true, false, not, List, [], ◌∷◌, refl, sym, ap, ◌∙◌, Option, Some, None}
+use Rattle.std.proofs.Common.{◌≡◌, ◌==◌, ◌||◌, ℕ, Bool, true, false, not, [], ◌∷◌, refl, sym, ap, ◌∙◌, Option, Some, None}
 use Rattle.std.specs.Prelude.{cond, is_some, option_and_then, option_map}
 use Rattle.nc_names.specs.declared.cause.CauseKind.TheVariants.{InUseGlobal, LockHeld, NotHeld, NotLiveTarget}
 use Rattle.nc_protocol.specs.declared.datastore.Datastore.{Datastore}

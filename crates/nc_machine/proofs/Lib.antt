@@ -1,6 +1,10 @@
 pub mod Told
+pub mod Free
+pub mod Open
+pub mod Freely
+pub mod Denying
+pub mod Policies
 pub mod Checks
-pub mod Unchecked
 pub mod NodeLocks
 pub mod Held
 pub mod Confirmed
@@ -11,5 +15,4 @@ pub mod Answering
 pub mod Sound
 pub mod Standing
 pub mod Replies
-pub mod Free
 pub mod Granted

@@ -6,7 +6,6 @@ use Rattle.std.specs.Option.{option_or}
 use Rattle.nc_names.specs.declared.cause.CauseKind.{CauseKind}
 use Rattle.nc_names.specs.declared.cause.CauseKind.TheVariants.{BadParameter, BadSelect, InUsePartial, Limit, LockPartial, LockPending, NoMatch}
 use Rattle.nc_names.specs.declared.path.Path.{Path}
-use Rattle.nc_names.specs.declared.path.Row.{Row}
 use Rattle.nc_schema.proofs.GivenLemmas.{item_there, nothing_left}
 use Rattle.nc_protocol.specs.declared.asked.Select.{Select}
 use Rattle.nc_protocol.specs.declared.changes.Changes.{Changes}
@@ -17,13 +16,12 @@ use Rattle.nc_protocol.specs.declared.verdict.Verdict.TheVariants.{Locked}
 use Rattle.nc_protocol.specs.Asking.{plain_cause}
 use Rattle.nc_protocol.specs.Edited.{cause_where, first_cause}
 use Rattle.nc_protocol.specs.Words.{lock_id_word}
-use Rattle.nc_model.specs.Access.{rights_of, visible}
+use Rattle.nc_model.specs.Access.{visible}
 use Rattle.nc_model.specs.State.{NodeLock, Pending, State, last_lock_id, locks_of, locks_some, most_locks}
 use Rattle.nc_model.specs.Step.{with_partial, without_partial}
-use Rattle.nc_model.specs.Verdict.{are_selects, changes_denied, commit_changes, covers_path, has_lock, in_use_at, in_use_partial, is_none_of, is_running, lock_of_other, nodes_selected, partial_lock_cause, partial_lock_checks, partial_lock_refusal, partial_unlock_refusal, partly_locked, pending_cause, pending_of_other, selected_path}
+use Rattle.nc_model.specs.Verdict.{are_selects, covers_path, has_lock, in_use_at, in_use_partial, is_none_of, is_running, lock_of_other, nodes_selected, partial_lock_cause, partial_lock_checks, partial_lock_refusal, partial_unlock_refusal, partly_locked, pending_cause, pending_of_other, selected_path}
 use Rattle.nc_model.specs.Words.{partial_locks_word, lock_ids_word}
 use Rattle.nc_model.proofs.SessionLemmas.{all_none, is_false_not, where_none}
-use Rattle.nc_partial.specs.declared.entry.Covered.{Covered}
 use Rattle.nc_partial.specs.declared.locks.PartialFault.{PartialFault}
 use Rattle.nc_partial.specs.declared.locks.PartialFault.TheVariants.{Taken, TooMany, IdsSpent, Memory as NoMemory}
 use Rattle.nc_partial.specs.Granted.{Granted, IsTold, covered_cause, covered_of, granted_of, lock_given, refusal}
@@ -32,8 +30,7 @@ use Rattle.nc_partial.specs.Selects.{nodes_among, paths_of}
 use Rattle.nc_machine.specs.declared.course.Change.TheVariants.{Nothing, GrantNodes, ReleaseNodes}
 use Rattle.nc_machine.specs.declared.course.Course.{Course}
 use Rattle.nc_machine.specs.declared.course.Course.TheVariants.{Answer}
-use Rattle.nc_machine.specs.inner.Courses.{changes_refusal, commit_course, done_unless, held_refusal, made, nodes_course, partial_lock_course, partly_granted, partly_hindered, partly_released, refused_course, running_opposed, running_refusal, selects_course, told_course, wants_memory, with_given}
-use Rattle.nc_machine.proofs.Unchecked.{undenied}
+use Rattle.nc_machine.specs.inner.Courses.{done_unless, held_refusal, made, nodes_course, partial_lock_course, partly_granted, partly_hindered, partly_released, refused_course, running_opposed, running_refusal, selects_course, told_course, unless_refused, wants_memory, with_given}
 
 -- ---- running's lock
 pub running_by : (s : State) (session : ℕ) (target : Datastore) → target ≡ Running →
@@ -154,17 +151,6 @@ none_in_use s session changes none =
     sym (none_at_all s session (changes.deleted ++ changes.updated ++ changes.created)
     (not_found (lock_of_other s session (λ lock. true)) none))
 
--- no change is denied
-pub changes_by : (s : State) (session : ℕ) (why : Option Cause) → why ≡ in_use_partial s session (commit_changes s) →
-    why ≡ changes_refusal s session
-changes_by s session why is =
-    is ∙ or_none (in_use_partial s session (commit_changes s))
-    ∙ ap (option_or (in_use_partial s session (commit_changes s))) (sym (undenied s session (commit_changes s)))
-  where
-    or_none : (check : Option Cause) → check ≡ option_or check None
-    or_none None = refl
-    or_none (Some cause) = refl
-
 -- ---- partial-lock
 pub some_pends : (s : State) (pending : Pending) → Some pending ≡ s.pending →
     Some (pending_cause LockPending pending) ≡ option_map (pending_cause LockPending) s.pending
@@ -212,7 +198,7 @@ by_selects s session true paths = refl
 by_selects s session false paths = refl
 
 by_checks : (a b : Option Cause) (are none : Bool) (found : Option NodeLock) (many spent : Bool) (last : ℕ) (nodes : List Path) →
-    commit_course (option_or a b)
+    unless_refused (option_or a b)
     (cond are (cond none (refused_course (plain_cause NoMatch [])) (told_course nodes (told_of found many spent last)))
     (refused_course (plain_cause BadSelect [])))
     ≡ locking (first_cause (a ∷ b ∷ cause_where (not are) (plain_cause BadSelect []) ∷ cause_where none (plain_cause NoMatch [])
@@ -233,7 +219,7 @@ pub partial_lock_is : (s : State) (session : ℕ) (selects : List Select) →
 unfolding partial_lock_course
 partial_lock_is s session selects =
     let nodes : List Path = nodes_selected s session selects in
-    sym (ap (commit_course (partly_hindered s))
+    sym (ap (unless_refused (partly_hindered s))
     (by_selects s session (are_selects s.schema selects) (filter_map (selected_path s.schema) selects))
     ∙ by_checks (option_map (pending_cause LockPending) s.pending) (held_refusal s Running) (are_selects s.schema selects) (is_none_of nodes)
     (lock_of_other s session (locks_some nodes)) (length (locks_of session s.partial) == most_locks) (s.last_lock == last_lock_id)

@@ -34,7 +34,7 @@ use Rattle.nc_model.specs.declared.event.Outcome.TheVariants.{Answered}
 use Rattle.nc_model.specs.Access.{exec_of, rights_of, visible}
 use Rattle.nc_model.specs.State.{Pending, State, candidate_in_force, expired, is_live, last_lock_id, locks_of, locks_some, most_locks}
 use Rattle.nc_model.specs.Step.{Fits}
-use Rattle.nc_model.specs.Verdict.{cancel_changes, commit_changes, covers_path, has_lock, holder_of, is_offered, is_source, nodes_selected, selected_path, stored}
+use Rattle.nc_model.specs.Verdict.{cancel_changes, commit_changes, covers_path, has_lock, holder_of, is_source, nodes_selected, selected_path, stored}
 
 -- each edit is made in what those before it leave (RFC 6241 7.2)
 abbrev pub AreMade : Tables → (Path → Right → Decision) → List Row → List Edit → List Row → Type 0
@@ -141,10 +141,10 @@ IsUnopposed s session (PartialLock selects) =
 IsUnopposed s session (PartialUnlock lock) = IsTrue (has_lock s session lock)
 IsUnopposed s session asked = ⊥
 
--- the operation is offered, and the session may ask for it (RFC 8341 3.4.4)
+-- there is an operation, and the session may ask for it (RFC 8341 3.4.4)
 abbrev pub MayAsk : State → ℕ → Option Operation → Type 0
 MayAsk s session operation =
-    IsSomeAnd operation (λ named. (is_offered named ≡ true) × ((exec_of s session named).permit ≡ true))
+    IsSomeAnd operation (λ named. (exec_of s session named).permit ≡ true)
 
 -- the reply is `ok` or has the rows or the lock
 abbrev pub IsGranted : Outcome → Type 0

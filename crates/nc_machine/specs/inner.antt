@@ -1,5 +1,5 @@
-pub mod Copies
 pub mod Own
 pub mod Courses
+pub mod Governing
 pub mod Turns
 pub mod Views

@@ -1,43 +1,71 @@
 //! Answers: the reply to a verdict, and what the verdict changes.
-ghost use Rattle.std.specs.Prelude.{◌≡◌, ℕ, IfOk, OnErr, OnOk};
+ghost use Rattle.std.specs.Prelude.{◌≡◌, IfOk, OnErr, OnOk};
 ghost use Rattle.nc_machine.specs.inner.Courses as course;
 ghost use Rattle.nc_protocol.specs.Reply.{reply_of};
-ghost use Rattle.nc_machine.specs.inner.Turns.{answered_by, every_node};
+ghost use Rattle.nc_model.specs.Access.{sees_of};
+ghost use Rattle.nc_machine.specs.inner.Governing.{policy_after, viewer_of};
+ghost use Rattle.nc_machine.specs.inner.Turns.{answered_by};
 
 use crate::course::Change;
 use crate::own::reply;
+use crate::reach::Reach;
 use crate::server::Server;
 use nc_message::Tree;
 use nc_model::Outcome;
+use nc_nacm::Policy;
 use nc_names::Memory;
-use nc_protocol::{Request, Unchecked, Verdict};
-use nc_schema::Schema;
-use std::alloc::Global;
+use nc_protocol::{Request, Verdict};
 
-// The reply to a request, for a session that sees every node.
-fn reply_to(
-    alloc: Global,
-    schema: &Schema,
-    request: &Request,
-    verdict: &Verdict,
-) -> Result<Tree, Memory>
-    ensures { IfOk result (λ it. it ≡ reply_of schema.now every_node request.now verdict.now) }
-{
-    reply(alloc, schema, request, verdict, &Unchecked)
+// With more causes than that a session's access is looked up in an index.
+const FEW_CAUSES: usize = 8;
+
+fn has_many_causes(verdict: &Verdict) -> bool {
+    match verdict {
+        Verdict::Refused { causes } => causes.len() > FEW_CAUSES,
+        _ => false,
+    }
 }
 
 impl Server {
-    /// The outcome of a request with this verdict.
-    pub(crate) fn answered(&self, request: &Request, verdict: Verdict) -> Result<Outcome, Memory>
-        ensures { (session : ℕ) → IfOk result (λ it. it ≡ answered_by self.now session request.now verdict) }
+    // What a session sees of the nodes that a verdict names.
+    fn sight(&self, session: u32, verdict: &Verdict) -> Result<Reach<'_>, Memory>
+        ensures { IfOk result (λ it. it ≡ viewer_of self.now session) }
     {
-        let reply = reply_to(self.alloc(), self.schema(), request, &verdict)?;
+        if has_many_causes(verdict) {
+            return self.reach(session);
+        }
+        Ok(self.plain_reach(session))
+    }
+
+    // The reply to a request with a verdict.
+    #[tactic(auto, using(crate::proofs::Replies::reply_is))]
+    fn reply_to(&self, session: u32, request: &Request, verdict: &Verdict) -> Result<Tree, Memory>
+        ensures { IfOk result (λ it. it ≡
+            reply_of self.now.schema (sees_of self.now session) request.now verdict.now) }
+    {
+        let sees = self.sight(session, verdict)?;
+        let reply = reply(self.alloc(), self.schema(), request, verdict, &sees)?;
+        Ok(reply)
+    }
+
+    /// The outcome of a session's request with this verdict.
+    #[tactic(auto, unfolding(crate::specs::inner::Turns::answered_by))]
+    pub(crate) fn answered(
+        &self,
+        session: u32,
+        request: &Request,
+        verdict: Verdict,
+    ) -> Result<Outcome, Memory>
+        ensures { IfOk result (λ it. it ≡ answered_by self.now session request.now verdict) }
+    {
+        let reply = self.reply_to(session, request, &verdict)?;
         Ok(Outcome::Answered { verdict, reply })
     }
 
     // Changes what is to be changed: nothing, for want of memory.
     #[tactic(auto, unfolding(crate::specs::inner::Courses::made))]
-    fn change(&mut self, session: u32, change: Change) -> Result<(), Memory>
+    fn change(&mut self, session: u32, change: Change, policy: Option<Policy>) -> Result<(), Memory>
+        requires { policy ≡ policy_after self.old.schema change }
         ensures made { OnOk result (self.new ≡ course.made self.old session change) }
         ensures memory { OnErr result (self.new ≡ self.old) }
     {
@@ -51,7 +79,11 @@ impl Server {
                 rows,
                 timeout,
                 persist,
-            } => self.confirm(session, rows, timeout, persist),
+            } => {
+                if let Some(policy) = policy {
+                    self.confirm(session, rows, policy, timeout, persist);
+                }
+            }
             Change::Revert => self.revert(),
             Change::Over { session } => self.end_session(session),
             Change::GrantNodes { nodes } => return self.grant_nodes(session, nodes),
@@ -72,8 +104,9 @@ impl Server {
         ensures state { IfOk result (λ it. self.new ≡ course.made self.old session change) }
         ensures memory { OnErr result (self.new ≡ self.old) }
     {
-        let outcome = self.answered(request, verdict)?;
-        self.change(session, change)?;
+        let outcome = self.answered(session, request, verdict)?;
+        let policy = self.policy_after(&change)?;
+        self.change(session, change, policy)?;
         Ok(outcome)
     }
 }

@@ -1,5 +1,5 @@
 //! The candidate is kept, and is then running (RFC 6241 8.3.4.1).
-ghost use Rattle.std.specs.Prelude.{◌≡◌, ◌≤◌, ℕ, IfOk, OnErr};
+ghost use Rattle.std.specs.Prelude.{◌≡◌, ◌≤◌, IfOk, OnErr};
 ghost use Rattle.nc_schema.specs.Configuration.{IsConfiguration};
 ghost use Rattle.nc_schema.specs.Record.{record_size};
 ghost use Rattle.nc_names.specs.Limits.{body_limit};
@@ -10,35 +10,38 @@ ghost use Rattle.nc_machine.specs.inner.Turns.{Commits, IsKeeping};
 use crate::causes::refused;
 use crate::server::Server;
 use nc_model::Outcome;
+use nc_nacm::Policy;
 use nc_names::{CauseKind, Memory};
 use nc_protocol::{Cause, Request, Verdict};
 use nc_tree::{Keeper, Kept};
 
-/// A commit that nothing but the disk can make fail. Both replies and what is kept are made before
-/// anything is kept: after that nothing needs memory.
+/// A commit that nothing but the disk can make fail. Both replies, the policy of what is to be running, and
+/// what is kept are made before anything is kept: after that nothing needs memory.
 pub(crate) fn commit<K: Keeper>(
     server: &mut Server,
     keeper: &mut K,
+    session: u32,
     request: &Request,
 ) -> Result<Outcome, Memory>
     requires keeping { IsKeeping K.schema K.base K.failures server.old keeper.old }
     requires configuration { IsConfiguration server.old.schema (candidate_in_force server.old) }
     requires valid { IsValid server.old.schema (candidate_in_force server.old) }
     requires small { record_size (candidate_in_force server.old) ≤ body_limit }
-    ensures commits { (session : ℕ) → Commits server.old server.new session request.now result }
+    ensures commits { Commits server.old server.new session request.now result }
     ensures schema_is { K.schema keeper.new ≡ K.schema keeper.old }
     ensures kept { K.base keeper.new ≡ base_of server.new }
     ensures faults { K.failures keeper.new ≡ server.new.faults }
     ensures memory { OnErr result (keeper.new ≡ keeper.old) }
 {
     let alloc = server.alloc();
-    let done = server.answered(request, Verdict::Done)?;
+    let done = server.answered(session, request, Verdict::Done)?;
     let fault = refused(alloc, Cause::plain(alloc, CauseKind::DiskFault))?;
-    let failed = server.answered(request, fault)?;
+    let failed = server.answered(session, request, fault)?;
+    let policy = Policy::of(alloc, server.schema(), server.in_force())?;
     let ready = keeper.prepare(server.base(), server.in_force())?;
     match keeper.keep(ready) {
         Kept::Kept => {
-            server.run_candidate();
+            server.run_candidate(policy);
             server.count_faults(keeper.faults());
             Ok(done)
         }

@@ -1,14 +1,13 @@
-//! Copies into the candidate (RFC 6241 7.3).
+//! Copies into the candidate (RFC 6241 7.3; RFC 8341 3.2.6).
 ghost use Rattle.std.specs.Prelude.{◌≡◌, ℕ, IfOk};
 ghost use Rattle.nc_model.specs.Verdict as meant;
-ghost use Rattle.nc_machine.specs.inner.Copies.{rows_from};
 ghost use Rattle.nc_machine.specs.inner.Courses as course;
 
 use crate::course::{Change, Course, done, refused_course};
 use crate::datastores::{unsupported_origin, unsupported_target};
 use crate::payload::rows_of;
 use crate::server::Server;
-use nc_names::{CauseKind, Copies, Memory};
+use nc_names::{CauseKind, Memory};
 use nc_protocol::request_words::source as source_text;
 use nc_protocol::{Cause, Datastore, Origin};
 use nc_tree::Config;
@@ -72,18 +71,35 @@ impl Server {
         }
     }
 
-    // The rows of the source.
-    fn rows_from(&self, source: &Origin) -> Result<Result<Config, Cause>, Memory>
-        ensures { IfOk result (λ it. it ≡ rows_from self.now source.now) }
+    // The rows of the source: of a datastore those that the session sees.
+    fn rows_copied(&self, session: u32, source: &Origin) -> Result<Result<Config, Cause>, Memory>
+        ensures { IfOk result (λ it. it ≡ meant.rows_copied self.now session source.now) }
     {
         match source {
-            Origin::Store(store) => Ok(Ok(self.stored(*store).copy()?)),
+            Origin::Store(store) => Ok(Ok(self.visible(session, self.stored(*store))?)),
             Origin::Inline(config) => rows_of(self.alloc(), self.schema(), config),
         }
     }
 
-    // What the candidate is to hold. Every row may be seen, and no change is denied.
-    #[tactic(auto, using(crate::proofs::Unchecked::copied_by, crate::proofs::Unchecked::not_copied))]
+    // The rows, unless a change from the candidate to them is denied.
+    fn unless_denied(
+        &self,
+        session: u32,
+        copied: Result<Config, Cause>,
+    ) -> Result<Result<Config, Cause>, Memory>
+        ensures { IfOk result (λ it. it ≡ meant.unless_denied self.now session copied) }
+    {
+        match copied {
+            Err(cause) => Ok(Err(cause)),
+            Ok(rows) => match self.denied_between(session, self.in_force(), &rows)? {
+                Some(cause) => Ok(Err(cause)),
+                None => Ok(Ok(rows)),
+            },
+        }
+    }
+
+    // What the candidate is to hold.
+    #[tactic(auto, using(crate::proofs::Checks::copied_by, crate::proofs::Checks::not_copied))]
     fn copied(
         &self,
         session: u32,
@@ -94,7 +110,7 @@ impl Server {
     {
         match self.uncopied(session, target, source)? {
             Some(cause) => Ok(Err(cause)),
-            None => self.rows_from(source),
+            None => self.unless_denied(session, self.rows_copied(session, source)?),
         }
     }
 

@@ -1,4 +1,4 @@
-//! What a request comes to (RFC 6241 7 and 8).
+//! What a request comes to (RFC 6241 7 and 8; RFC 8341 3.4.4).
 ghost use Rattle.std.specs.Prelude.{◌≡◌, IfOk};
 ghost use Rattle.nc_model.specs.Verdict as meant;
 ghost use Rattle.nc_machine.specs.inner.Courses as course;
@@ -6,39 +6,8 @@ ghost use Rattle.nc_machine.specs.inner.Courses as course;
 use crate::course::{Change, Course, done, done_unless, refused_course};
 use crate::datastores::not_offered;
 use crate::server::Server;
-use nc_names::{CauseKind, Copies, Memory};
+use nc_names::{Copies, Memory};
 use nc_protocol::{Asked, Cause, Datastore, Operation, Request};
-
-fn is_offered(operation: Operation) -> bool
-    ensures { result ≡ meant.is_offered operation }
-{
-    match operation {
-        Operation::Get
-        | Operation::GetConfig
-        | Operation::EditConfig
-        | Operation::CopyConfig
-        | Operation::DeleteConfig
-        | Operation::Lock
-        | Operation::Unlock
-        | Operation::CloseSession
-        | Operation::KillSession
-        | Operation::Commit
-        | Operation::DiscardChanges
-        | Operation::CancelCommit
-        | Operation::Validate
-        | Operation::PartialLock
-        | Operation::PartialUnlock => true,
-    }
-}
-
-fn is_not_offered(operation: &Option<Operation>) -> bool
-    ensures { result ≡ course.is_not_offered operation.now }
-{
-    match operation {
-        Some(operation) => !is_offered(*operation),
-        None => false,
-    }
-}
 
 impl Server {
     // What discard-changes comes to.
@@ -50,7 +19,7 @@ impl Server {
         done_unless(self.alloc(), refusal, Change::Discard)
     }
 
-    // What an operation that is offered comes to.
+    // What an operation comes to.
     #[tactic(auto, unfolding(crate::specs::inner::Courses::asked_course))]
     fn asked_course(&self, session: u32, asked: &Asked) -> Result<Course, Memory>
         ensures { IfOk result (λ it. it ≡ course.asked_course self.now session asked.now) }
@@ -98,23 +67,28 @@ impl Server {
         }
     }
 
-    fn unknown_course(&self) -> Result<Course, Memory>
-        ensures { IfOk result (λ it. it ≡ course.unknown_course) }
+    // Why an operation is refused before its parameters are looked at: the session may not ask for it.
+    fn operation_refusal(
+        &self,
+        session: u32,
+        operation: &Option<Operation>,
+    ) -> Result<Option<Cause>, Memory>
+        ensures { IfOk result (λ it. it ≡ meant.operation_refused self.now session operation.now) }
     {
-        refused_course(
-            self.alloc(),
-            Cause::plain(self.alloc(), CauseKind::UnknownOperation),
-        )
+        match operation {
+            Some(operation) => self.exec_refusal(session, *operation),
+            None => Ok(None),
+        }
     }
 
-    /// What a live session's request comes to. An operation that is not offered is refused before its
-    /// parameters are looked at.
+    /// What a live session's request comes to. An operation that the session may not ask for is refused
+    /// before its parameters are looked at.
     #[tactic(auto, unfolding(crate::specs::inner::Courses::course))]
     pub(crate) fn course(&self, session: u32, request: &Request) -> Result<Course, Memory>
         ensures { IfOk result (λ it. it ≡ course.course self.now session request.now) }
     {
-        if is_not_offered(&request.operation) {
-            return self.unknown_course();
+        if let Some(cause) = self.operation_refusal(session, &request.operation)? {
+            return refused_course(self.alloc(), cause);
         }
         match &request.asked {
             Ok(asked) => self.asked_course(session, asked),

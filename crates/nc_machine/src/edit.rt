@@ -1,10 +1,10 @@
-//! Edits of the candidate (RFC 6241 7.2, 8.5, 8.6.4): they are made on a copy of its rows, which is then
-//! tested, set, or let go.
-ghost use Rattle.std.specs.Prelude.{◌≡◌, ◌++◌, ℕ, IfOk, Ok, is_some};
+//! Edits of the candidate (RFC 6241 7.2, 8.5, 8.6.4; RFC 8341 3.4.5): they are made on a copy of its rows,
+//! which is then tested, set, or let go.
+ghost use Rattle.std.specs.Prelude.{◌≡◌, ◌++◌, IfOk, Ok, is_some};
 ghost use Rattle.std.specs.Option.{option_to_list};
-ghost use Rattle.nc_protocol.specs.Unchecked.{every_right};
 ghost use Rattle.nc_protocol.specs.Applied.{applied};
 ghost use Rattle.nc_protocol.specs.Payload.{edits_of};
+ghost use Rattle.nc_model.specs.Access.{rights_of};
 ghost use Rattle.nc_model.specs.State.{candidate_in_force};
 ghost use Rattle.nc_model.specs.Verdict as meant;
 ghost use Rattle.nc_machine.specs.inner.Courses as course;
@@ -18,10 +18,8 @@ use nc_edit::apply;
 use nc_message::Elem;
 use nc_names::{Copies, Many, Memory};
 use nc_protocol::{Cause, Datastore, Default3, Edit, ErrorOption, TestOption, Unchecked};
-use nc_schema::Schema;
 use nc_tree::Config;
 use nc_validate::violation_in;
-use std::alloc::Global;
 
 // One cause more, if there is one.
 fn with_cause(causes: Many<Cause>, cause: Option<Cause>) -> Result<Many<Cause>, Memory>
@@ -48,20 +46,6 @@ fn change_by(test: TestOption, is_violated: bool, rows: Config) -> Change
         }
         TestOption::TestOnly => Change::Nothing,
     }
-}
-
-// Edits are made, with every right.
-fn make(
-    alloc: Global,
-    schema: &Schema,
-    rows: &mut Config,
-    edits: &[Edit],
-    on_error: ErrorOption,
-) -> Result<Many<Cause>, Memory>
-    ensures { IfOk result (λ causes. record { rows = rows.new; causes = causes } ≡
-        applied schema.now every_right on_error rows.old edits.now) }
-{
-    apply(alloc, schema, rows, edits, on_error, &Unchecked)
 }
 
 impl Server {
@@ -95,24 +79,49 @@ impl Server {
         })
     }
 
+    // Edits are made of rows, with the rights of the session. Where nothing is denied to it, no change is
+    // looked at for its right.
+    #[tactic(auto, using(crate::proofs::Edits::made_freely, crate::proofs::Edits::made_within))]
+    fn make(
+        &self,
+        session: u32,
+        rows: &mut Config,
+        edits: &[Edit],
+        on_error: ErrorOption,
+    ) -> Result<Many<Cause>, Memory>
+        ensures { IfOk result (λ causes. record { rows = rows.new; causes = causes }
+            ≡ applied self.now.schema (rights_of self.now session) on_error rows.old edits.now) }
+    {
+        if self.is_open(session) {
+            let causes = apply(
+                self.alloc(),
+                self.schema(),
+                rows,
+                edits,
+                on_error,
+                &Unchecked,
+            )?;
+            return Ok(causes);
+        }
+        let rights = self.reach(session)?;
+        let causes = apply(self.alloc(), self.schema(), rows, edits, on_error, &rights)?;
+        Ok(causes)
+    }
+
     // Edits are made on a copy of the candidate.
     fn edit_by(
         &self,
+        session: u32,
         test: TestOption,
         on_error: ErrorOption,
         edits: &Many<Edit>,
     ) -> Result<Course, Memory>
         ensures { IfOk result (λ it. it ≡ course.edit_course self.now.schema test
-            (Ok (applied self.now.schema every_right on_error (candidate_in_force self.now) edits.now))) }
+            (Ok (applied self.now.schema (rights_of self.now session) on_error
+            (candidate_in_force self.now) edits.now))) }
     {
         let mut rows = self.in_force().copy()?;
-        let causes = make(
-            self.alloc(),
-            self.schema(),
-            &mut rows,
-            edits.as_slice(),
-            on_error,
-        )?;
+        let causes = self.make(session, &mut rows, edits.as_slice(), on_error)?;
         self.edit_course(test, rows, causes)
     }
 
@@ -120,18 +129,19 @@ impl Server {
     #[tactic(auto, using(crate::proofs::Edits::payload_refused, crate::proofs::Edits::payload_read))]
     fn edit_payload(
         &self,
+        session: u32,
         default_operation: Default3,
         test: TestOption,
         on_error: ErrorOption,
         config: &Elem,
     ) -> Result<Course, Memory>
-        ensures { (session : ℕ) → IfOk result (λ it. it ≡ course.edit_course self.now.schema test
+        ensures { IfOk result (λ it. it ≡ course.edit_course self.now.schema test
             (meant.made_by self.now session on_error
             (edits_of self.now.schema default_operation config.now))) }
     {
         match edits_of(self.alloc(), self.schema(), default_operation, config)? {
             Err(cause) => refused_course(self.alloc(), cause),
-            Ok(edits) => self.edit_by(test, on_error, &edits),
+            Ok(edits) => self.edit_by(session, test, on_error, &edits),
         }
     }
 
@@ -161,7 +171,7 @@ impl Server {
     {
         match self.unedited(session, target)? {
             Some(cause) => refused_course(self.alloc(), cause),
-            None => self.edit_payload(default_operation, test, on_error, config),
+            None => self.edit_payload(session, default_operation, test, on_error, config),
         }
     }
 }

@@ -24,7 +24,6 @@ fn live_outcome<K: Keeper>(
     session: u32,
     request: &Request,
 ) -> Result<Outcome, Memory>
-    requires proper { IsProper request.now }
     requires live { is_live server.old session ≡ true }
     requires good { IsGood server.old }
     requires keeping { IsKeeping K.schema K.base K.failures server.old keeper.old }
@@ -36,7 +35,7 @@ fn live_outcome<K: Keeper>(
 {
     match server.course(session, request)? {
         Course::Answer { verdict, change } => server.answer(session, request, verdict, change),
-        Course::Commit => commit(server, keeper, request),
+        Course::Commit => commit(server, keeper, session, request),
     }
 }
 
@@ -48,7 +47,6 @@ fn outcome<K: Keeper>(
     session: u32,
     request: &Request,
 ) -> Result<Outcome, Memory>
-    requires proper { IsProper request.now }
     requires good { IsGood server.old }
     requires keeping { IsKeeping K.schema K.base K.failures server.old keeper.old }
     ensures answers { IfOk result (λ it. Answers server.old server.new session request.now it) }

@@ -1,4 +1,4 @@
-//! What get and get-config show (RFC 6241 6, 7.1, 7.7).
+//! What get and get-config show (RFC 6241 6, 7.1, 7.7; RFC 8341 3.2.4).
 ghost use Rattle.std.specs.Prelude.{◌≡◌, IfOk};
 ghost use Rattle.nc_model.specs.Verdict as meant;
 ghost use Rattle.nc_machine.specs.inner.Courses as course;
@@ -8,22 +8,22 @@ use crate::datastores::unsupported_source;
 use crate::server::Server;
 use nc_filter::select;
 use nc_message::Elem;
-use nc_names::{Copies, Many, Memory, Row};
+use nc_names::{Many, Memory, Row};
 use nc_protocol::{Datastore, Verdict};
+use nc_tree::Config;
 
 impl Server {
-    // The rows of a datastore that the filter keeps, or all without one.
-    fn filtered(&self, store: Datastore, filter: &Option<Elem>) -> Result<Many<Row>, Memory>
-        ensures { IfOk result (λ it. it ≡
-            meant.filtered self.now.schema filter.now (meant.stored self.now store)) }
+    // The rows that the filter keeps, or all without one.
+    fn filtered(&self, rows: Config, filter: &Option<Elem>) -> Result<Many<Row>, Memory>
+        ensures { IfOk result (λ it. it ≡ meant.filtered self.now.schema filter.now rows) }
     {
         match filter {
-            None => self.stored(store).copy()?.into_rows(),
-            Some(filter) => select(self.alloc(), self.schema(), filter, self.stored(store)),
+            None => rows.into_rows(),
+            Some(filter) => select(self.alloc(), self.schema(), filter, &rows),
         }
     }
 
-    // What a session is shown: every row may be seen.
+    // What a session is shown of a datastore: what it does not see goes before the filter looks.
     fn shown(
         &self,
         session: u32,
@@ -32,7 +32,8 @@ impl Server {
     ) -> Result<Many<Row>, Memory>
         ensures { IfOk result (λ it. it ≡ meant.shown self.now session store filter.now) }
     {
-        self.filtered(store, filter)
+        let seen = self.visible(session, self.stored(store))?;
+        self.filtered(seen, filter)
     }
 
     /// What get comes to.

@@ -1,7 +1,7 @@
 //! The server as one machine (RFC 6241 4, 5.1, 7 and 8): `Machine` takes one event after another and
 //! makes an entry of the history of each. It stands on the definitions of `nc_model`, on the
 //! configurations and their keeper of `nc_tree`, on the crates of locks, payloads, edits, filters,
-//! violations and replies, and on the clock of `nc_outside`.
+//! violations and replies, on access control, and on the clock of `nc_outside`.
 //!
 //! Each entry of `handle`, `end` and `tick` fits the machine's state, has the event and the reading that
 //! were handed in and the old count as its number; the new state is the one that the entry leaves. After
@@ -11,6 +11,7 @@
 //! one call of the machine.
 #![tactic(auto)]
 
+mod access;
 mod answer;
 mod causes;
 mod commit;
@@ -20,15 +21,19 @@ mod copy;
 mod course;
 mod datastores;
 mod decide;
+mod denied;
 mod edit;
 mod event;
 mod get;
+mod governed;
 mod laws;
 mod locks;
 mod machine;
 mod own;
 mod partial;
 mod payload;
+mod reach;
+mod reasons;
 mod server;
 mod sessions;
 mod solo;

@@ -166,12 +166,14 @@ impl Server {
     // ---- partial locks in the way
 
     /// Why a commit may not change what it changes: another session's partial lock has a node of it, or the
-    /// session has no right to it. No change is denied.
-    #[tactic(auto, using(crate::proofs::NodeLocks::changes_by))]
+    /// session has no right to it.
     pub(crate) fn changes_refusal(&self, session: u32) -> Result<Option<Cause>, Memory>
         ensures { IfOk result (λ it. it ≡ course.changes_refusal self.now session) }
     {
-        self.in_use_between(session, self.in_force())
+        if let Some(cause) = self.in_use_between(session, self.in_force())? {
+            return Ok(Some(cause));
+        }
+        self.denied_between(session, self.running(), self.in_force())
     }
 
     /// Why a cancel-commit may not change what it changes: another session's partial lock has a node of it.

@@ -4,7 +4,6 @@ ghost use Rattle.std.specs.List.{filter};
 ghost use Rattle.nc_names.specs.declared.cause.CauseKind.TheVariants.{LockPending};
 ghost use Rattle.nc_protocol.specs.Changes.{changes_between};
 ghost use Rattle.nc_protocol.specs.Edited.{first_cause};
-ghost use Rattle.nc_model.specs.Access.{visible};
 ghost use Rattle.nc_model.specs.Verdict as meant;
 ghost use Rattle.nc_partial.specs.Granted as granted;
 ghost use Rattle.nc_partial.specs.Selects.{paths_of};
@@ -236,18 +235,11 @@ impl Server {
         self.told_course(session, nodes)
     }
 
-    // The part of running that a session sees: all of it.
-    fn running_seen(&self, session: u32) -> Result<Config, Memory>
-        ensures { IfOk result (λ it. it ≡ visible self.now session self.now.running) }
-    {
-        self.running().copy()
-    }
-
     // What the nodes come to that selects name.
     fn paths_course(&self, session: u32, paths: Many<Path>) -> Result<Course, Memory>
         ensures { IfOk result (λ it. it ≡ course.selects_course self.now session (Some paths)) }
     {
-        let rows = self.running_seen(session)?;
+        let rows = self.visible(session, self.running())?;
         let nodes = nodes_among(self.alloc(), self.schema(), &rows, paths)?;
         self.nodes_course(session, nodes)
     }

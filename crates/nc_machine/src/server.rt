@@ -1,18 +1,22 @@
 //! The datastores, locks and sessions of the server, seen as the state of the definitions (RFC 6241 5.1,
 //! 7.5, 8.1, 8.3 and 8.4; RFC 5717 2.1).
 ghost use Rattle.std.specs.Prelude.{◌≡◌, ◌≤◌, None, Some, IfOk, is_some, if◌then◌else◌};
+ghost use Rattle.nc_model.specs.Access as access;
+ghost use Rattle.nc_model.specs.Policy.{policy_of};
 ghost use Rattle.nc_model.specs.State as state;
 ghost use Rattle.nc_model.specs.Step.{committed, with_candidate};
 ghost use Rattle.nc_model.specs.Verdict.{holder_of, is_candidate, stored};
 ghost use Rattle.nc_outside.specs.Clocks.{last_reading};
 ghost use Rattle.nc_machine.specs.inner.Courses as course;
 
+use crate::governed::Governed;
 use nc_locks::Locks;
 use nc_model::Session;
+use nc_nacm::Policy;
 use nc_names::{Many, Memory, Text};
 use nc_partial::PartialLocks;
 use nc_pending::{Pending, deadline_after};
-use nc_protocol::Datastore;
+use nc_protocol::{Datastore, Peer};
 use nc_schema::Schema;
 use nc_tree::Config;
 use std::alloc::Global;
@@ -26,8 +30,7 @@ pub(crate) const MOST_SESSIONS: usize = 64;
 #[derive(Drop)]
 pub(crate) struct Server {
     pub(crate) alloc: Global,
-    schema: Arc<Schema, Global>,
-    running: Config,
+    governed: Governed,
     candidate: Option<Config>,
     pub(crate) sessions: Many<Session>,
     latest: u64,
@@ -35,7 +38,6 @@ pub(crate) struct Server {
     faults: u64,
     locks: Locks,
     pub(crate) partial: PartialLocks,
-    pending: Option<Pending>,
 }
 
 impl Model for Server {
@@ -46,8 +48,8 @@ impl Model for Server {
     ghost Value = { State };
 
     ghost view = { λ s. record {
-      schema = s.schema.value;
-      running = s.running;
+      schema = s.governed.tables;
+      running = s.governed.running;
       candidate = s.candidate;
       sessions = s.sessions;
       now = s.latest;
@@ -55,7 +57,7 @@ impl Model for Server {
       faults = s.faults;
       holders = s.locks;
       partial = s.partial.locks;
-      pending = s.pending;
+      pending = s.governed.pending;
       last_lock = s.partial.last;
     } };
 
@@ -73,10 +75,10 @@ impl Server {
         ensures { IfOk result (λ it. it ≡ state.opening schema.value running faults) }
     {
         let sessions = Vec::with_capacity(alloc, MOST_SESSIONS)?;
+        let governed = Governed::new(alloc, schema, running)?;
         Ok(Server {
             alloc,
-            schema,
-            running,
+            governed,
             candidate: None,
             sessions: Many::from_vec(sessions),
             latest: 0,
@@ -84,7 +86,6 @@ impl Server {
             faults,
             locks: Locks::new(),
             partial: PartialLocks::new(alloc),
-            pending: None,
         })
     }
 
@@ -97,31 +98,43 @@ impl Server {
     pub(crate) fn schema(&self) -> &Schema
         ensures { result.now ≡ self.now.schema }
     {
-        &self.schema
+        self.governed.schema()
     }
 
     /// The configuration of running.
     pub(crate) fn running(&self) -> &Config
         ensures { result.now ≡ self.now.running }
     {
-        &self.running
+        self.governed.running()
+    }
+
+    /// The policy by which the server decides: that of running, whatever the candidate holds.
+    #[tactic(auto, unfolding(nc_model::specs::Access::access_policy))]
+    pub(crate) fn policy(&self) -> &Policy
+        ensures { result.now ≡ access.access_policy self.now }
+    {
+        self.governed.policy()
+    }
+
+    /// The client of a session that is not live.
+    pub(crate) fn nobody(&self) -> &Peer
+        ensures { result.now ≡ access.nobody }
+    {
+        self.governed.nobody()
     }
 
     /// What running is once no commit is pending, which is what is kept.
     pub(crate) fn base(&self) -> &Config
         ensures { result.now ≡ state.base_of self.now }
     {
-        match &self.pending {
-            Some(pending) => pending.base(),
-            None => &self.running,
-        }
+        self.governed.base()
     }
 
     /// The pending commit.
     pub(crate) fn pending(&self) -> &Option<Pending>
         ensures { result.now ≡ self.now.pending }
     {
-        &self.pending
+        self.governed.pending()
     }
 
     /// The candidate, which is running's where it is unmodified.
@@ -129,7 +142,7 @@ impl Server {
         ensures { result.now ≡ state.candidate_in_force self.now }
     {
         match &self.candidate {
-            None => &self.running,
+            None => self.running(),
             Some(rows) => rows,
         }
     }
@@ -140,7 +153,7 @@ impl Server {
     {
         match store {
             Datastore::Candidate => self.in_force(),
-            _ => &self.running,
+            _ => self.running(),
         }
     }
 
@@ -169,19 +182,17 @@ impl Server {
     fn is_due(&self) -> bool
         ensures { result ≡ state.is_due self.now }
     {
-        match &self.pending {
+        match self.pending() {
             Some(pending) => pending.expired(self.latest),
             None => false,
         }
     }
 
-    /// The pending commit is reverted: its base is moved back, so that it takes no memory.
+    /// The pending commit is reverted: its base and its policy are moved back, so that it takes no memory.
     pub(crate) fn revert(&mut self)
         ensures { self.new ≡ state.reverted self.old }
     {
-        if let Some(pending) = self.pending.take() {
-            self.running = pending.into_base();
-        }
+        self.governed.revert();
     }
 
     // A pending commit whose time is over is reverted.
@@ -239,8 +250,8 @@ impl Server {
         }
     }
 
-    /// The lock of a datastore is released, if that session holds it; the changes of a candidate that is unlocked
-    /// are discarded.
+    /// The lock of a datastore is released, if that session holds it; the changes of a candidate that is
+    /// unlocked are discarded.
     #[tactic(auto, unfolding(crate::specs::inner::Courses::unlocked))]
     pub(crate) fn release(&mut self, session: u32, target: Datastore)
         ensures { self.new ≡ course.unlocked self.old session target }
@@ -275,14 +286,11 @@ impl Server {
         ensures told { result ≡ course.is_reverted_by self.old.pending number }
         ensures left { self.new ≡ record self.old { pending = course.left_of self.old.pending number } }
     {
-        match &mut self.pending {
-            Some(pending) => pending.ended_by(number),
-            None => false,
-        }
+        self.governed.left_by(number)
     }
 
-    /// What the end of a session does to the pending commit: it is reverted, or left without a session where it
-    /// persists, if it is that session's. It takes no memory.
+    /// What the end of a session does to the pending commit: it is reverted, or left without a session where
+    /// it persists, if it is that session's. It takes no memory.
     #[tactic(auto, using(crate::proofs::Confirmed::left_reverted, crate::proofs::Confirmed::left_stays))]
     pub(crate) fn leave_pending(&mut self, number: u32)
         ensures { self.new ≡ state.left_by_end self.old number self.old.pending }
@@ -292,49 +300,33 @@ impl Server {
         }
     }
 
-    // A commit is pending: a first one, or a follow-up of the one that is.
-    fn pend(&mut self, before: Config, deadline: u64, token: Option<Text>, session: u32)
-        ensures { self.new ≡ record self.old {
-          pending =
-              Some (course.pending_from self.old.pending before deadline token session);
-        } }
-    {
-        match self.pending.take() {
-            Some(earlier) => {
-                let mut pending = earlier;
-                pending.follow(deadline, token, session);
-                self.pending = Some(pending);
-            }
-            None => self.pending = Some(Pending::begin(before, deadline, token, session)),
-        }
-    }
-
-    /// A configuration is running and waits to be confirmed; the candidate is unmodified. Running before it is
-    /// moved, and takes no memory.
+    /// A configuration with its policy is running and waits to be confirmed; the candidate is unmodified.
+    /// Running before it is moved, and takes no memory.
     #[tactic(auto, unfolding(crate::specs::inner::Courses::confirming))]
     pub(crate) fn confirm(
         &mut self,
         session: u32,
         rows: Config,
+        policy: Policy,
         timeout: u32,
         persist: Option<Text>,
     )
+        requires { policy ≡ policy_of self.old.schema rows }
         ensures { self.new ≡ course.confirming self.old session rows timeout persist }
     {
         let deadline = deadline_after(self.latest, timeout);
-        let before = std::mem::replace(&mut self.running, rows);
         self.candidate = None;
-        self.pend(before, deadline, persist, session);
+        self.governed
+            .confirm(rows, policy, deadline, persist, session);
     }
 
-    /// The candidate is running, and is unmodified. No commit is pending.
-    pub(crate) fn run_candidate(&mut self)
+    /// The candidate is running with the policy that it holds, and is unmodified. No commit is pending.
+    pub(crate) fn run_candidate(&mut self, policy: Policy)
+        requires { policy ≡ policy_of self.old.schema (state.candidate_in_force self.old) }
         ensures { self.new ≡ committed self.old None }
     {
-        self.pending = None;
-        if let Some(rows) = self.candidate.take() {
-            self.running = rows;
-        }
+        let rows = self.candidate.take();
+        self.governed.run(rows, policy);
     }
 
     /// The count of the disk's faults is this.

@@ -13,7 +13,7 @@ use nc_model::{Outcome, Session};
 use nc_names::{CauseKind, Copies, Many, Memory};
 use nc_protocol::{Cause, Peer};
 
-// The last session-id (RFC 6241 10.2, `session-id-type`).
+// The last session-id (RFC 6241 appendix C, `session-id-type`).
 const LAST_SESSION_ID: u32 = 4294967295;
 
 // Whether a session of that number is among them.
@@ -55,8 +55,8 @@ impl Server {
         self.sessions = Many::from_vec(without(sessions.into_vec(), &number));
     }
 
-    /// The session is over: by its End, its close-session or a kill-session. What it held is released here alone, and
-    /// that takes no memory.
+    /// The session is over: by its End, its close-session or a kill-session. What it held is released here
+    /// alone, and that takes no memory.
     #[tactic(auto, using(crate::proofs::Confirmed::ended_is))]
     pub(crate) fn end_session(&mut self, number: u32)
         ensures { self.new ≡ state.session_ended self.old number }

@@ -1,7 +1,7 @@
 -- What a request comes to, and what that changes.
 use Rattle.std.specs.Prelude.{◌+◌, ◌&&◌, ℕ, Bool, true, false, not, if◌then◌else◌, List, [], ◌∷◌, Option, Some, None, is_some, option_map, Result, Ok, Err}
 use Rattle.std.specs.Option.{option_or}
-use Rattle.nc_names.specs.declared.cause.CauseKind.TheVariants.{UnknownOperation, UnsupportedTarget, BadParameter, BadSelect, BadToken, LockHeld, LockModified, LockPending, NoMatch, NotHeld}
+use Rattle.nc_names.specs.declared.cause.CauseKind.TheVariants.{UnsupportedTarget, BadParameter, BadSelect, BadToken, LockHeld, LockModified, LockPending, NoMatch, NotHeld}
 use Rattle.nc_message.specs.declared.tree.Elem.{Elem}
 use Rattle.nc_names.specs.declared.path.Path.{Path}
 use Rattle.nc_names.specs.declared.path.Row.{Row}
@@ -10,7 +10,6 @@ use Rattle.nc_protocol.specs.declared.asked.Asked.{Asked}
 use Rattle.nc_protocol.specs.declared.asked.Asked.TheVariants.{Get, GetConfig, EditConfig, CopyConfig, DeleteConfig, Lock, Unlock, CloseSession, KillSession, Commit as AsksCommit, DiscardChanges, CancelCommit, Validate, PartialLock, PartialUnlock}
 use Rattle.nc_protocol.specs.declared.asked.Default3.{Default3}
 use Rattle.nc_protocol.specs.declared.asked.ErrorOption.{ErrorOption}
-use Rattle.nc_protocol.specs.declared.asked.Operation.{Operation}
 use Rattle.nc_protocol.specs.declared.asked.Select.{Select}
 use Rattle.nc_protocol.specs.declared.asked.TestOption.{TestOption}
 use Rattle.nc_protocol.specs.declared.asked.TestOption.TheVariants.{TestThenSet, Set, TestOnly}
@@ -164,10 +163,10 @@ abbrev pub commit_made : State → Bool → ℕ → Option (List ℕ) → Course
 commit_made s false timeout persist = Commit
 commit_made s true timeout persist = confirmed_course s timeout persist
 
--- what a commit comes to, unless a check fails
-abbrev pub commit_course : Option Cause → Course → Course
-commit_course None made = made
-commit_course (Some cause) made = refused_course cause
+-- what is made of a request, unless a check fails
+abbrev pub unless_refused : Option Cause → Course → Course
+unless_refused None made = made
+unless_refused (Some cause) made = refused_course cause
 
 -- done with that change, unless a check fails
 abbrev pub done_unless : Option Cause → Change → Course
@@ -217,7 +216,7 @@ copy_config_course s session target source = copy_course (meant.copied s session
 
 unfoldable pub commit_asked_course : State → ℕ → Bool → ℕ → Option (List ℕ) → Option (List ℕ) → Course
 commit_asked_course s session confirmed timeout persist persist_id =
-    commit_course (commit_refused s session persist_id) (commit_made s confirmed timeout persist)
+    unless_refused (commit_refused s session persist_id) (commit_made s confirmed timeout persist)
 
 unfoldable pub cancel_course : State → ℕ → Option (List ℕ) → Course
 cancel_course s session persist_id = done_unless (cancel_refused s session persist_id) Revert
@@ -236,7 +235,7 @@ kill_course s session number = done_unless (meant.kill_refusal s session number)
 
 unfoldable pub partial_lock_course : State → ℕ → List Select → Course
 partial_lock_course s session selects =
-    commit_course (partly_hindered s) (selects_course s session (paths_of s.schema selects))
+    unless_refused (partly_hindered s) (selects_course s session (paths_of s.schema selects))
 
 unfoldable pub partial_unlock_course : State → ℕ → ℕ → Course
 partial_unlock_course s session lock =
@@ -248,10 +247,7 @@ validate_course s source = Answer (meant.validated s.schema (meant.rows_to_valid
 abbrev pub unoffered_cause : Datastore → Cause
 unoffered_cause store = plain_cause UnsupportedTarget (refusal.datastore_name store ∷ [])
 
-abbrev pub unknown_course : Course
-unknown_course = refused_course (plain_cause UnknownOperation [])
-
--- what is asked for, of an operation that is offered
+-- what is asked for
 unfoldable pub asked_course : State → ℕ → Asked → Course
 asked_course s session (Get filter) = get_course s session filter
 asked_course s session (GetConfig source filter) = get_config_course s session source filter
@@ -275,14 +271,10 @@ abbrev pub course_on : State → ℕ → Result Asked Cause → Course
 course_on s session (Err cause) = refused_course cause
 course_on s session (Ok asked) = asked_course s session asked
 
-abbrev pub is_not_offered : Option Operation → Bool
-is_not_offered None = false
-is_not_offered (Some operation) = not (meant.is_offered operation)
-
 -- what a live session's request comes to
 unfoldable pub course : State → ℕ → Request → Course
 course s session request =
-    if is_not_offered request.operation then unknown_course else course_on s session request.asked
+    unless_refused (meant.operation_refused s session request.operation) (course_on s session request.asked)
 
 -- the session has the lock, unless one holds it
 unfoldable pub granted : State → ℕ → Datastore → State

@@ -1,9 +1,8 @@
 -- What becomes of the state in one event, apart from the machine's count and its keeper.
-use Rattle.std.specs.Prelude.{◌≡◌, ◌≤◌, ◌⊎◌, ℕ, Bool, true, List, [], Option, None, IfSome, Result, Ok, Err}
+use Rattle.std.specs.Prelude.{◌≡◌, ◌≤◌, ◌⊎◌, ℕ, List, [], Option, None, IfSome, Result, Ok, Err}
 use Rattle.nc_names.specs.Counts.{Rose}
 use Rattle.nc_names.specs.declared.cause.CauseKind.TheVariants.{DiskFault}
 use Rattle.nc_names.specs.declared.memory.Memory.{Memory}
-use Rattle.nc_names.specs.declared.path.Path.{Path}
 use Rattle.nc_names.specs.declared.path.Row.{Row}
 use Rattle.nc_schema.specs.Tables.{Tables}
 use Rattle.nc_model.specs.declared.entry.Entry.{Entry}
@@ -47,10 +46,6 @@ pub record Answers (old new : State) (session : ℕ) (request : Request) (outcom
   pub outcome_is : outcome ≡ outcome_of old (Requested session request) (has_failed outcome)
   pub faults : CountsFaults (reaches_disk old (Requested session request)) (has_failed outcome) old.faults new.faults
   pub state_is : new ≡ record (changed old (Requested session request) outcome) { faults = new.faults }
-
--- every node is seen
-abbrev pub every_node : Path → Bool
-every_node path = true
 
 unfoldable pub answered_by : State → ℕ → Request → Verdict → Outcome
 answered_by s session request verdict = Answered verdict (reply_of s.schema (sees_of s session) request verdict)

@@ -9,12 +9,12 @@ returns-in-Commit-clause-answers g c =
     let is : Commit ≡ course c.args.server.now c.args.session c.args.request.now
     = sym c.in-Commit.is ∙ c.in_ok-verdict.ensures in
     commit_told c.args.server.now _ c.args.session c.args.request.now c.commit.result (sym c.requires.live) is
-    (c.commit.ensures.commits c.args.session)
+    c.commit.ensures.commits
 
 pub returns-in-Commit-clause-memory : goal.returns-in-Commit-clause-memory
 returns-in-Commit-clause-memory g c =
     commit_wanted c.args.server.now _ _ _ c.args.session c.args.request.now c.commit.result
-    (c.commit.ensures.commits c.args.session) c.commit.ensures.memory
+    c.commit.ensures.commits c.commit.ensures.memory
 
 pub returns-in-Answer-clause-keeping : goal.returns-in-Answer-clause-keeping
 returns-in-Answer-clause-keeping g c =
@@ -24,5 +24,5 @@ returns-in-Answer-clause-keeping g c =
 pub returns-in-Commit-clause-keeping : goal.returns-in-Commit-clause-keeping
 returns-in-Commit-clause-keeping g c =
     keeping_committed _ _ _ c.args.server.now c.commit.new.server c.args.keeper.now c.commit.new.keeper c.args.session
-    c.args.request.now c.commit.result c.requires.keeping (c.commit.ensures.commits c.args.session)
+    c.args.request.now c.commit.result c.requires.keeping c.commit.ensures.commits
     c.commit.ensures.schema_is c.commit.ensures.kept c.commit.ensures.faults

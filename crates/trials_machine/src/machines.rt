@@ -143,14 +143,14 @@ fn request(rt: &impl Abort, alloc: Global, session: u32, operation: &str) -> Eve
     Event::Request { session, request }
 }
 
-// The start of a session, as an event.
+// The start of a recovery session, to which access control denies nothing, as an event.
 fn start(rt: &impl Abort, alloc: Global) -> Event
     ensures { IsProperEvent result }
 {
     let peer = Peer {
         user: Text::from_text(alloc, "ada").expect(rt, "memory"),
         groups: Many::new(alloc),
-        recovery: false,
+        recovery: true,
     };
     Event::Start { peer }
 }

@@ -1,6 +1,5 @@
 -- A set of entries, with one more.
 use Rattle.std.proofs.Common.{◌≡◌, ◌||◌, ◌+◌, ◌<◌, ℕ, Bool, true, false, cond, List, [], ◌∷◌, ◌++◌, length, take, get_or, refl, sym, ap, ◌∙◌, Bor}
-use Rattle.std.specs.List.{list_any}
 use Rattle.std.specs.BTreeSet.{BTreeSet, contains}
 use Rattle.std.specs.Cmp.Lexicographic.{lists_ties, slice_cmp}
 use Rattle.std.specs.Ordering.{is_eq, nat_cmp}
@@ -11,7 +10,7 @@ use Rattle.nc_names.specs.Same.{is_same_keys}
 use Rattle.nc_schema.specs.Standing.{has_entry}
 use Rattle.nc_changes.specs.inner.Entries.{HasEntries, order}
 
-ties : (keys others : List (List ℕ)) → is_eq (slice_cmp (slice_cmp nat_cmp) keys others) ≡ is_same_keys keys others
+pub ties : (keys others : List (List ℕ)) → is_eq (slice_cmp (slice_cmp nat_cmp) keys others) ≡ is_same_keys keys others
 ties keys others = sym (lists_ties (slice_cmp nat_cmp) (λ a b. sym (is_eq-slice_cmp a b)) keys others)
 
 pub nothing_known : (known : BTreeSet (Bor (List (List ℕ)))) → ((keys : Bor (List (List ℕ))) → contains order known keys ≡ false) → HasEntries known []

@@ -1,3 +1,4 @@
 pub mod EntryLemmas
 pub mod FoundLemmas
 pub mod KnownLemmas
+pub mod RankLemmas

@@ -6,14 +6,17 @@ ghost use Rattle.nc_names.specs.Same as same;
 ghost use Rattle.nc_names.specs.declared.path.Row.{Row};
 ghost use Rattle.nc_tree.specs.Finding.{Finds};
 
-use crate::moved::has_moved;
+use crate::moved::{has_moved, is_by_user};
+use crate::ranks::Ranks;
 use nc_names::{Copies, Many, Memory, Path, Row, Text};
 use nc_protocol::Changes;
 use nc_schema::Schema;
 use nc_tree::{Config, RowsByPath};
 use std::alloc::Global;
+use std::marker::Model;
 
-fn is_same_value(value: &Option<Text>, other: &Option<Text>) -> bool
+/// Whether two values are the same, or there is none in both.
+pub fn is_same_value(value: &Option<Text>, other: &Option<Text>) -> bool
     ensures { result ≡ same.is_same_value value.now other.now }
 {
     match (value, other) {
@@ -76,19 +79,105 @@ fn paths_missing<'a>(
     Ok(paths)
 }
 
+/// How the rows of a configuration differ from those of an earlier one. Where the user orders a list, its
+/// moves are found once.
+#[derive(Drop)]
+pub struct Differing<'a> {
+    old: &'a Config,
+    new: &'a Config,
+    ranks: Ranks<'a>,
+}
+
+impl<'a> Model for Differing<'a> {
+    ghost use Rattle.nc_changes.specs.Between.{Between};
+    ghost use Rattle.nc_changes.specs.inner.Ranks.{AreRanks};
+
+    ghost Value = { Between };
+
+    ghost view = { λ d. record { old = d.old.now; new = d.new.now } };
+
+    ghost invariant = { λ d. AreRanks d.old.now d.new.now d.ranks };
+}
+
+impl<'a> Differing<'a> {
+    /// From one configuration to another. No moves are known yet.
+    pub fn between(alloc: Global, old: &'a Config, new: &'a Config) -> Differing<'a>
+        ensures { result ≡ record { old = old.now; new = new.now } }
+    {
+        Differing {
+            old,
+            new,
+            ranks: Ranks::new(alloc),
+        }
+    }
+
+    /// With the moves of the list or leaf-list to whose entry a path leads, where the user orders it.
+    pub fn with_list(
+        self,
+        alloc: Global,
+        schema: &Schema,
+        path: &'a Path,
+    ) -> Result<Differing<'a>, Memory>
+        ensures { IfOk result (λ it. it ≡ self.entry) }
+    {
+        let Some((step, above)) = path.steps.as_slice().split_last() else {
+            return Ok(self);
+        };
+        if !is_by_user(schema, step.node) {
+            return Ok(self);
+        }
+        let known = self.ranks.has_moved(above, step.node, &step.keys);
+        if known.is_some() {
+            return Ok(self);
+        }
+        let Differing { old, new, ranks } = self;
+        let ranks = ranks.with(alloc, old, new, above, step.node)?;
+        Ok(Differing { old, new, ranks })
+    }
+
+    // Whether the entry at a path has moved.
+    fn has_moved(&self, schema: &Schema, path: &'a Path) -> Result<bool, Memory>
+        ensures { IfOk result (λ it. it
+            ≡ meant.has_moved schema.now self.now.old self.now.new path.now.steps) }
+    {
+        let Some((step, above)) = path.steps.as_slice().split_last() else {
+            return Ok(false);
+        };
+        if !is_by_user(schema, step.node) {
+            return Ok(false);
+        }
+        match self.ranks.has_moved(above, step.node, &step.keys) {
+            Some(moved) => Ok(moved),
+            None => has_moved(schema, self.old, self.new, path),
+        }
+    }
+
+    /// Whether a row of the new configuration has another value than the one that stood at its path, or is
+    /// an entry that has moved: the same as `differs`.
+    pub fn differs(&self, schema: &Schema, was: &Row, row: &'a Row) -> Result<bool, Memory>
+        ensures { IfOk result (λ it. it ≡ (not (same.is_same_value was.now.value row.now.value)
+            || meant.has_moved schema.now self.now.old self.now.new row.now.path.steps)) }
+    {
+        if !is_same_value(&was.value, &row.value) {
+            return Ok(true);
+        }
+        self.has_moved(schema, &row.path)
+    }
+}
+
 // The same as `is_updated`, where the old rows are found by their paths.
 fn is_updated_from<'a>(
     schema: &Schema,
-    old: &Config,
-    new: &Config,
+    differing: &Differing<'a>,
     before: &RowsByPath<'a>,
     row: &'a Row,
 ) -> Result<bool, Memory>
-    requires { Finds before.now old.now }
-    ensures { IfOk result (λ it. it ≡ meant.is_updated schema.now old.now new.now row.now) }
+    requires { Finds before.now differing.now.old }
+    ensures { IfOk result (λ it. it
+        ≡ meant.is_updated schema.now differing.now.old differing.now.new row.now) }
 {
     match before.get(row.path.steps.as_slice()) {
-        Some(stood) => differs(schema, old, new, stood, row),
+        Some(stood) => differing.differs(schema, stood, row),
         None => Ok(false),
     }
 }
@@ -96,8 +185,8 @@ fn is_updated_from<'a>(
 fn paths_updated<'a>(
     alloc: Global,
     schema: &Schema,
-    old: &Config,
-    new: &Config,
+    old: &'a Config,
+    new: &'a Config,
     before: &RowsByPath<'a>,
     rows: &[&'a Row],
 ) -> Result<Many<Path>, Memory>
@@ -106,8 +195,10 @@ fn paths_updated<'a>(
         (meant.is_updated schema.now old.now new.now) (map (λ row. row.now) rows.now))) }
 {
     let mut paths = Many::new(alloc);
+    let mut differing = Differing::between(alloc, old, new);
     for row in rows {
-        if is_updated_from(schema, old, new, before, *row)? {
+        differing = differing.with_list(alloc, schema, &row.path)?;
+        if is_updated_from(schema, &differing, before, *row)? {
             paths.push(row.path.copy()?)?;
         }
     }

@@ -2,10 +2,13 @@
 //! created, updated and deleted. It stands on the definitions of `nc_protocol` and on the configurations of
 //! `nc_tree`.
 //!
-//! `changes` answers exactly what `changes_between` defines; want of memory alone is free.
+//! `changes` answers exactly what `changes_between` defines; want of memory alone is free. `Differing`
+//! answers of one row after another what `differs` does, and finds the moves of a list that the user orders
+//! once.
 #![tactic(auto)]
 
 mod differ;
 mod moved;
+mod ranks;
 
-pub use differ::{changes, differs, is_updated};
+pub use differ::{Differing, changes, differs, is_same_value, is_updated};

@@ -97,7 +97,8 @@ fn moves_between(
     Ok(!same)
 }
 
-fn is_by_user(schema: &Schema, number: u32) -> bool
+/// Whether the user orders the entries of a list or leaf-list.
+pub(crate) fn is_by_user(schema: &Schema, number: u32) -> bool
     ensures { result ≡ standing.is_by_user schema.now number }
 {
     match schema.node(number) {

@@ -1,0 +1,7 @@
+-- Two configurations, of which one was before the other.
+use Rattle.std.specs.Prelude.{List}
+use Rattle.nc_names.specs.declared.path.Row.{Row}
+
+pub record Between : Type 0 where
+  pub old : List Row
+  pub new : List Row

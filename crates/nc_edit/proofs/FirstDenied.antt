@@ -1,5 +1,5 @@
 -- The first denied change, found one change after another, is the first of all.
-use Rattle.std.proofs.Common.{◌≡◌, ◌&&◌, ◌||◌, ◌++◌, ◌+◌, ◌<◌, suc, length, get_or, take, drop, drop-cons, arith, ℕ, Bool, true, false, cond, not, List, [], ◌∷◌, Option, Some, None, refl, sym, ap, ◌∙◌}
+use Rattle.std.proofs.Common.{◌≡◌, ◌&&◌, ◌||◌, ◌+◌, ◌<◌, length, get_or, take, ℕ, Bool, true, false, cond, not, List, [], ◌∷◌, Option, Some, None, refl, sym, ap, ◌∙◌}
 use Rattle.std.proofs.lemmas.List.{take_more}
 use Rattle.std.proofs.lemmas.List.Sums.{fold-append}
 use Rattle.std.specs.List.{cons_option, filter, filter_map, last_or, list_any, reduce}
@@ -19,7 +19,7 @@ use Rattle.nc_protocol.specs.Edited.{Change, change_at, changes_by, earlier, fir
 use Rattle.nc_protocol.specs.declared.access.Decision.{Decision}
 use Rattle.nc_protocol.specs.declared.edit.Edit.{Edit}
 use Rattle.nc_protocol.specs.declared.request.Cause.{Cause}
-use Rattle.nc_edit.specs.inner.Denied.{dropped, first_among, first_of, is_dropped, is_ordered, next_denied, stands_ordered}
+use Rattle.nc_edit.specs.inner.Denied.{dropped, first_among, is_dropped, is_ordered, next_denied, stands_ordered}
 
 module _ (tables : Tables) (rights : Path → Right → Decision) (rows : List Row) where
   abbrev next : Option Change → Change → Option Change
@@ -62,7 +62,7 @@ last_cause None = refl
 last_cause (Some cause) = refl
 
 -- an entry that the user does not order has not moved
-unmoved : (tables : Tables) (old new : List Row) (steps : List Step) → is_ordered tables steps ≡ false → has_moved tables old new steps ≡ false
+pub unmoved : (tables : Tables) (old new : List Row) (steps : List Step) → is_ordered tables steps ≡ false → has_moved tables old new steps ≡ false
 unmoved tables old new steps none = by (last_or None steps) none
   where
     by : (last : Option Step) → option_map_or (λ node. node.by_user) (option_and_then (λ step. slice_get tables.nodes step.node) last) false ≡ false →

@@ -1,2 +1,6 @@
+pub mod CaseLemmas
 pub mod FirstDenied
+pub mod FreeLemmas
+pub mod KeptLemmas
+pub mod StillLemmas
 pub mod StoodLemmas

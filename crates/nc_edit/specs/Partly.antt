@@ -7,7 +7,7 @@ use Rattle.nc_schema.specs.Tables.{Tables}
 use Rattle.nc_protocol.specs.Applied.{applied}
 use Rattle.nc_protocol.specs.declared.access.Decision.{Decision}
 use Rattle.nc_protocol.specs.declared.asked.ErrorOption.{ErrorOption}
-use Rattle.nc_protocol.specs.declared.asked.ErrorOption.TheVariants.{Stop, Continue, Rollback}
+use Rattle.nc_protocol.specs.declared.asked.ErrorOption.TheVariants.{Rollback}
 use Rattle.nc_protocol.specs.declared.edit.Edit.{Edit}
 
 -- the rows that the first edits leave, however many these are; and where a refusal is to undo all, the rows at the start

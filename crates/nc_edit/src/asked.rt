@@ -11,7 +11,7 @@ ghost use Rattle.nc_tree.specs.Finding.{Finds};
 ghost use Rattle.std.specs.Option.{option_copied};
 ghost use Rattle.nc_edit.specs.inner.Denied as denied;
 
-use nc_changes::differs;
+use nc_changes::Differing;
 use nc_names::{Copies, Many, Memory, Path, Right, Row};
 use nc_protocol::Rights;
 use nc_schema::Schema;
@@ -92,12 +92,39 @@ fn gives_way(schema: &Schema, rows: &Many<Row>, row: &Row) -> bool
     rows.as_slice().iter().any(|other| excludes(schema, &other.path.steps, &row.path.steps))
 }
 
-#[tactic(auto, unfolding(crate::specs::inner::Denied::is_dropped))]
+// Whether a data node belongs to a case of a choice.
+fn has_case(schema: &Schema, number: u32) -> bool
+    ensures { result ≡ denied.has_case schema.now number }
+{
+    match schema.node(number) {
+        Some(node) => node.cases.get(0).is_some(),
+        None => false,
+    }
+}
+
+// Whether a row is at or below a node of a case: no other gives way to another case.
+fn is_in_case(schema: &Schema, row: &Row) -> bool
+    ensures { result ≡ list_any (λ step. denied.has_case schema.now step.node) row.now.path.steps }
+{
+    row.path
+        .steps
+        .as_slice()
+        .iter()
+        .any(|step| has_case(schema, step.node))
+}
+
+#[tactic(auto, unfolding(crate::specs::inner::Denied::is_dropped), using(crate::proofs::CaseLemmas::gives_no_way))]
 fn is_dropped<'a>(schema: &Schema, placed: &RowsByPath<'a>, block: &Many<Row>, row: &'a Row) -> bool
     requires { Finds placed.now block.now }
     ensures { result ≡ denied.is_dropped schema.now block.now row.now }
 {
-    is_missing(placed, row) && !gives_way(schema, block, row)
+    if !is_missing(placed, row) {
+        return false;
+    }
+    if !is_in_case(schema, row) {
+        return true;
+    }
+    !gives_way(schema, block, row)
 }
 
 /// The first denied one of the rows that an edit deletes, of those that stand at its node.
@@ -123,8 +150,8 @@ pub(crate) fn ask_dropped<'a, R: Rights>(
     Ok(first)
 }
 
-// Whether the last step of a path leads to an entry that the user orders.
-fn is_ordered(schema: &Schema, path: &Path) -> bool
+/// Whether the last step of a path leads to an entry that the user orders.
+pub(crate) fn is_ordered(schema: &Schema, path: &Path) -> bool
     ensures { result ≡ denied.is_ordered schema.now path.now.steps }
 {
     match node_of(schema, path.steps.as_slice()) {
@@ -177,19 +204,17 @@ fn stood_at<'a>(
 #[tactic(auto, using(crate::proofs::StoodLemmas::change_none, crate::proofs::StoodLemmas::change_some))]
 fn right_at<'a>(
     schema: &Schema,
-    config: &'a Config,
-    after: &Config,
-    path: &Path,
-    stood: &RowsByPath<'a>,
+    differing: &Differing<'a>,
+    was: Option<&'a Row>,
     row: &'a Row,
 ) -> Result<Option<Right>, Memory>
-    requires { Finds stood.now (standing.block_at config.now path.now.steps) }
+    requires { option_copied was ≡ blocks.row_at differing.now.old row.now.path.steps }
     ensures { IfOk result (λ it. option_map (λ right. record { path = row.now.path; right = right }) it
-        ≡ meant.change_at schema.now config.now after.now row.now) }
+        ≡ meant.change_at schema.now differing.now.old differing.now.new row.now) }
 {
-    match stood_at(config, path, stood, row) {
+    match was {
         Some(was) => {
-            if differs(schema, config, after, was, row)? {
+            if differing.differs(schema, was, row)? {
                 return Ok(Some(Right::Update));
             }
             Ok(None)
@@ -198,11 +223,28 @@ fn right_at<'a>(
     }
 }
 
+// With the moves of the list in which a row is an entry, where it stood.
+fn with_list<'a>(
+    alloc: Global,
+    schema: &Schema,
+    differing: Differing<'a>,
+    was: Option<&'a Row>,
+    row: &'a Row,
+) -> Result<Differing<'a>, Memory>
+    ensures { IfOk result (λ it. it ≡ differing.entry) }
+{
+    if was.is_none() {
+        return Ok(differing);
+    }
+    differing.with_list(alloc, schema, &row.path)
+}
+
 /// The first denied one of the rows so far, and of those that an edit creates and updates.
 pub(crate) fn ask_new<'a, R: Rights>(
+    alloc: Global,
     schema: &Schema,
     config: &'a Config,
-    after: &Config,
+    after: &'a Config,
     rights: &R,
     so_far: Option<Asking>,
     path: &Path,
@@ -216,8 +258,11 @@ pub(crate) fn ask_new<'a, R: Rights>(
         (meant.change_at schema.now config.now after.now) block.now)) }
 {
     let mut first = so_far;
+    let mut differing = Differing::between(alloc, config, after);
     for row in block.as_slice() {
-        if let Some(right) = right_at(schema, config, after, path, stood, row)? {
+        let was = stood_at(config, path, stood, row);
+        differing = with_list(alloc, schema, differing, was, row)?;
+        if let Some(right) = right_at(schema, &differing, was, row)? {
             first = consider(schema, config, rights, first, &row.path, right)?;
         }
     }

@@ -1,6 +1,7 @@
 //! What an edit leaves.
-ghost use Rattle.std.specs.Prelude.{◌≡◌, IfOk, OnOk, OnErr};
+ghost use Rattle.std.specs.Prelude.{◌≡◌, ◌&&◌, true, not, IfOk, OnOk, OnErr};
 ghost use Rattle.nc_protocol.specs.Edited as meant;
+ghost use Rattle.nc_schema.specs.Standing as standing;
 ghost use Rattle.nc_schema.specs.Blocks as blocks;
 ghost use Rattle.nc_schema.specs.Kinds as kinds;
 ghost use Rattle.nc_protocol.specs.declared.edit.Action.TheVariants.{Merge};
@@ -21,6 +22,14 @@ pub(crate) fn is_value_at(schema: &Schema, path: &Path) -> bool
     }
 }
 
+// Whether what stands at a path or below it is no value, so that a merge leaves it as it is.
+fn merge_keeps(schema: &Schema, config: &Config, path: &Path) -> bool
+    ensures { result ≡ (standing.exists config.now path.now.steps
+        && not (blocks.at_node schema.now path.now kinds.has_value)) }
+{
+    config.exists(path) && !is_value_at(schema, path)
+}
+
 fn merged_block(
     alloc: Global,
     schema: &Schema,
@@ -30,7 +39,7 @@ fn merged_block(
 ) -> Result<Many<Row>, Memory>
     ensures { IfOk result (λ it. it ≡ meant.new_block schema.now config.now path.now (Merge value.now)) }
 {
-    if config.exists(path) && !is_value_at(schema, path) {
+    if merge_keeps(schema, config, path) {
         return config.block(path);
     }
     rows_of_node(alloc, schema, path, value)
@@ -70,26 +79,31 @@ fn place_by(action: &Action, place: &Place) -> Result<Place, Memory>
     }
 }
 
-/// Puts what an edit puts at its node. Where memory ends nothing is changed.
-pub(crate) fn put_new(
-    schema: &Schema,
-    config: &mut Config,
-    edit: &Edit,
-    block: Many<Row>,
-) -> Result<(), Memory>
-    requires block { block ≡ meant.new_block schema.now config.old edit.now.path edit.now.action }
-    ensures ok { OnOk result (config.new ≡ meant.left_by schema.now config.old edit.now) }
-    ensures err { OnErr result (config.new ≡ config.old) }
+/// Whether an edit leaves the rows at and below its node as they are.
+#[tactic(auto, using(crate::proofs::KeptLemmas::merge_kept))]
+pub(crate) fn keeps_rows(schema: &Schema, config: &Config, path: &Path, action: &Action) -> bool
+    ensures { result ≡ true → meant.new_block schema.now config.now path.now action.now
+        ≡ standing.block_at config.now path.now.steps }
 {
-    let place = place_by(&edit.action, &edit.place)?;
-    config.set_block(schema, &edit.path, &place, block)
+    match action {
+        Action::Nothing => true,
+        Action::Merge { .. } => merge_keeps(schema, config, path),
+        Action::Create { .. } | Action::Replace { .. } => false,
+        Action::Delete | Action::Remove => false,
+    }
 }
 
-/// Makes an edit, whatever stands in its way. Where memory ends nothing is changed.
+/// Makes an edit, whatever stands in its way. Rows that it leaves as they are stay shared. Where memory
+/// ends nothing is changed.
 pub fn make(alloc: Global, schema: &Schema, config: &mut Config, edit: &Edit) -> Result<(), Memory>
     ensures ok { OnOk result (config.new ≡ meant.left_by schema.now config.old edit.now) }
     ensures err { OnErr result (config.new ≡ config.old) }
 {
+    let place = place_by(&edit.action, &edit.place)?;
+    if keeps_rows(schema, config, &edit.path, &edit.action) {
+        let part = config.part(&edit.path)?;
+        return config.set_part(schema, &edit.path, &place, &part);
+    }
     let block = new_block(alloc, schema, config, &edit.path, &edit.action)?;
-    put_new(schema, config, edit, block)
+    config.set_block(schema, &edit.path, &place, block)
 }

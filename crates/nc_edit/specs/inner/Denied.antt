@@ -1,5 +1,5 @@
 -- The first change of an edit that is denied, found one change after another.
-use Rattle.std.specs.Prelude.{◌&&◌, Bool, false, not, if◌then◌else◌, List, map, Option, Some, None, fold}
+use Rattle.std.specs.Prelude.{◌&&◌, ℕ, Bool, false, not, if◌then◌else◌, List, map, Option, Some, None, fold, is_some, slice_get}
 use Rattle.std.specs.List.{filter, filter_map}
 use Rattle.std.specs.Option.{option_map_or}
 use Rattle.nc_names.specs.declared.path.Path.{Path}
@@ -25,6 +25,10 @@ first_of tables rows (Some first) change = Some (earlier tables rows first chang
 abbrev pub next_denied : Tables → (Path → Right → Decision) → List Row → Option Change → Change → Option Change
 next_denied tables rights rows so_far change =
     if (rights change.path change.right).permit then so_far else first_of tables rows so_far change
+
+-- the data node belongs to a case of a choice
+abbrev pub has_case : Tables → ℕ → Bool
+has_case tables number = option_map_or (λ node. is_some (slice_get node.cases 0)) (slice_get tables.nodes number) false
 
 -- a row that an edit deletes: it is not among the new ones, and does not give way to another case
 unfoldable pub is_dropped : Tables → List Row → Row → Bool

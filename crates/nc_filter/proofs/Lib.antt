@@ -21,3 +21,4 @@ pub mod NumberLemmas
 pub mod MemberLemmas
 pub mod BelowLemmas
 pub mod InstanceLemmas
+pub mod FrontLemmas

@@ -9,3 +9,4 @@ pub mod Runs
 pub mod Below
 pub mod Names
 pub mod Labels
+pub mod Front

@@ -93,8 +93,11 @@ pub(crate) fn has_match(elems: &[&Elem]) -> bool
     false
 }
 
-// Adds the elements of a level.
-fn push_level<'a>(elems: &mut Many<&'a Elem>, parts: &'a Many<Part>) -> Result<(), Memory>
+/// Adds the elements of a level.
+pub(crate) fn push_level<'a>(
+    elems: &mut Many<&'a Elem>,
+    parts: &'a Many<Part>,
+) -> Result<(), Memory>
     ensures { OnOk result (map (λ elem. elem.now) elems.new
         ≡ map (λ elem. elem.now) elems.old ++ filter_map elements.elem_of parts.now) }
 {

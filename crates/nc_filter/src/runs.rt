@@ -25,8 +25,8 @@ pub(crate) struct Run<'a> {
     pub(crate) rows: Many<&'a Row>,
 }
 
-// The steps to the instance at a depth above a row.
-fn front(depth: usize, steps: &[Step]) -> &[Step]
+/// The steps to the instance at a depth above a row.
+pub(crate) fn front(depth: usize, steps: &[Step]) -> &[Step]
     ensures { result.now ≡ take depth steps.now }
 {
     &steps[..depth.min(steps.len())]

@@ -9,6 +9,7 @@ ghost use Rattle.nc_protocol.specs.Filter as meant;
 ghost use Rattle.nc_filter.specs.inner.Tables.{ArePlaces, IsIndex};
 
 use crate::element::last_step;
+use crate::front::met_rows;
 use crate::index::{Index, above_last};
 use crate::places::Places;
 use crate::walk::pick_within;
@@ -69,7 +70,8 @@ fn is_key_in(schema: &Schema, above: &[Step], number: u32) -> bool
     }
 }
 
-fn is_key_of_entry(schema: &Schema, steps: &[Step]) -> bool
+/// Whether the node at the steps is a key of the entry in which it stands.
+pub(crate) fn is_key_of_entry(schema: &Schema, steps: &[Step]) -> bool
     ensures { result ≡ meant.is_key_of_entry schema.now steps.now }
 {
     match last_step(steps) {
@@ -140,6 +142,6 @@ pub fn select(
 ) -> Result<Many<Row>, Memory>
     ensures { IfOk result (λ it. it ≡ meant.selected schema.now filter.now config.now) }
 {
-    let rows = config.rows(alloc)?;
+    let rows = met_rows(alloc, schema, filter, config.rows(alloc)?)?;
     selected_rows(alloc, schema, filter, rows.as_slice())
 }

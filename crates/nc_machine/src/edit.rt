@@ -14,10 +14,10 @@ use crate::course::{Change, Course, refused_course};
 use crate::datastores::unsupported_target;
 use crate::payload::edits_of;
 use crate::server::Server;
-use nc_edit::apply;
+use nc_edit::{apply, apply_freely};
 use nc_message::Elem;
 use nc_names::{Copies, Many, Memory};
-use nc_protocol::{Cause, Datastore, Default3, Edit, ErrorOption, TestOption, Unchecked};
+use nc_protocol::{Cause, Datastore, Default3, Edit, ErrorOption, TestOption};
 use nc_tree::Config;
 use nc_validate::violation_in;
 
@@ -93,14 +93,7 @@ impl Server {
             ≡ applied self.now.schema (rights_of self.now session) on_error rows.old edits.now) }
     {
         if self.is_open(session) {
-            let causes = apply(
-                self.alloc(),
-                self.schema(),
-                rows,
-                edits,
-                on_error,
-                &Unchecked,
-            )?;
+            let causes = apply_freely(self.alloc(), self.schema(), rows, edits, on_error)?;
             return Ok(causes);
         }
         let rights = self.reach(session)?;

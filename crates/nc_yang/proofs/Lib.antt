@@ -11,6 +11,7 @@ pub mod Modules
 pub mod NamingLemmas
 pub mod AlikeNames
 pub mod ReadyLemmas
+pub mod DepthLemmas
 pub mod Reading
 pub mod Outcomes
 pub mod Carried
@@ -20,6 +21,7 @@ pub mod Alone
 pub mod Chains
 pub mod LeafTypes
 pub mod SameTypes
+pub mod SameDepths
 pub mod SamePlans
 pub mod Never
 pub mod One

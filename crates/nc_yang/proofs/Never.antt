@@ -1,6 +1,6 @@
 -- Modules that have a schema break no rule.
-use Rattle.std.proofs.Common.{inl, inr, ◌≡◌, ◌⊎◌, ◌&&◌, ℕ, Bool, true, false, List, [], ◌∷◌, map, slice_index_or, refl, sym, ap, subst, ◌∙◌}
-use Rattle.std.specs.Prelude.{Contains, None, Some, slice_get}
+use Rattle.std.proofs.Common.{inl, inr, ◌≡◌, ◌⊎◌, ◌&&◌, ℕ, Bool, true, false, cond, List, [], ◌∷◌, map, slice_index_or, refl, sym, ap, subst, ◌∙◌}
+use Rattle.std.specs.Prelude.{Contains, None, Some, option_map, slice_get}
 use Rattle.std.specs.List.{list_all}
 use Rattle.std.proofs.lemmas.Option.{slice_get-get_or, slice_get_within}
 use Rattle.nc_names.specs.declared.name.Bound.{Bound}
@@ -29,7 +29,7 @@ use Rattle.nc_yang_identities.proofs.PickLemmas.{first_of}
 use Rattle.nc_yang_data.specs.Data.{data_faults, data_tables}
 use Rattle.nc_yang_data.proofs.AlikeLemmas.{faults_alike, tables_alike}
 use Rattle.nc_yang_meanings.specs.Faults.{KeepsTypes}
-use Rattle.nc_yang_leafs.specs.Bases.{AllMeanWhole, Basis}
+use Rattle.nc_yang_leafs.specs.Bases.{AllMeanWhole, Basis, type_of}
 use Rattle.nc_yang_leafs.specs.Conditions.{holds}
 use Rattle.nc_yang_leafs.specs.Faults.{BreaksLeafref}
 use Rattle.nc_yang_leafs.specs.Patterns.{without_patterns}
@@ -40,13 +40,15 @@ use Rattle.nc_yang_defaults.specs.Defaults.{BreaksDefault, KeepsDefaults}
 use Rattle.nc_yang_defaults.specs.Readings.{value_of}
 use Rattle.nc_yang_defaults.proofs.AlikeLemmas.{TakesAlike, canonical_alike, defaults_kept, keep_alike, path_tables, value_alike}
 use Rattle.nc_yang.specs.Access.{in_file}
+use Rattle.nc_yang.specs.Depths.{BreaksDepth, KeepsDepth, depth_fault, too_deep_at}
 use Rattle.nc_yang.specs.Features.{is_given}
 use Rattle.nc_yang.specs.Laws.{NeverBoth}
-use Rattle.nc_yang.specs.Schemas.{AreNames, Breaks, BreaksPlan, BreaksSchema, Defines, GivesSchema, IsBegun, IsSchemaOf, basis, by_pattern, circle, default, identity_name, ill_typed, in_place, in_plan, in_schema, leafref, past, text, unread}
+use Rattle.nc_yang.specs.Schemas.{AreNames, Breaks, BreaksPlan, BreaksSchema, Defines, GivesSchema, IsBegun, IsSchemaOf, basis, by_pattern, circle, deep, default, identity_name, ill_typed, in_place, in_plan, in_schema, leafref, past, text, unread}
 use Rattle.nc_yang.proofs.DataTypes.{data_types_mean}
 use Rattle.nc_yang.proofs.Reading.{have_one_way, have_or_faulty}
 use Rattle.nc_yang.proofs.LeafTypes.{LeafAt, leaf_at, leaf_there, leafs_end, no_path_lost, nodes_paired, paths_as_given}
-use Rattle.nc_yang.proofs.SamePlans.{circle_here, default_here, lost_here, typed_here}
+use Rattle.nc_yang.proofs.SameDepths.{deep_alike}
+use Rattle.nc_yang.proofs.SamePlans.{circle_here, deep_here, default_here, lost_here, typed_here}
 use Rattle.nc_yang.proofs.SameTypes.{Both, Kinds, nodes_take, whole_alike}
 
 -- ---- identities are picked in one way
@@ -129,6 +131,14 @@ module _ (scoping : Scoping) (on : FeatureTest) where
           by (inr a) c = inr (both a)
           by (inl a) (inr c) = inr (both (leaf_there derived named stands_on t one n c.node c.there c.valued c.l c.is))
 
+      -- no value is read through too many types in the other
+      depths_keep : (found : TextFault) → KeepsDepth scoping plan t → BreaksDepth scoping plan u found → ⊥
+      depths_keep found good (number, is) =
+          let same : depth_fault scoping plan t number ≡ depth_fault scoping plan u number =
+          ap (λ b. cond b (option_map too_deep_at (type_of scoping plan number)) None) (deep_alike derived names_one stands_on t u alike named other agree kinds number) in
+          let gone : None ≡ Some found = sym (good number) ∙ same ∙ is in
+          absurd (cc)
+
       module _ (straight : HasNoCircle stands_on) where
         takes_same : TakesAlike t u alike
         takes_same =
@@ -180,6 +190,11 @@ module _ (scoping : Scoping) (on : FeatureTest) where
           no_path_lost derived (NameEach schema.typed.patterns) (basis scoping on plan) schema.typed schema.is.types found
           (lost_here scoping plan other (plans_alike scoping on plan other planned also) (holds scoping.texts on) (data_tables scoping on plan) found
           (subst (λ z. BreaksLeafref (other_on z) found) same_tables h))
+      plan_broken _ (deep found typed clean straight is h) =
+          depths_keep plan whole (without_patterns schema.typed) (without_patterns typed) NamesNone NamesNone
+          (bare_typings derived (NameEach schema.typed.patterns) (basis scoping on plan) schema.typed schema.is.types)
+          (bare_typings derived (NameEach typed.patterns) (basis scoping on plan) typed (here typed is)) (none_agree [] []) found schema.is.shallow
+          (deep_here scoping plan other (plans_alike scoping on plan other planned also) (without_patterns typed) found h)
       plan_broken _ (default found typed clean straight is h) =
           defaults_keep plan whole (without_patterns schema.typed) (without_patterns typed) NamesNone NamesNone
           (bare_typings derived (NameEach schema.typed.patterns) (basis scoping on plan) schema.typed schema.is.types)

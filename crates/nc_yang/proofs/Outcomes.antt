@@ -35,9 +35,10 @@ use Rattle.nc_yang_circles.specs.Circles.{BreaksCircle, HasNoCircle, JudgesCircl
 use Rattle.nc_yang_defaults.specs.Defaults.{BreaksDefault, HasDefaults, KeepsDefaults}
 use Rattle.nc_yang_defaults.specs.Typed.{IsTyped as IsReady}
 use Rattle.nc_yang.specs.Access.{HaveStatements, in_file}
+use Rattle.nc_yang.specs.Depths.{BreaksDepth, KeepsDepth}
 use Rattle.nc_yang.specs.Features.{is_given}
-use Rattle.nc_yang.specs.Schemas.{AreNames, BreaksSchema, Defines, GivesNone, GivesSchema, IsBegun, IsSchemaOf, IsTypedOf, RefusesSchema, basis, by_pattern, circle, default, ill_typed, in_place, in_plan, in_schema, leafref, past, text, unread}
-use Rattle.nc_yang.specs.inner.Finishing.{Ends, Finishes, GivesNoSchema, GivesNothing, broken, refused, unsuited}
+use Rattle.nc_yang.specs.Schemas.{AreNames, BreaksSchema, Defines, GivesNone, GivesSchema, IsBegun, IsSchemaOf, IsTypedOf, RefusesSchema, basis, by_pattern, circle, deep, default, ill_typed, in_place, in_plan, in_schema, leafref, past, text, unread}
+use Rattle.nc_yang.specs.inner.Finishing.{Ends, Finishes, GivesNoSchema, GivesNothing, broken, refused, too_deep, unsuited}
 use Rattle.nc_yang.specs.inner.Stops.{IsInFile, OnFile}
 
 -- ---- faults of the passes
@@ -89,50 +90,59 @@ circle_stops scoping on plan refusals kept Memory b = tt
 -- the schema with its types as they were found, and what its defaults and patterns come to
 module _ (scoping : Scoping) (on : FeatureTest) (plan : Plan) (typed : Typed) (refusals : Refusals) (kept : data_faults scoping on plan ≡ []) (none : HasNoCircle (basis scoping on plan))
     (are : AreTypings (AreNames scoping on) (basis scoping on plan) typed) where
-  of_patterns : (tables : Tables) → HasPatterns scoping.located typed tables → KeepsDefaults scoping plan typed.schema → IsTypedOf scoping on plan tables
-  of_patterns tables has keeps = record {
+  of_patterns : (tables : Tables) → HasPatterns scoping.located typed tables → KeepsDepth scoping plan typed.schema → KeepsDefaults scoping plan typed.schema → IsTypedOf scoping on plan tables
+  of_patterns tables has shallow keeps = record {
     keeps = kept;
     straight = none;
     types = with_patterns_typed (AreNames scoping on) (basis scoping on plan) typed are tables has;
+    shallow = subst (KeepsDepth scoping plan) (sym (patterns_left_out (AreNames scoping on) (basis scoping on plan) typed are tables has)) shallow;
     defaults = subst (KeepsDefaults scoping plan) (sym (patterns_left_out (AreNames scoping on) (basis scoping on plan) typed are tables has)) keeps;
   }
 
   ends : (found : TextFault) → Ends scoping plan typed refusals found → GivesNoSchema scoping on plan refusals found
+  ends _ (too_deep found h) =
+      let t = stated_typed (AreNames scoping on) (basis scoping on plan) typed are in
+      inl (deep found t.0 kept none t.1 (subst (λ z. BreaksDepth scoping plan z found) (sym t.2) h))
   ends _ (broken found h) =
       let t = stated_typed (AreNames scoping on) (basis scoping on plan) typed are in
       inl (default found t.0 kept none t.1 (subst (λ z. BreaksDefault scoping plan z found) (sym t.2) h))
-  ends _ (refused found keeps h) =
+  ends _ (refused found shallow keeps h) =
       let t = stated_typed (AreNames scoping on) (basis scoping on plan) typed are in
       inr (record {
         typed = t.0;
-        is = record { keeps = kept; straight = none; types = t.1; defaults = subst (KeepsDefaults scoping plan) (sym t.2) keeps };
+        is = record { keeps = kept; straight = none; types = t.1; shallow = subst (KeepsDepth scoping plan) (sym t.2) shallow; defaults = subst (KeepsDefaults scoping plan) (sym t.2) keeps };
         refused = refused_in_use (AreNames scoping on) (basis scoping on plan) typed are refusals found h;
       })
-  ends _ (unsuited found patterned keeps has h) = inl (by_pattern found patterned (of_patterns patterned has keeps) h)
+  ends _ (unsuited found patterned shallow keeps has h) = inl (by_pattern found patterned (of_patterns patterned has shallow keeps) h)
 
   pub finishes : (result : Result Tables (Stop TextFault)) → MatchResult result (Finishes scoping plan typed) (OnBroken (Ends scoping plan typed refusals))
       → MatchResult result (IsSchemaOf scoping on plan) (OnBroken (GivesNoSchema scoping on plan refusals))
-  finishes (Ok tables) h = record { typed = h.patterned; is = of_patterns h.patterned h.has h.keeps; defaults = h.defaults }
+  finishes (Ok tables) h = record { typed = h.patterned; is = of_patterns h.patterned h.has h.shallow h.keeps; defaults = h.defaults }
   finishes (Err (Broken found)) h = ends found h
   finishes (Err Memory) h = tt
 
--- defaults that are looked at before the patterns, and after them
+-- depths that are looked at first, and defaults before the patterns and after them
+pub deep_first : (scoping : Scoping) (plan : Plan) (typed : Typed) (refusals : Refusals) (stop : Stop TextFault) → OnBroken (BreaksDepth scoping plan typed.schema) stop
+    → OnBroken (Ends scoping plan typed refusals) stop
+deep_first scoping plan typed refusals (Broken found) b = too_deep found b
+deep_first scoping plan typed refusals Memory b = tt
+
 pub broken_first : (scoping : Scoping) (plan : Plan) (typed : Typed) (refusals : Refusals) (stop : Stop TextFault) → OnBroken (BreaksDefault scoping plan typed.schema) stop
     → OnBroken (Ends scoping plan typed refusals) stop
 broken_first scoping plan typed refusals (Broken found) b = broken found b
 broken_first scoping plan typed refusals Memory b = tt
 
-pub refused_then : (scoping : Scoping) (plan : Plan) (typed : Typed) (refusals : Refusals) → KeepsDefaults scoping plan typed.schema → (stop : Stop TextFault)
+pub refused_then : (scoping : Scoping) (plan : Plan) (typed : Typed) (refusals : Refusals) → KeepsDepth scoping plan typed.schema → KeepsDefaults scoping plan typed.schema → (stop : Stop TextFault)
     → OnBroken (RefusesType scoping.located typed refusals) stop → OnBroken (Ends scoping plan typed refusals) stop
-refused_then scoping plan typed refusals keeps (Broken found) b = refused found keeps b
-refused_then scoping plan typed refusals keeps Memory b = tt
+refused_then scoping plan typed refusals shallow keeps (Broken found) b = refused found shallow keeps b
+refused_then scoping plan typed refusals shallow keeps Memory b = tt
 
-pub unsuited_last : (scoping : Scoping) (plan : Plan) (typed : Typed) (refusals : Refusals) (patterned : Tables) → KeepsDefaults scoping plan typed.schema → HasPatterns scoping.located typed patterned
-    → (result : Result Tables (Stop TextFault)) → MatchResult result (HasDefaults scoping plan patterned) (OnBroken (BreaksDefault scoping plan patterned))
+pub unsuited_last : (scoping : Scoping) (plan : Plan) (typed : Typed) (refusals : Refusals) (patterned : Tables) → KeepsDepth scoping plan typed.schema → KeepsDefaults scoping plan typed.schema
+    → HasPatterns scoping.located typed patterned → (result : Result Tables (Stop TextFault)) → MatchResult result (HasDefaults scoping plan patterned) (OnBroken (BreaksDefault scoping plan patterned))
     → MatchResult result (Finishes scoping plan typed) (OnBroken (Ends scoping plan typed refusals))
-unsuited_last scoping plan typed refusals patterned keeps has (Ok tables) h = record { keeps = keeps; patterned = patterned; has = has; defaults = h }
-unsuited_last scoping plan typed refusals patterned keeps has (Err (Broken found)) h = unsuited found patterned keeps has h
-unsuited_last scoping plan typed refusals patterned keeps has (Err Memory) h = tt
+unsuited_last scoping plan typed refusals patterned shallow keeps has (Ok tables) h = record { shallow = shallow; keeps = keeps; patterned = patterned; has = has; defaults = h }
+unsuited_last scoping plan typed refusals patterned shallow keeps has (Err (Broken found)) h = unsuited found patterned shallow keeps has h
+unsuited_last scoping plan typed refusals patterned shallow keeps has (Err Memory) h = tt
 
 -- what makes a schema ready for its defaults does not depend on its types
 pub ready_again : (scoping : Scoping) (plan : Plan) (typed : Typed) (tables : Tables) → IsReady scoping plan typed.schema → HasPatterns scoping.located typed tables → IsReady scoping plan tables

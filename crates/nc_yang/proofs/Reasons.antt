@@ -1,6 +1,6 @@
 -- No rule of modules is that a pattern was refused.
-use Rattle.std.proofs.Common.{◌≡◌, ℕ, Bool, List, inl, inr, refl, sym, subst}
-use Rattle.std.specs.Prelude.{Result, Ok, Err, IfErr, MatchResult}
+use Rattle.std.proofs.Common.{◌≡◌, ℕ, Bool, true, false, cond, List, inl, inr, refl, sym, subst}
+use Rattle.std.specs.Prelude.{Option, Some, None, option_map, Result, Ok, Err, IfErr, MatchResult}
 use Rattle.std.proofs.lemmas.List.Elements.{All-contains}
 use Rattle.nc_patterns.specs.Makers.{Rose}
 use Rattle.nc_schema.specs.Tables.{Tables}
@@ -19,9 +19,11 @@ use Rattle.nc_yang_nodes.specs.declared.planned.Plan.{Plan}
 use Rattle.nc_yang_data.specs.Data.{data_faults}
 use Rattle.nc_yang_types.specs.Entries.{narrowed_faults, own_faults}
 use Rattle.nc_yang_meanings.specs.Meanings.{Breaks as BreaksParts, in_itself, over_base, shape}
-use Rattle.nc_yang_leafs.specs.Patterns.{Refusals}
+use Rattle.nc_yang_leafs.specs.Bases.{type_of}
+use Rattle.nc_yang_leafs.specs.Patterns.{Refusals, without_patterns}
 use Rattle.nc_yang.specs.Access.{in_file}
-use Rattle.nc_yang.specs.Schemas.{Breaks, BreaksPlan, BreaksSchema, Defines, GivesNone, by_pattern, circle, default, ill_typed, in_place, in_plan, in_schema, leafref, past, text, unread}
+use Rattle.nc_yang.specs.Depths.{is_too_deep, too_deep_at}
+use Rattle.nc_yang.specs.Schemas.{Breaks, BreaksPlan, BreaksSchema, Defines, GivesNone, by_pattern, circle, deep, default, ill_typed, in_place, in_plan, in_schema, leafref, past, text, unread}
 use Rattle.nc_yang.proofs.TextReasons.{OfRule, OfTextRule, no_refusal, of_text, of_unread}
 use Rattle.nc_yang.proofs.TypeReasons.{of_data, of_narrowed, of_own}
 
@@ -29,10 +31,17 @@ of_parts : (on : ℕ → List ℕ → Bool) (texts : List Statement) (l : Locate
 of_parts on texts _ _ (in_itself l one fault built here) = All-contains OfRule (own_faults one l.statement) fault (of_own one l.statement) here
 of_parts on texts _ _ (over_base l base n fault is means here) = All-contains OfRule (narrowed_faults (shape n) (below l.statement)) fault (of_narrowed (shape n) (below l.statement)) here
 
+-- a value that is read through too many types
+of_depth : (b : Bool) (o : Option Located) (found : TextFault) → cond b (option_map too_deep_at o) None ≡ Some found → OfTextRule found
+of_depth false o found e = absurd (cc)
+of_depth true None found e = absurd (cc)
+of_depth true (Some l) found e = let same : too_deep_at l ≡ found = cc in subst OfTextRule same refl
+
 of_plan : (scoping : Scoping) (on : FeatureTest) (plan : Plan) (found : TextFault) → BreaksPlan scoping on plan found → OfTextRule found
 of_plan scoping on plan _ (in_place found here) = All-contains OfTextRule (data_faults scoping on plan) found (of_data scoping on plan) here
 of_plan scoping on plan _ (circle found kept breaks) = subst OfTextRule (sym breaks.at) refl
 of_plan scoping on plan _ (leafref found kept breaks) = subst OfTextRule (sym breaks.at) refl
+of_plan scoping on plan _ (deep found typed kept straight types breaks) = of_depth (is_too_deep (without_patterns typed) breaks.0) (type_of scoping plan breaks.0) found breaks.1
 of_plan scoping on plan _ (default found typed kept straight types breaks) = subst OfTextRule (sym breaks.fault_is) refl
 of_plan scoping on plan _ (by_pattern found typed is breaks) = subst OfTextRule (sym breaks.fault_is) refl
 

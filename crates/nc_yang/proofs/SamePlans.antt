@@ -1,6 +1,6 @@
 -- Types, circles and defaults do not depend on which plan of the modules is taken.
-use Rattle.std.proofs.Common.{◌≡◌, ℕ, List, sym, ap, ◌∙◌}
-use Rattle.std.specs.Prelude.{Bool, Option, Some, None, IsSomeAnd, option_and_then, slice_get}
+use Rattle.std.proofs.Common.{◌≡◌, ℕ, List, cond, sym, ap, ◌∙◌}
+use Rattle.std.specs.Prelude.{Bool, Option, Some, None, IsSomeAnd, option_and_then, option_map, slice_get}
 use Rattle.nc_names.specs.declared.name.QName.{QName}
 use Rattle.nc_schema.specs.Tables.{Tables}
 use Rattle.nc_schema.specs.declared.node.Kind.{Kind}
@@ -18,6 +18,7 @@ use Rattle.nc_yang_leafs.specs.Faults.{BreaksLeafref}
 use Rattle.nc_yang_leafs.specs.Typings.{HasItsType, HasTypings, IsInUse, IsOfType, IsSameNode}
 use Rattle.nc_yang_circles.specs.Circles.{BreaksCircle, HasPath, Reaches, Refers, itself, through}
 use Rattle.nc_yang_defaults.specs.Defaults.{BreaksDefault, HasDefaults, KeepsDefaults}
+use Rattle.nc_yang.specs.Depths.{BreaksDepth, is_too_deep, too_deep_at}
 
 some_more : {A : Type 0} (P Q : A → Type 0) (o : Option A) → ((x : A) → P x → Q x) → IsSomeAnd o P → IsSomeAnd o Q
 some_more P Q None more h = absurd h
@@ -26,6 +27,9 @@ some_more P Q (Some x) more h = more x h
 module _ (scoping : Scoping) (one other : Plan) (alike : AreAlike scoping one other) where
   types_same : (n : ℕ) → type_of scoping one n ≡ type_of scoping other n
   types_same n = ap (option_and_then (part_of TypeName)) (statements_alike scoping one other alike n)
+
+  pub deep_here : (tables : Tables) (fault : TextFault) → BreaksDepth scoping other tables fault → BreaksDepth scoping one tables fault
+  deep_here tables fault (number, is) = (number, ap (λ o. cond (is_too_deep tables number) (option_map too_deep_at o) None) (types_same number) ∙ is)
 
   pub default_here : (tables : Tables) (fault : TextFault) → BreaksDefault scoping other tables fault → BreaksDefault scoping one tables fault
   default_here tables fault h = record {

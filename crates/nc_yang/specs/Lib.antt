@@ -1,5 +1,6 @@
 pub mod Access
 pub mod Features
 pub mod Laws
+pub mod Depths
 pub mod Schemas
 pub mod inner

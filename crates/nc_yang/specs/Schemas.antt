@@ -27,6 +27,7 @@ use Rattle.nc_yang_leafs.specs.Typings.{IsTyped}
 use Rattle.nc_yang_circles.specs.Circles.{BreaksCircle, HasNoCircle}
 use Rattle.nc_yang_defaults.specs.Defaults.{BreaksDefault, HasDefaults, KeepsDefaults}
 use Rattle.nc_yang.specs.Access.{HaveStatements, in_file}
+use Rattle.nc_yang.specs.Depths.{BreaksDepth, KeepsDepth}
 use Rattle.nc_yang.specs.Features.{is_given}
 
 -- texts whose statements keep all rules that need no data node, the numbers of these statements, and the features that
@@ -55,6 +56,7 @@ pub record IsTypedOf (scoping : Scoping) (on : FeatureTest) (plan : Plan) (typed
   pub keeps : data_faults scoping on plan ≡ []
   pub straight : HasNoCircle (basis scoping on plan)
   pub types : IsTyped (AreNames scoping on) (basis scoping on plan) typed
+  pub shallow : KeepsDepth scoping plan (without_patterns typed)
   pub defaults : KeepsDefaults scoping plan (without_patterns typed)
 
 -- the schema of a plan of data nodes, which keep their rules: leafs and leaf-lists have their types, and then their defaults
@@ -64,14 +66,17 @@ pub record IsSchemaOf (scoping : Scoping) (on : FeatureTest) (plan : Plan) (tabl
   pub defaults : HasDefaults scoping plan typed tables
 
 -- data nodes of a plan break a rule: one on a data node or choice in its place; a leafref leads in a circle; the path of
--- a leafref leads nowhere; a default suits no type, whatever its patterns, or only by these. A rule on what others define
--- is asked where these keep theirs
+-- a leafref leads nowhere; a value is read through too many types; a default suits no type, whatever its patterns, or only
+-- by these. A rule on what others define is asked where these keep theirs
 pub data BreaksPlan (scoping : Scoping) (on : FeatureTest) (plan : Plan) : TextFault → Type 0 where
   in_place : (found : TextFault) → Contains (data_faults scoping on plan) found → BreaksPlan scoping on plan found
   circle : (found : TextFault) → data_faults scoping on plan ≡ [] → BreaksCircle (basis scoping on plan) found
       → BreaksPlan scoping on plan found
   leafref : (found : TextFault) → data_faults scoping on plan ≡ [] → BreaksLeafref (basis scoping on plan) found
       → BreaksPlan scoping on plan found
+  deep : (found : TextFault) (typed : Tables) → data_faults scoping on plan ≡ [] → HasNoCircle (basis scoping on plan)
+      → IsTyped (AreNames scoping on) (basis scoping on plan) typed
+      → BreaksDepth scoping plan (without_patterns typed) found → BreaksPlan scoping on plan found
   default : (found : TextFault) (typed : Tables) → data_faults scoping on plan ≡ [] → HasNoCircle (basis scoping on plan)
       → IsTyped (AreNames scoping on) (basis scoping on plan) typed
       → BreaksDefault scoping plan (without_patterns typed) found → BreaksPlan scoping on plan found

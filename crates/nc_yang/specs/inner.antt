@@ -2,3 +2,4 @@ pub mod Conditions
 pub mod Names
 pub mod Stops
 pub mod Finishing
+pub mod Marked

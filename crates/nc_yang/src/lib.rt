@@ -19,6 +19,7 @@
 #![tactic(auto)]
 
 mod access;
+mod depth;
 mod features;
 mod laws;
 mod names;

@@ -18,6 +18,7 @@ ghost use Rattle.nc_yang_statements.specs.Stops.{OnBroken};
 ghost use Rattle.nc_yang.specs.Schemas as schemas;
 ghost use Rattle.nc_yang.specs.inner.Finishing.{Ends, Finishes, GivesNoSchema};
 
+use crate::depth::keep_depth;
 use crate::names::{Derived, Names};
 use nc_names::{Bound, Many, Text};
 use nc_patterns::Maker;
@@ -86,7 +87,7 @@ fn with_types<'a>(
 }
 
 // The schema with the patterns of its types and the defaults of leafs and leaf-lists. These are looked at without
-// the patterns before they are with them.
+// the patterns before they are with them, and where no value is read through too many types.
 fn finished<M: Maker>(
     alloc: Global,
     scopes: &Scopes,
@@ -101,6 +102,7 @@ fn finished<M: Maker>(
     ensures { MatchResult result (Finishes scopes.now plan.now typed) (OnBroken (Ends scopes.now plan.now typed
         (refusing (M.refusals maker.old) (M.refusals maker.new) (M.last_refused maker.new)))) }
 {
+    keep_depth(alloc, scopes, plan, &typed.schema)?;
     let defaults = defaults_of(alloc, scopes)?;
     let defaults = defaults.as_slice();
     keep_defaults(alloc, scopes, plan, defaults, prefixes, &typed.schema)?;

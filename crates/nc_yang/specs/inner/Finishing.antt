@@ -7,23 +7,27 @@ use Rattle.nc_yang_nodes.specs.declared.planned.Plan.{Plan}
 use Rattle.nc_yang_leafs.specs.declared.bare.Typed.{Typed}
 use Rattle.nc_yang_leafs.specs.Patterns.{HasPatterns, Refusals, RefusesType}
 use Rattle.nc_yang_nodes.specs.Roles.{FeatureTest}
+use Rattle.nc_yang.specs.Depths.{BreaksDepth, KeepsDepth}
 use Rattle.nc_yang.specs.Schemas.{BreaksPlan, BreaksSchema, RefusesPlan, RefusesSchema}
 use Rattle.nc_yang_defaults.specs.Defaults.{BreaksDefault, HasDefaults, KeepsDefaults}
 
 -- it has them
 pub record Finishes (scoping : Scoping) (plan : Plan) (typed : Typed) (tables : Tables) : Type 0 where
+  pub shallow : KeepsDepth scoping plan typed.schema
   pub keeps : KeepsDefaults scoping plan typed.schema
   pub patterned : Tables
   pub has : HasPatterns scoping.located typed patterned
   pub defaults : HasDefaults scoping plan patterned tables
 
--- or it has not: a default breaks a rule; a pattern is refused; or a default breaks a rule with the patterns
+-- or it has not: a value is read through too many types; a default breaks a rule; a pattern is refused; or a default
+-- breaks a rule with the patterns
 pub data Ends (scoping : Scoping) (plan : Plan) (typed : Typed) (refusals : Refusals) : TextFault → Type 0 where
+  too_deep : (fault : TextFault) → BreaksDepth scoping plan typed.schema fault → Ends scoping plan typed refusals fault
   broken : (fault : TextFault) → BreaksDefault scoping plan typed.schema fault → Ends scoping plan typed refusals fault
-  refused : (fault : TextFault) → KeepsDefaults scoping plan typed.schema → RefusesType scoping.located typed refusals fault
-      → Ends scoping plan typed refusals fault
-  unsuited : (fault : TextFault) (patterned : Tables) → KeepsDefaults scoping plan typed.schema
-      → HasPatterns scoping.located typed patterned → BreaksDefault scoping plan patterned fault
+  refused : (fault : TextFault) → KeepsDepth scoping plan typed.schema → KeepsDefaults scoping plan typed.schema
+      → RefusesType scoping.located typed refusals fault → Ends scoping plan typed refusals fault
+  unsuited : (fault : TextFault) (patterned : Tables) → KeepsDepth scoping plan typed.schema
+      → KeepsDefaults scoping plan typed.schema → HasPatterns scoping.located typed patterned → BreaksDefault scoping plan patterned fault
       → Ends scoping plan typed refusals fault
 
 -- data nodes of a plan give no schema: they break a rule, or a maker refused a pattern

@@ -8,5 +8,7 @@
 
 mod file_disk;
 mod opening;
+#[cfg(test)]
+mod tests;
 
 pub use file_disk::FileDisk;

@@ -1,0 +1,5 @@
+pub mod Members
+pub mod Spelling
+pub mod Files
+pub mod Settling
+pub mod Opened

@@ -1,0 +1,52 @@
+-- What begins with one of these begins with one of more; a store that goes on twice goes on.
+use Rattle.std.specs.Prelude.{ℕ, ◌≤◌, List, length, max, Option, Some, None, IfSome, Contains}
+use Rattle.std.proofs.Common.{◌∙◌, refl, subst, arith}
+use Rattle.nc_names.specs.Limits.{body_limit}
+use Rattle.nc_names.specs.declared.path.Row.{Row}
+use Rattle.nc_outside.proofs.DiskFiles.{told_before}
+use Rattle.nc_store.specs.Keeping.{Continues, StoreLeaves, Storing, area_limit}
+use Rattle.nc_store.specs.Reopening.{Reopens, Setup, StandsAmong, as_held, as_new}
+
+-- each of these is one of those
+abbrev pub AreAmong : List (List Row) → List (List Row) → Type 0
+AreAmong these those = (rows : List Row) → Contains these rows → Contains those rows
+
+among_more : (setup : Setup) (these those : List (List Row)) (bodies : List (List ℕ)) → AreAmong these those
+    → StandsAmong setup these bodies → StandsAmong setup those bodies
+among_more setup these those bodies more it =
+    record { rows = it.rows; base = it.base; is_among = more it.rows it.is_among }
+
+some_more : (setup : Setup) (these those : List (List Row)) → AreAmong these those
+    → (d : Option (List (List ℕ))) → IfSome d (StandsAmong setup these) → IfSome d (StandsAmong setup those)
+some_more setup these those more None it = tt
+some_more setup these those more (Some d) it = among_more setup these those d more it
+
+pub reopens_fewer : (setup : Setup) (these those : List (List Row)) (c : List ℕ) → AreAmong these those
+    → Reopens setup these c → Reopens setup those c
+reopens_fewer setup these those c more (as_new new has) = as_new new (more setup.initial has)
+reopens_fewer setup these those c more (as_held bodies doubt holds stands in_doubt) =
+    as_held bodies doubt holds (among_more setup these those bodies more stands)
+    (some_more setup these those more doubt in_doubt)
+
+pub leaves_fewer : {D : Type 0} (seen : D → Option (List ℕ)) (left_since : D → ℕ → List ℕ → Type 0) (s : Storing D)
+    (t : ℕ) (these those : List (List Row)) → AreAmong these those
+    → StoreLeaves seen left_since s t these → StoreLeaves seen left_since s t those
+leaves_fewer seen left_since s t these those more leaves =
+    λ file told c left. reopens_fewer s.setup these those c more (leaves file told c left)
+
+pub unmoved : {D : Type 0} (seen : D → Option (List ℕ)) (s : Storing D) → Continues seen s s
+unmoved seen s = record { setup_is = refl; tells = refl; bounded = λ file told. omega arith }
+
+pub further : {D : Type 0} (seen : D → Option (List ℕ)) (one two three : Storing D)
+    → Continues seen one two → Continues seen two three → Continues seen one three
+further seen one two three a b = record {
+  setup_is = b.setup_is ∙ a.setup_is;
+  tells = b.tells ∙ a.tells;
+  bounded = λ file told.
+      let was = told_before (seen two.disk) (seen three.disk) b.tells file told in
+      let first = a.bounded was.0 was.1 in
+      let second =
+      subst (λ (s : Setup). three.live ≤ max two.live (area_limit (length s.header) body_limit)) a.setup_is
+      (b.bounded file told) in
+      omega (arith, first, second);
+}

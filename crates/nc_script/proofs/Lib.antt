@@ -1,0 +1,12 @@
+mod Made
+mod SameSchema
+mod Lefts
+mod Tallying
+mod Hearings
+mod Listenings
+mod Talkings
+mod Boardings
+mod Steppings
+mod Runnings
+mod Loads
+mod Kills

@@ -1,0 +1,5 @@
+use Rattle.nc_script.proofs.Kills as lemmas
+use Rattle.nc_script.proofs.laws.killed_by_another.Goals as goal
+
+pub returns : goal.returns
+returns c = lemmas.killed_by_another

@@ -1,0 +1,4 @@
+pub mod Gaining
+pub mod SameDesks
+pub mod Sent
+pub mod Sharing

@@ -1,0 +1,14 @@
+use Rattle.std.proofs.Common.{refl}
+use Rattle.nc_shared.proofs.Gaining.{seat_more}
+use Rattle.nc_shared.proofs.held.Held.tick.Goals as goal
+
+pub returns : goal.returns
+returns g c = (
+  c.tick.ensures.entered.event_is,
+  record {
+    home = refl;
+    stands = λ history stood.
+        seat_more c.args.self.now.machine c.tick.new.self _ _ _ _ _ _ history _ _ c.tick.result c.now-at.ensures.count
+        c.now-at.ensures.told c.requires c.tick.ensures.entered stood;
+  },
+)

@@ -1,0 +1,127 @@
+//! The machine as many threads share it.
+ghost use Rattle.std.specs.Prelude.{◌≡◌, ◌<◌, ◌^◌, [], min, length, ◌+◌, ◌-◌, false, IfOk, IfErr};
+ghost use Rattle.nc_turn.specs.Passes.{view, HasJoined};
+ghost use Rattle.nc_turn.specs.Views.{all_parts, less_one, newcomer};
+ghost use Rattle.nc_shared.specs.Holding.{SeatStands};
+ghost use Rattle.nc_shared.specs.Chairs.{chair_of, home_of, IsLeft, IsPassOf};
+
+use crate::{Held, Seated};
+use nc_machine::Machine;
+use nc_outside::Clock;
+use nc_tree::Keeper;
+use nc_turn::{Pass, Turn};
+use std::alloc::Global;
+use std::snapshot::Snapshot;
+use std::sync::Wait;
+
+/// A machine and its clock, which seats use in turn.
+pub struct Shared<K: Keeper, C: Clock> {
+    pub(crate) turn: Turn<Held<K, C>>,
+}
+
+impl<K: Keeper, C: Clock> Shared<K, C> {
+    /// Shares a machine that has made no entry, and gives the first pass, which has all parts. The history
+    /// begins at the machine's state and at the clock's answers as they are handed in.
+    ///
+    /// # Errors
+    ///
+    /// The machine and the clock, for want of memory.
+    pub fn new(
+        alloc: Global,
+        machine: Machine<K>,
+        clock: C,
+    ) -> Result<(Shared<K, C>, Pass<Held<K, C>>), (Machine<K>, C)>
+        requires { machine.count ≡ 0 }
+        ensures made { IfOk result (λ made. IsPassOf C.given made.0 made.1) }
+        ensures home { IfOk result (λ made. home_of C.given made.0 ≡ record {
+          opening = machine.state;
+          answers = C.count clock;
+          heard = C.given clock;
+          alone = false;
+          place = [];
+          begun = 0;
+          start = 0;
+          among = [];
+        }) }
+        ensures first { IfOk result (λ made. ((view made.1).parts ≡ all_parts) × ((view made.1).seen ≡ [])
+            × ((view made.1).mine ≡ [])) }
+        ensures refused { IfErr result (λ back. back ≡ (machine, clock)) }
+    {
+        let from = clock.answers();
+        let began = Snapshot::of(&machine);
+        let heard = Snapshot::of(&clock);
+        let held = Held {
+            machine,
+            clock,
+            from,
+            began,
+            heard,
+        };
+        match Turn::new(alloc, held) {
+            Ok((turn, pass)) => Ok((Shared { turn }, pass)),
+            Err(held) => Err(held.apart()),
+        }
+    }
+
+    /// A pass beside one that has two parts at least. It has one of them, has seen as much, and has no entry
+    /// of its own.
+    pub fn split(&self, pass: &mut Pass<Held<K, C>>) -> Pass<Held<K, C>>
+        requires { IsPassOf C.given self.now pass.old × (1 < (view pass.old).parts) }
+        ensures kept { IsPassOf C.given self.now pass.new
+            × (pass.new.me ≡ (less_one (view pass.old), pass.old.me.1)) }
+        ensures given { IsPassOf C.given self.now result × (view result ≡ newcomer (view pass.old)) }
+    {
+        self.turn.split(pass)
+    }
+
+    /// A desk for a pass. Its calls wait by `rt`.
+    pub fn desk<'a, R: Wait>(&'a self, rt: &'a R, pass: Pass<Held<K, C>>) -> Seated<'a, R, K, C>
+        requires { IsPassOf C.given self.now pass }
+        ensures { result ≡ chair_of C.given self.now pass }
+    {
+        Seated {
+            rt,
+            shared: self,
+            pass,
+        }
+    }
+
+    /// The first pass takes over the parts of another one, and what it saw: both saw beginnings of one
+    /// history, and no entry is of both.
+    pub fn compare(&self, mine: &mut Pass<Held<K, C>>, other: Pass<Held<K, C>>)
+        requires { IsPassOf C.given self.now mine.old × IsPassOf C.given self.now other }
+        ensures of { IsPassOf C.given self.now mine.new }
+        ensures joined { HasJoined mine.old other mine.new }
+    {
+        self.turn.join(mine, other);
+    }
+
+    /// The machine, which stands for all of the history, and the clock. Every other pass was compared.
+    pub fn close(self, pass: Pass<Held<K, C>>) -> (Machine<K>, C)
+        requires { IsPassOf C.given self pass × ((view pass).parts ≡ all_parts) }
+        ensures { SeatStands (record {
+          machine = result.0;
+          answers = C.count result.1;
+          given = C.given result.1;
+          from = (home_of C.given self).answers;
+        }) (home_of C.given self) (view pass).seen }
+    {
+        let Shared { turn } = self;
+        let held = turn.close(pass);
+        held.apart()
+    }
+}
+
+impl<'a, R: Wait, K: Keeper, C: Clock> Seated<'a, R, K, C> {
+    /// Leaves the desk with its pass.
+    pub fn leave(self) -> Pass<Held<K, C>>
+        ensures { IsLeft C.given self.entry result }
+    {
+        let Seated {
+            rt: _,
+            shared: _,
+            pass,
+        } = self;
+        pass
+    }
+}

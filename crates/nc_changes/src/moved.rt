@@ -25,7 +25,8 @@ fn known_entries<'a>(
     Ok(known)
 }
 
-fn is_known<'a>(known: &BTreeSet<&'a Many<Text>>, entry: &'a Many<Text>) -> bool
+/// Whether an entry is among those that are looked up.
+pub(crate) fn is_known<'a>(known: &BTreeSet<&'a Many<Text>>, entry: &'a Many<Text>) -> bool
     ensures { (others : List (List (List ℕ))) → inner.HasEntries known.now others → result
         ≡ standing.has_entry entry.now others }
 {
@@ -70,7 +71,8 @@ fn entry_above<'a>(keys: &Many<Text>, order: &'a [Many<Text>]) -> Option<&'a Man
     entry_from(keys, order)
 }
 
-fn is_same_entry(entry: Option<&Many<Text>>, other: Option<&Many<Text>>) -> bool
+/// Whether two entries are one, or there is none in either place.
+pub(crate) fn is_same_entry(entry: Option<&Many<Text>>, other: Option<&Many<Text>>) -> bool
     ensures { result ≡ changes.is_same_entry (option_copied entry.entry) (option_copied other.entry) }
 {
     match (entry, other) {

@@ -6,9 +6,10 @@ ghost use Rattle.nc_protocol.specs.Changes as changes;
 ghost use Rattle.nc_changes.specs.inner.Entries as inner;
 ghost use Rattle.nc_changes.specs.inner.Ranks as ranks;
 ghost use Rattle.nc_changes.specs.inner.Ranks.{keys_of};
-ghost use Rattle.nc_schema.specs.Standing.{entries, has_entry};
+ghost use Rattle.nc_schema.specs.Standing.{entries};
 
-use nc_names::{Many, Memory, Step, Text, same_keys};
+use crate::moved::{is_known, is_same_entry};
+use nc_names::{Many, Memory, Step, Text};
 use nc_tree::Config;
 use std::alloc::Global;
 use std::collections::{BTreeMap, BTreeSet};
@@ -78,13 +79,6 @@ fn known<'a>(alloc: Global, order: &[&'a Many<Text>]) -> Result<BTreeSet<&'a Man
     Ok(known)
 }
 
-fn is_known<'a>(known: &BTreeSet<&'a Many<Text>>, entry: &'a Many<Text>) -> bool
-    ensures { (others : List (List (List ℕ))) → inner.HasEntries known.now others → result
-        ≡ has_entry entry.now others }
-{
-    known.contains(&entry)
-}
-
 // Those of the entries that are among others too.
 fn among<'a>(
     alloc: Global,
@@ -109,16 +103,6 @@ fn among<'a>(
 pub(crate) struct Moves<'a> {
     before: Above<'a>,
     after: Above<'a>,
-}
-
-fn is_same_entry(entry: Option<&Many<Text>>, other: Option<&Many<Text>>) -> bool
-    ensures { result ≡ changes.is_same_entry (option_copied entry.entry) (option_copied other.entry) }
-{
-    match (entry, other) {
-        (None, None) => true,
-        (Some(keys), Some(others)) => same_keys(keys, others),
-        _ => false,
-    }
 }
 
 impl<'a> Moves<'a> {

@@ -67,8 +67,10 @@ def containers(count):
 
 
 def leafrefs(count):
-    leafs = "".join(f"leaf a{at} {{ type leafref {{ path ../a{at + 1}; }} }}\n" for at in range(count))
-    return {"m": module("m", f"container top {{\n{leafs}leaf a{count} {{ type string; }}\n}}\n")}
+    """Each to the leaf before, but every 60th: a value is read through 64 types at most."""
+    leafs = "".join(f"leaf a{at} {{ type leafref {{ path ../a{at - 1}; }} }}\n" if at % 60 else f"leaf a{at} {{ type string; }}\n"
+                    for at in range(count + 1))
+    return {"m": module("m", f"container top {{\n{leafs}}}\n")}
 
 
 def long_text(size):

@@ -124,7 +124,7 @@ class Ran:
     errors they have, and the line of a refused run."""
 
     def __init__(self, program, folder, requests=(), framing=0):
-        run = subprocess.Popen([program, "stdio", folder, "alice"], stdin=subprocess.PIPE, stdout=subprocess.PIPE,
+        run = subprocess.Popen([program, "stdio", "--recovery", folder, "alice"], stdin=subprocess.PIPE, stdout=subprocess.PIPE,
                                stderr=subprocess.PIPE)
         writer = threading.Thread(target=send, args=(run.stdin, session(framing, requests)))
         writer.start()

@@ -184,12 +184,16 @@ def check_others(m):
     says("ten thousand ports", edit(m, whole), "ok")
     says("all of them", len(names(m)), 10000)
     says("commit", refusal(m.commit), "ok")
-    for what in ("<lock><target><candidate/></target></lock>", "<unlock><target><candidate/></target></unlock>",
-                 "<kill-session><session-id>2</session-id></kill-session>",
-                 "<delete-config><target><running/></target></delete-config>",
-                 "<edit-config><target><running/></target><config/></edit-config>", "<cancel-commit/>"):
+    for what, wanted in [
+        ("<lock><target><candidate/></target></lock>", "ok"),
+        ("<unlock><target><candidate/></target></unlock>", "ok"),
+        ("<kill-session><session-id>2</session-id></kill-session>", "invalid-value"),
+        ("<cancel-commit/>", "operation-failed"),
+        ("<delete-config><target><running/></target></delete-config>", "operation-not-supported"),
+        ("<edit-config><target><running/></target><config/></edit-config>", "operation-not-supported"),
+    ]:
         call = to_ele(what.replace(">", f' xmlns="{BASE}">', 1) if "/>" != what[-2:] else what[:-2] + f' xmlns="{BASE}"/>')
-        says(what, refusal(lambda: m.dispatch(call)), "operation-not-supported")
+        says(what, refusal(lambda: m.dispatch(call)), wanted)
 
 
 def main():

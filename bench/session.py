@@ -21,12 +21,12 @@ def mtu(number):
 
 def works(count):
     """What is timed: its name, the requests, and how many of them are one piece of work."""
-    times = max(4, 2000 // count)
-    edits = [edit(one(count, mtu(1000 + at))) for at in range(times)]
+    times, many = max(4, 2000 // count), 200
+    edits = [edit(one(count, mtu(1000 + at))) for at in range(many)]
     whole = interfaces(count, f' xmlns:nc="{BASE}" nc:operation="replace"')
     return [
         ("get-config of all", [get_config()] * times, 1),
-        ("one interface by a filter", [get_config(one(count))] * times, 1),
+        ("one interface by a filter", [get_config(one(count))] * many, 1),
         ("edit-config of one leaf", edits, 1),
         ("that with a commit", [it for one_edit in edits for it in (one_edit, "<commit/>")], 2),
         ("a replace of all of them", [edit(whole)] * 4, 1),

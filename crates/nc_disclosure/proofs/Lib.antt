@@ -1,0 +1,9 @@
+pub mod AgreeLemmas
+pub mod MuteLemmas
+pub mod AlikeChecks
+pub mod AlikeVerdicts
+pub mod AlikeReplies
+pub mod ShownLemmas
+pub mod ToldLemmas
+pub mod EntryLemmas
+pub mod DisclosureExample

@@ -18,6 +18,7 @@ use Rattle.nc_model.specs.declared.event.Outcome.TheVariants.{NotLive}
 use Rattle.nc_model.specs.declared.session.Session.{Session}
 use Rattle.nc_disclosure.specs.Laws.{AreAlikeEntries, EntriesDiscloseLeast, IsAnswerTold, is_unseen_in, reply_in}
 use Rattle.nc_disclosure.proofs.AlikeReplies.{reads_disclose, requests_disclose}
+use Rattle.nc_disclosure.proofs.NameLemmas.{refusals_name_no_data}
 use Rattle.nc_disclosure.proofs.ToldLemmas.{reply_again, verdicts_tell_seen}
 
 -- what comes of a request where its session is live, or is not
@@ -35,8 +36,11 @@ proper_is s e n request fits is = subst (λ (event : Event). IsProperEvent event
 -- ---- what is told
 given_is_told : (s : State) (n : ℕ) (request : Request) (failed live : Bool) → IsProper request → IsAnswerTold s n request (given s n request failed live)
 unfolding given
-given_is_told s n request failed true proper =
-    (reply_again s.schema (sees_of s n) request (verdict s n request failed), verdicts_tell_seen s n request failed proper)
+given_is_told s n request failed true proper = (
+  reply_again s.schema (sees_of s n) request (verdict s n request failed),
+  verdicts_tell_seen s n request failed proper,
+  refusals_name_no_data s n request failed,
+)
 given_is_told s n request failed false proper = tt
 
 entry_is_told : (s : State) (e : Entry) (n : ℕ) (request : Request) → Fits s e → e.event ≡ Requested n request →

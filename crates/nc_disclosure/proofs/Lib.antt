@@ -5,5 +5,6 @@ pub mod AlikeVerdicts
 pub mod AlikeReplies
 pub mod ShownLemmas
 pub mod ToldLemmas
+pub mod NameLemmas
 pub mod EntryLemmas
 pub mod DisclosureExample

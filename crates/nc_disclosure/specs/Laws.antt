@@ -6,6 +6,7 @@ use Rattle.nc_message.specs.declared.tree.Tree.{Tree}
 use Rattle.nc_schema.specs.Tables.{Tables}
 use Rattle.nc_protocol.specs.Proper.{IsProper}
 use Rattle.nc_protocol.specs.Reply.{named_by, reply_of}
+use Rattle.nc_protocol.specs.RequestLaws.{CausesAre}
 use Rattle.nc_protocol.specs.declared.asked.Asked.{Asked}
 use Rattle.nc_protocol.specs.declared.request.Request.{Request}
 use Rattle.nc_protocol.specs.declared.verdict.Verdict.{Verdict}
@@ -19,6 +20,7 @@ use Rattle.nc_model.specs.declared.entry.Entry.{Entry}
 use Rattle.nc_model.specs.declared.event.Event.TheVariants.{Request as Requested}
 use Rattle.nc_model.specs.declared.event.Outcome.{Outcome}
 use Rattle.nc_model.specs.declared.event.Outcome.TheVariants.{Answered}
+use Rattle.nc_disclosure.specs.Names.{NamesNoData}
 use Rattle.nc_disclosure.specs.Shown.{AreSeenIn, Look, look_of, shown_to}
 use Rattle.nc_disclosure.specs.Told.{IsTold, verdict_told}
 
@@ -59,12 +61,21 @@ VerdictsTellSeen =
     let named = named_by s.schema request.asked in
     IsTold sees named (verdict_told sees named (verdict s session request failed))
 
--- what comes of a request tells nothing of what its session does not see: its reply is one to a verdict that is told
+-- what else a refusal names comes of the request and the schema, or is a word, the id of a session or of a lock, or the
+-- name of a data node: no value of the data (RFC 6241 4.3)
+abbrev pub RefusalsNameNoData : Type 0
+RefusalsNameNoData =
+    (s : State) (session : ℕ) (request : Request) (failed : Bool) →
+    CausesAre (NamesNoData s request.asked) (verdict s session request failed)
+
+-- what comes of a request tells nothing of what its session does not see: its reply is one to a verdict that is told,
+-- and what a refusal names besides is nothing of the data
 abbrev pub IsAnswerTold : State → ℕ → Request → Outcome → Type 0
 IsAnswerTold s session request (Answered decided reply) =
     let sees = sees_of s session in
     let told = verdict_told sees (named_by s.schema request.asked) decided in
     (reply ≡ reply_of s.schema sees request told) × IsTold sees (named_by s.schema request.asked) told
+    × CausesAre (NamesNoData s request.asked) decided
 IsAnswerTold s session request outcome = Unit {0}
 
 -- the reply, if there is one

@@ -9,6 +9,6 @@
 mod laws;
 
 pub use laws::{
-    alike_states_disclose_least, entries_disclose_least, reads_show_seen, replies_leave_out,
-    verdicts_tell_seen,
+    alike_states_disclose_least, entries_disclose_least, reads_show_seen, refusals_name_no_data,
+    replies_leave_out, verdicts_tell_seen,
 };

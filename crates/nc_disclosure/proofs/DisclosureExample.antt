@@ -1,6 +1,6 @@
--- Two states by hand that differ in a leaf that bob may not read: he learns of it by no read, by a filter neither, and by an
--- edit alone that it finds there.
-use Rattle.std.proofs.Common.{◌≡◌, ◌∙◌, ℕ, true, false, List, [], ◌∷◌, ◌++◌, refl, sym, ap}
+-- Two states by hand that differ in a leaf that bob may not read: he learns of it by no read, whatever its filter is, and
+-- by an edit that finds it there.
+use Rattle.std.proofs.Common.{◌≡◌, ◌∙◌, ℕ, Bool, true, false, List, [], ◌∷◌, ◌++◌, refl, sym, ap}
 use Rattle.std.specs.Prelude.{codes, Option, Some, None, Ok, Err}
 use Rattle.nc_message.specs.declared.tree.Elem.{Elem}
 use Rattle.nc_message.specs.declared.tree.Part.TheVariants.{Child, Chars}
@@ -24,15 +24,17 @@ use Rattle.nc_schema.specs.declared.pattern.Pattern.{Pattern}
 use Rattle.nc_protocol.proofs.Example.{element}
 use Rattle.nc_protocol.specs.Edited.{cause_at, edited}
 use Rattle.nc_protocol.specs.Filter.{selected}
+use Rattle.nc_protocol.specs.Proper.{IsProper}
 use Rattle.nc_protocol.specs.Words.{read_word, create_word, delete_word, exec_word}
 use Rattle.nc_protocol.specs.declared.access.Decision.{Decision}
 use Rattle.nc_protocol.specs.declared.asked.Asked.TheVariants.{Get}
 use Rattle.nc_protocol.specs.declared.edit.Action.TheVariants.{Create}
 use Rattle.nc_protocol.specs.declared.edit.Edit.{Edit}
 use Rattle.nc_protocol.specs.declared.peer.Peer.{Peer}
+use Rattle.nc_protocol.specs.declared.request.Request.{Request}
 use Rattle.nc_protocol.specs.declared.verdict.Verdict.TheVariants.{Selected}
 use Rattle.nc_model.specs.Access.{access_policy, called, visible}
-use Rattle.nc_model.specs.Alike.{AreAlike, decision_told}
+use Rattle.nc_model.specs.Alike.{AreAlike, decision_told, is_reading, reply_to}
 use Rattle.nc_model.specs.Decision.{data_decision, exec_decision}
 use Rattle.nc_model.specs.Sight.{may_see, visible_rows}
 use Rattle.nc_model.specs.State.{State, no_holders}
@@ -40,6 +42,7 @@ use Rattle.nc_model.specs.Verdict.{asked_verdict}
 use Rattle.nc_model.specs.Words.{star, true_word, false_word, permit_word, update_word}
 use Rattle.nc_model.specs.declared.policy.Policy.{Policy}
 use Rattle.nc_model.specs.declared.policy.RuleKind.TheVariants.{OfData}
+use Rattle.nc_disclosure.proofs.AlikeReplies.{reads_disclose}
 
 -- ---- the schema: what is needed of the built-in module, then interfaces of the module `ex`
 unfoldable node : List ℕ → Option ℕ → Kind → List ℕ → List (List ℕ) → Node
@@ -246,6 +249,11 @@ are_alike = record {
   rights = λ path right.
       ap (λ (by : Policy). decision_told (λ path. may_see tables by bob path.steps) right (data_decision tables by bob path.steps right)) policies_same;
 }
+
+-- so every get and get-config of bob has one reply in both
+reads_tell_the_same : (request : Request) (failed failing : Bool) → IsProper request → is_reading request.operation ≡ true →
+    reply_to with_mtu 1 request failed ≡ reply_to without 1 request failing
+reads_tell_the_same request failed failing proper reading = reads_disclose with_mtu without 1 are_alike request failed failing proper reading
 
 -- ---- a get, and one through a filter that asks for the mtu that stands there
 get_shows : asked_verdict with_mtu 1 (Get None) false ≡ Selected eth0_rows

@@ -1,8 +1,8 @@
 -- Calls of a disk that tells nothing.
-use Rattle.std.proofs.Common.{◌≡◌, ◌≤◌, ℕ, List, Result, Err, inl, refl, sym, subst, arith}
+use Rattle.std.proofs.Common.{◌≡◌, ◌≤◌, ℕ, Result, Err, inl, refl, subst, arith}
 use Rattle.nc_names.specs.Counts.{Rose}
 use Rattle.nc_outside.specs.Causes.{HasCause}
-use Rattle.nc_outside.specs.Disks.{After, CutTo, Follows, Torn}
+use Rattle.nc_outside.specs.Disks.{CutTo, Follows, Torn}
 use Rattle.nc_outside.specs.declared.fault.Failed.{Failed}
 
 -- a call that failed, and was counted

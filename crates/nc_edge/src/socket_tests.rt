@@ -1,4 +1,4 @@
-//! The listener against the operating system, at sockets in the working folder.
+//! The listener against the operating system, at sockets in the working folder, which each test removes.
 use crate::{Address, Connection, SocketListener, Stream};
 use nc_outside::{Hangup, Listener, Sink, Source};
 use std::fs;
@@ -37,6 +37,7 @@ fn connected<R: Threads + Abort + Sync>(
     path: &str,
 ) -> (Connection, Stream) {
     let (ours, theirs) = join(rt, || accept(listener), || dial(host, path));
+    let _ = fs::remove_file(host, path);
     (
         ours.expect(rt, "one comes"),
         theirs.expect(rt, "one is there"),
@@ -86,6 +87,7 @@ fn what_cannot_be_bound_fails(rt: HostRuntime) {
         assert!(rt; listener.accept().is_err());
         assert!(rt; listener.accept().is_err());
     }
-    assert!(rt; fs::metadata(&rt, "nc_edge_plain").is_ok());
+    assert!(rt; fs::remove_file(&rt, "nc_edge_plain").is_ok());
+    assert!(rt; fs::remove_file(&rt, "nc_edge_served").is_ok());
     drop(served);
 }

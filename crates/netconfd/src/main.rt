@@ -1,26 +1,17 @@
-//! The server `netconfd`: a NETCONF server (RFC 6241, 6242) on standard input and standard output.
+//! The server `netconfd`: a NETCONF server (RFC 6241, 6242) for one session on standard input and standard
+//! output, whose running configuration is kept in the folder of its device.
 //!
-//! `netconfd stdio [--recovery] DIR USER [GROUP]...` serves one session. All that it does is the call of
-//! `run`, over the world that `main` hands in.
+//! All that it does is the call of `run` of `nc_program`, over the world that `main` hands in.
 #![tactic(auto)]
 
 mod adapters;
-mod end;
-mod keeper;
-mod line_words;
-mod note;
-mod run;
-mod server;
-mod session;
-mod words;
 
 use adapters::SetupFiles;
-use end::RunEnd;
+use nc_edge::FileDisk;
 use nc_names::Memory;
 use nc_outside::{MonotonicClock, ReaderSource, WriterSink};
 use nc_patterns::RegexMaker;
-use note::note_end;
-use run::{World, run};
+use nc_program::{World, run, without_words};
 use std::env;
 use std::io::ErrorKind;
 use std::process::ExitCode;
@@ -35,20 +26,32 @@ fn command_words(rt: HostRuntime) -> Result<Vec<String>, Memory> {
     }
 }
 
-/// Ends a run that found no memory for its words.
-fn without_words(rt: HostRuntime) -> ExitCode {
+/// The folder of the device: the first word after the command that does not begin with a hyphen.
+fn folder_of(words: &[String]) -> Option<&str> {
+    for word in words.iter().skip(1) {
+        if !word.as_str().starts_with('-') {
+            return Some(word.as_str());
+        }
+    }
+    None
+}
+
+/// Ends a run that found no memory for its words or its disk.
+fn without_memory(rt: HostRuntime) -> ExitCode {
     let mut notes = WriterSink::new(rt.stderr());
-    let end = RunEnd::Memory;
-    note_end(&mut notes, &end);
-    ExitCode::from(end.status())
+    ExitCode::from(without_words(&mut notes))
 }
 
 fn main(rt: HostRuntime) -> ExitCode {
     let Ok(words) = command_words(rt) else {
-        return without_words(rt);
+        return without_memory(rt);
+    };
+    let Ok(disk) = FileDisk::new(rt.alloc(), rt, folder_of(words.as_slice())) else {
+        return without_memory(rt);
     };
     let world = World {
         files: SetupFiles::new(rt),
+        disk,
         source: ReaderSource::new(rt.stdin()),
         sink: WriterSink::new(rt.stdout()),
         notes: WriterSink::new(rt.stderr()),

@@ -1,0 +1,6 @@
+use Rattle.std.proofs.Common.{refl}
+use Rattle.nc_program.specs.Run.{IsLoaded}
+use Rattle.nc_program.proofs.done.load_words.Goals as goal
+
+pub returns : goal.returns
+returns g c = λ words files left ends failed asks. IsLoaded c.args.edits c.load-end.result asks c.load-end.ensures refl

@@ -1,0 +1,59 @@
+-- What a server makes of its events, and a session that it serves alone.
+use Rattle.std.specs.Prelude.{◌≡◌, ◌≢◌, ◌≤◌, ◌+◌, ◌-◌, ◌^◌, ℕ, min, true, List, [], ◌++◌, length, IfSome}
+use Rattle.nc_names.specs.Limits.{most_requests}
+use Rattle.nc_machine.specs.Seats.{TellsReadings}
+use Rattle.nc_model.specs.Desks.{Home, own_of}
+use Rattle.nc_model.specs.History.{IsLegal, after}
+use Rattle.nc_model.specs.State.{IsGood, State}
+use Rattle.nc_model.specs.declared.entry.Entry.{Entry}
+use Rattle.nc_protocol.specs.declared.peer.Peer.{Peer}
+use Rattle.nc_outside.specs.Streams.{Streams}
+use Rattle.nc_session.specs.Serves.{Serves, called}
+use Rattle.nc_session.specs.declared.end.SessionEnd.{SessionEnd}
+use Rattle.nc_session.specs.declared.end.SessionEnd.TheVariants.{Full, Killed}
+use Rattle.nc_program.specs.Outside.{Times}
+
+-- what a session has of the outside: its source and its sink, and the clock
+pub record Sitting : Type 0 where
+  pub streams : Streams
+  pub times : Times
+
+abbrev pub sitting : Streams → Times → Sitting
+sitting streams times = record { streams = streams; times = times }
+
+-- A server has made this history: it is legal from the server's first state, and at each moment of it the state is good,
+-- so that running is a valid configuration; it counts so many disk faults at the end; and its readings are the answers of
+-- the clock since then, one for each entry and in order.
+pub record HasMade (first : State) (failed : ℕ) (before now : Times) (seen : List Entry) : Type 0 where
+  pub legal : IsLegal 0 first seen
+  pub good : (front rest : List Entry) → seen ≡ front ++ rest → IsGood (after first front)
+  pub faults : (after first seen).faults ≡ failed
+  pub few : length seen ≤ most_requests
+  pub answers : now.answers ≡ min (before.answers + length seen) (2 ^ 64 - 1)
+  pub readings : IfSome now.given (TellsReadings before.given seen)
+
+-- and of its entries these are no readings of the clock
+pub record HasMadeAlone (first : State) (failed : ℕ) (before now : Times) (seen mine : List Entry) : Type 0 where
+  pub made : HasMade first failed before now seen
+  pub own : mine ≡ own_of seen
+
+-- a server without another desk, before its first event
+abbrev pub home_of : State → Times → Home
+home_of first before = record {
+  opening = first;
+  answers = before.answers;
+  heard = before.given;
+  alone = true;
+  place = [];
+  begun = 0;
+  start = 0;
+  among = [];
+}
+
+-- The session of that peer was served whole, at a server of its own: no other session can end it, and there is a place
+-- for it.
+pub record IsServed (first : State) (failed : ℕ) (peer : Peer) (before now : Sitting) (end : SessionEnd) : Type 0 where
+  pub serves : Serves first.schema (called peer (home_of first before.times) [] [] before.streams)
+      (HasMadeAlone first failed before.times now.times) (λ ticket. ticket ≡ most_requests) now.streams end
+  pub lives : end ≢ Killed
+  pub has_place : (live last : ℕ) → end ≢ Full live last

@@ -1,0 +1,6 @@
+pub mod Asking
+pub mod Grounds
+pub mod Opening
+pub mod Preparing
+pub mod Scripting
+pub mod Writings

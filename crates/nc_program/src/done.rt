@@ -1,0 +1,244 @@
+//! What the words ask for, done.
+ghost use Rattle.std.specs.Prelude.{◌≡◌, ℕ, List, Option, map, string_bytes};
+ghost use Rattle.nc_outside.specs.Streams.{streams};
+ghost use Rattle.nc_program.specs.Outside.{Filing, Times, filing, making, outside, stored, times};
+ghost use Rattle.nc_program.specs.Run.{Runs};
+ghost use Rattle.nc_program.specs.Words.{IsCheck, IsLoad, IsScript, IsStdio, arguments};
+ghost use Rattle.nc_program.specs.inner.Asking.{AsksIn};
+
+use crate::check::{found_in, print};
+use crate::end::RunEnd;
+use crate::ground::{Ready, ready_of};
+use crate::load::load;
+use crate::opening::{Ended, Opened};
+use crate::script::{script, text_of};
+use crate::session::{Over, serve};
+use crate::words::{InFolder, Stdio, Work};
+use nc_machine::Machine;
+use nc_outside::{Clock, Disk, Files, Sink, Source};
+use nc_patterns::Maker;
+use nc_store::Store;
+use std::alloc::Global;
+
+/// What a run came to, the disk and the clock.
+#[derive(Drop)]
+pub struct Done<D, C> {
+    pub end: RunEnd,
+    pub disk: D,
+    pub clock: C,
+}
+
+// The disk of a server. It has failed as often as the server counts.
+fn disk_of<D: Disk>(machine: Machine<Store<D>>) -> D
+    ensures { D.faults result ≡ machine.state.faults }
+{
+    machine.finish().finish()
+}
+
+// That a session is over.
+fn over<D: Disk, C>(over: Over<Store<D>, C>) -> Done<D, C>
+    ensures end { result.end ≡ RunEnd.Session over.end }
+    ensures disk { D.faults result.disk ≡ over.machine.state.faults }
+    ensures clock { result.clock ≡ over.clock }
+{
+    let Over {
+        end,
+        machine,
+        clock,
+    } = over;
+    Done {
+        end: RunEnd::Session(end),
+        disk: disk_of(machine),
+        clock,
+    }
+}
+
+// What a run came to, with the clock beside it.
+fn with_clock<D, C>(ended: Ended<D>, clock: C) -> Done<D, C>
+    ensures end { result.end ≡ ended.end }
+    ensures disk { result.disk ≡ ended.disk }
+    ensures clock { result.clock ≡ clock }
+{
+    let Ended { end, disk } = ended;
+    Done { end, disk, clock }
+}
+
+/// Serves one session.
+pub(crate) fn stdio_words<F: Files, D: Disk, S: Source, K: Sink, C: Clock, P: Maker>(
+    alloc: Global,
+    stdio: Stdio<'_>,
+    files: &mut F,
+    disk: D,
+    source: &mut S,
+    sink: &mut K,
+    clock: C,
+    maker: &mut P,
+) -> Done<D, C>
+    ensures { (words : List (List ℕ)) → IsStdio words stdio.entry.folder.now (record {
+      user = stdio.entry.user.now;
+      groups = arguments (map string_bytes stdio.entry.others.now);
+      recovery = stdio.entry.recovery;
+    }) → Runs words
+        (outside (filing (F.files files.old) (F.faults files.old)) (stored (D.seen disk) (D.faults disk))
+        (streams (S.left source.old) (S.ends source.old) (S.faults source.old)
+        (K.taken sink.old) (K.faults sink.old))
+        (times (C.given clock) (C.count clock))
+        (making (P.refusals maker.old) (P.last_refused maker.old)))
+        (outside (filing (F.files files.new) (F.faults files.new))
+        (stored (D.seen result.disk) (D.faults result.disk))
+        (streams (S.left source.new) (S.ends source.new) (S.faults source.new)
+        (K.taken sink.new) (K.faults sink.new))
+        (times (C.given result.clock) (C.count result.clock))
+        (making (P.refusals maker.new) (P.last_refused maker.new)))
+        result.end }
+{
+    let Ok(peer) = stdio.peer(alloc) else {
+        let end = RunEnd::Memory;
+        return Done { end, disk, clock };
+    };
+    match ready_of(alloc, files, stdio.folder, maker, disk) {
+        Ok(ready) => {
+            let Opened {
+                machine,
+                schema,
+                records: _,
+            } = ready.opened;
+            over(serve(alloc, machine, &schema, peer, source, sink, clock))
+        }
+        Err(ended) => with_clock(ended, clock),
+    }
+}
+
+// Does a script.
+fn script_words<F: Files, D: Disk, K: Sink, P: Maker>(
+    alloc: Global,
+    folder: &str,
+    file: &str,
+    files: &mut F,
+    disk: D,
+    sink: &mut K,
+    maker: &mut P,
+) -> Ended<D>
+    ensures { (words : List (List ℕ)) (left : Option (List ℕ)) (ends failed : ℕ) (clock : Times) →
+        IsScript words folder.now file.now → Runs words
+        (outside (filing (F.files files.old) (F.faults files.old)) (stored (D.seen disk) (D.faults disk))
+        (streams left ends failed (K.taken sink.old) (K.faults sink.old)) clock
+        (making (P.refusals maker.old) (P.last_refused maker.old)))
+        (outside (filing (F.files files.new) (F.faults files.new))
+        (stored (D.seen result.disk) (D.faults result.disk))
+        (streams left ends failed (K.taken sink.new) (K.faults sink.new)) clock
+        (making (P.refusals maker.new) (P.last_refused maker.new)))
+        result.end }
+{
+    let ready = match ready_of(alloc, files, folder, maker, disk) {
+        Ok(ready) => ready,
+        Err(ended) => return ended,
+    };
+    let Ready { opened, .. } = ready;
+    let Opened { mut machine, .. } = opened;
+    match text_of(alloc, files, file) {
+        Ok(found) => {
+            let end = RunEnd::Script(script(alloc, &mut machine, found, sink));
+            Ended {
+                end,
+                disk: disk_of(machine),
+            }
+        }
+        Err(end) => Ended {
+            end,
+            disk: disk_of(machine),
+        },
+    }
+}
+
+// Looks at a device and its store.
+fn check_words<F: Files, D: Disk, K: Sink, P: Maker>(
+    alloc: Global,
+    folder: &str,
+    files: &mut F,
+    disk: D,
+    sink: &mut K,
+    maker: &mut P,
+) -> Ended<D>
+    ensures { (words : List (List ℕ)) (left : Option (List ℕ)) (ends failed : ℕ) (clock : Times) →
+        IsCheck words folder.now → Runs words
+        (outside (filing (F.files files.old) (F.faults files.old)) (stored (D.seen disk) (D.faults disk))
+        (streams left ends failed (K.taken sink.old) (K.faults sink.old)) clock
+        (making (P.refusals maker.old) (P.last_refused maker.old)))
+        (outside (filing (F.files files.new) (F.faults files.new))
+        (stored (D.seen result.disk) (D.faults result.disk))
+        (streams left ends failed (K.taken sink.new) (K.faults sink.new)) clock
+        (making (P.refusals maker.new) (P.last_refused maker.new)))
+        result.end }
+{
+    let ready = match ready_of(alloc, files, folder, maker, disk) {
+        Ok(ready) => ready,
+        Err(ended) => return ended,
+    };
+    let end = RunEnd::Checked(print(sink, found_in(&ready)));
+    let Opened { machine, .. } = ready.opened;
+    Ended {
+        end,
+        disk: disk_of(machine),
+    }
+}
+
+/// Does with a folder what is asked for, which reads no clock.
+pub(crate) fn folder_words<F: Files, D: Disk, K: Sink, C: Clock, P: Maker>(
+    alloc: Global,
+    asked: InFolder<'_>,
+    files: &mut F,
+    disk: D,
+    sink: &mut K,
+    clock: C,
+    maker: &mut P,
+) -> Done<D, C>
+    ensures { (words : List (List ℕ)) (left : Option (List ℕ)) (ends failed : ℕ) →
+        AsksIn words asked.entry.folder.now asked.entry.work → Runs words
+        (outside (filing (F.files files.old) (F.faults files.old)) (stored (D.seen disk) (D.faults disk))
+        (streams left ends failed (K.taken sink.old) (K.faults sink.old))
+        (times (C.given clock) (C.count clock))
+        (making (P.refusals maker.old) (P.last_refused maker.old)))
+        (outside (filing (F.files files.new) (F.faults files.new))
+        (stored (D.seen result.disk) (D.faults result.disk))
+        (streams left ends failed (K.taken sink.new) (K.faults sink.new))
+        (times (C.given result.clock) (C.count result.clock))
+        (making (P.refusals maker.new) (P.last_refused maker.new)))
+        result.end }
+{
+    match asked.work {
+        Work::Check => {
+            let ended = check_words(alloc, asked.folder, files, disk, sink, maker);
+            with_clock(ended, clock)
+        }
+        Work::Script(file) => {
+            let ended = script_words(alloc, asked.folder, file, files, disk, sink, maker);
+            with_clock(ended, clock)
+        }
+    }
+}
+
+/// Does a load test, which reads no file and no clock and does not touch the disk.
+pub(crate) fn load_words<D: Disk, K: Sink, C: Clock, P: Maker>(
+    alloc: Global,
+    edits: u32,
+    disk: D,
+    sink: &mut K,
+    clock: C,
+    maker: &mut P,
+) -> Done<D, C>
+    ensures { (words : List (List ℕ)) (files : Filing) (left : Option (List ℕ)) (ends failed : ℕ) →
+        IsLoad words edits → Runs words
+        (outside files (stored (D.seen disk) (D.faults disk))
+        (streams left ends failed (K.taken sink.old) (K.faults sink.old))
+        (times (C.given clock) (C.count clock))
+        (making (P.refusals maker.old) (P.last_refused maker.old)))
+        (outside files (stored (D.seen result.disk) (D.faults result.disk))
+        (streams left ends failed (K.taken sink.new) (K.faults sink.new))
+        (times (C.given result.clock) (C.count result.clock))
+        (making (P.refusals maker.new) (P.last_refused maker.new)))
+        result.end }
+{
+    let end = load(alloc, edits, maker, sink);
+    Done { end, disk, clock }
+}

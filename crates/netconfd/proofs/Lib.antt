@@ -1,6 +1,0 @@
-mod Arguments
-mod Keeping
-mod Noting
-mod Preparing
-mod Running
-mod Serving

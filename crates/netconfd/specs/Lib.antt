@@ -1,5 +1,0 @@
-pub mod Ends
-pub mod Notes
-pub mod Run
-pub mod Words
-pub mod inner

@@ -120,10 +120,12 @@ def read_to(stream, end, number):
 
 
 class Ran:
-    """A session that is over: its seconds of processor time, the peak of memory in kB, the bytes that it wrote, how many
-    errors they have, and the line of a refused run."""
+    """A session that is over, on a device without a store: its seconds of processor time, the peak of memory in kB, the bytes
+    that it wrote, how many errors they have, and the line of a refused run."""
 
     def __init__(self, program, folder, requests=(), framing=0):
+        if os.path.exists(f"{folder}/running.nc"):
+            os.remove(f"{folder}/running.nc")
         run = subprocess.Popen([program, "stdio", "--recovery", folder, "alice"], stdin=subprocess.PIPE, stdout=subprocess.PIPE,
                                stderr=subprocess.PIPE)
         writer = threading.Thread(target=send, args=(run.stdin, session(framing, requests)))

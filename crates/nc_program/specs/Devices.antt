@@ -10,7 +10,7 @@ use Rattle.nc_schema.specs.Configuration.{IsConfiguration}
 use Rattle.nc_schema.specs.Proper.{IsProperSchema}
 use Rattle.nc_schema.specs.Violations.{IsValid}
 use Rattle.nc_setup.specs.Folder.{Holds}
-use Rattle.nc_setup.specs.Setup.{IsRefused as IsNone, IsSetup}
+use Rattle.nc_setup.specs.Setup.{IsRefused as IsNoSetup, IsSetup}
 use Rattle.nc_setup.specs.declared.fault.SetupFault.{SetupFault}
 use Rattle.nc_setup.specs.declared.folder.Contents.{Contents}
 use Rattle.nc_store.specs.Opening.{IsRefused, IsUnread}
@@ -41,7 +41,7 @@ pub record Makes (files : Filing) (folder : List ℕ) (device : Device) : Type 0
 pub record MakesNone (files : Filing) (folder : List ℕ) (before now : Making) (fault : SetupFault) : Type 0 where
   pub contents : Contents
   pub holds : HoldsIn files.files folder contents
-  pub refused : IsNone contents (refusals_of before now) fault
+  pub refused : IsNoSetup contents (refusals_of before now) fault
 
 -- what the store of a device is begun with
 abbrev pub begun_with : Device → Begun

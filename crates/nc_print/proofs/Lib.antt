@@ -1,4 +1,5 @@
 pub mod RunLemmas
+pub mod BoundLemmas
 pub mod PieceLemmas
 pub mod NameLemmas
 pub mod LevelLemmas

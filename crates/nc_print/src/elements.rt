@@ -4,6 +4,7 @@ ghost use Rattle.std.specs.Option.{option_copied};
 ghost use Rattle.nc_protocol.specs.Printed as printed;
 
 use crate::element::node_part;
+use crate::latest::Latest;
 use crate::runs::{ends_at, longest, run};
 use nc_message::Part;
 use nc_names::{Many, Memory, Row, Step, Text};
@@ -29,13 +30,14 @@ fn push_step(
     step: &Step,
     value: Option<&Text>,
     below: Many<Part>,
+    latest: &mut Latest,
     parts: &mut Many<Part>,
 ) -> Result<(), Memory>
     ensures { IfOk result (λ _. parts.new
         ≡ parts.old ++ printed.step_parts schema.now (option_copied value.entry) below (Some step.now)) }
 {
     if let Some(node) = schema.node(step.node) {
-        parts.push(node_part(alloc, schema, step.node, node, value, below)?)?;
+        parts.push(node_part(alloc, schema, step.node, node, value, below, latest)?)?;
     }
     Ok(())
 }
@@ -48,6 +50,7 @@ fn push_run(
     levels: usize,
     depth: usize,
     rows: &[Row],
+    latest: &mut Latest,
     parts: &mut Many<Part>,
 ) -> Result<(), Memory>
     requires { depth + 1 + levels < 2 ^ 64 }
@@ -60,8 +63,16 @@ fn push_run(
     let Some(step) = row.path.steps.get(depth) else {
         return Ok(());
     };
-    let below = parts_at(alloc, schema, levels, depth + 1, rows)?;
-    push_step(alloc, schema, step, own_value(depth, row), below, parts)
+    let below = parts_at(alloc, schema, levels, depth + 1, rows, latest)?;
+    push_step(
+        alloc,
+        schema,
+        step,
+        own_value(depth, row),
+        below,
+        latest,
+        parts,
+    )
 }
 
 // The elements of rows at a depth, with so many levels of elements in them.
@@ -73,6 +84,7 @@ fn parts_at(
     levels: usize,
     depth: usize,
     rows: &[Row],
+    latest: &mut Latest,
 ) -> Result<Many<Part>, Memory>
     requires { depth + levels < 2 ^ 64 }
     ensures { IfOk result (λ it. it ≡ printed.parts_at schema.now levels depth rows.now) }
@@ -90,6 +102,7 @@ fn parts_at(
             levels - 1,
             depth,
             front(rest, count),
+            latest,
             &mut parts,
         )?;
         rest = tail(rest, count);
@@ -118,5 +131,6 @@ fn tail(rows: &[Row], count: usize) -> &[Row]
 pub fn print(alloc: Global, schema: &Schema, rows: &[Row]) -> Result<Many<Part>, Memory>
     ensures { IfOk result (λ it. it ≡ printed.printed schema.now rows.now) }
 {
-    parts_at(alloc, schema, longest(rows), 0, rows)
+    let mut latest = Latest::new(alloc);
+    parts_at(alloc, schema, longest(rows), 0, rows, &mut latest)
 }

@@ -10,6 +10,7 @@
 
 mod element;
 mod elements;
+mod latest;
 mod laws;
 mod module_names;
 mod paths;

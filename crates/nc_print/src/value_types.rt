@@ -5,6 +5,7 @@ ghost use Rattle.std.specs.Option.{option_map_or};
 ghost use Rattle.nc_schema.specs.Values.{type_of};
 ghost use Rattle.nc_protocol.specs.ModuleNames as names;
 
+use crate::latest::Latest;
 use crate::module_names::push_names;
 use nc_message::Bounds;
 use nc_names::{Bound, Many, Memory, Text};
@@ -89,12 +90,14 @@ pub(crate) fn push_value(
     push_names(schema, text.as_str().as_bytes(), bounds)
 }
 
-/// The bindings of the module names in a value of that data node.
+/// The bindings of the module names in a value of that data node: those that were made last, where they are
+/// the same.
 pub(crate) fn value_bounds(
     alloc: Global,
     schema: &Schema,
     number: u32,
     text: &Text,
+    latest: &mut Latest,
 ) -> Result<Bounds, Memory>
     ensures { IfOk result (λ it. it ≡ names.value_bounds schema.now number text.now) }
 {
@@ -103,5 +106,5 @@ pub(crate) fn value_bounds(
     if bounds.is_empty() {
         return Ok(Bounds::new());
     }
-    Bounds::from_many(alloc, &bounds)
+    latest.bounds_of(alloc, bounds)
 }

@@ -20,6 +20,7 @@ use Rattle.nc_model.specs.Step.{CountsFaults, answer_to, appends_record, changed
 use Rattle.nc_model.specs.Verdict.{verdict}
 use Rattle.nc_machine.specs.declared.course.Change.{Change}
 use Rattle.nc_machine.specs.declared.course.Course.TheVariants.{Answer, Commit}
+use Rattle.nc_machine.specs.Lasting.{Lasting, LeavesStanding}
 use Rattle.nc_machine.specs.inner.Courses.{course, made}
 use Rattle.nc_machine.specs.inner.Turns.{Answers, Commits, Enters, IsKeeping, IsKept, IsNotKept, LeavesKept, answered_by}
 use Rattle.nc_machine.proofs.Courses.{IsAnswer, IsCommit, answers, commits}
@@ -28,26 +29,26 @@ use Rattle.nc_machine.proofs.Keeping.{by_schema, keeping_stays, made_keeps, read
 -- ---- a request that is answered
 
 -- it leaves what is kept, as a reading of the clock does
-pub keeping_read : {K : Type 0} (schema : K → Option Tables) (base : K → List Row) (failures : K → ℕ) (s new : State) (keeper : K)
-    (at : ℕ) → IsKeeping schema base failures s keeper → new ≡ expired s at → IsKeeping schema base failures new keeper
-keeping_read schema base failures s new keeper at keeping is =
-    subst (λ (t : State). IsKeeping schema base failures t keeper) (sym is)
-    (keeping_stays schema base failures s (expired s at) keeper keeping (read_keeps s at))
+module _ {K : Type 0} (schema : K → Option Tables) (base : K → List Row) (failures : K → ℕ) (words : Lasting K) where
+  pub keeping_read : (s new : State) (keeper : K) (at : ℕ) → IsKeeping schema base failures words s keeper → new ≡ expired s at →
+      IsKeeping schema base failures words new keeper
+  keeping_read s new keeper at keeping is =
+      subst (λ (t : State). IsKeeping schema base failures words t keeper) (sym is)
+      (keeping_stays schema base failures words s (expired s at) keeper keeping (read_keeps s at))
 
-keeping_made : {K : Type 0} (schema : K → Option Tables) (base : K → List Row) (failures : K → ℕ) (s new : State) (keeper : K)
-    (session : ℕ) (change : Change) → IsKeeping schema base failures s keeper → new ≡ made s session change →
-    IsKeeping schema base failures new keeper
-keeping_made schema base failures s new keeper session change keeping is =
-    subst (λ (t : State). IsKeeping schema base failures t keeper) (sym is)
-    (keeping_stays schema base failures s (made s session change) keeper keeping (made_keeps s session change))
+  keeping_made : (s new : State) (keeper : K) (session : ℕ) (change : Change) → IsKeeping schema base failures words s keeper →
+      new ≡ made s session change → IsKeeping schema base failures words new keeper
+  keeping_made s new keeper session change keeping is =
+      subst (λ (t : State). IsKeeping schema base failures words t keeper) (sym is)
+      (keeping_stays schema base failures words s (made s session change) keeper keeping (made_keeps s session change))
 
-pub keeping_answered : {K : Type 0} (schema : K → Option Tables) (base : K → List Row) (failures : K → ℕ) (s new : State) (keeper : K)
-    (session : ℕ) (change : Change) (result : Result Outcome Memory) → IsKeeping schema base failures s keeper →
-    IfOk result (λ it. new ≡ made s session change) → OnErr result (new ≡ s) → IsKeeping schema base failures new keeper
-keeping_answered schema base failures s new keeper session change (Ok outcome) keeping ok err =
-    keeping_made schema base failures s new keeper session change keeping ok
-keeping_answered schema base failures s new keeper session change (Err memory) keeping ok err =
-    subst (λ (t : State). IsKeeping schema base failures t keeper) (sym err) keeping
+  pub keeping_answered : (s new : State) (keeper : K) (session : ℕ) (change : Change) (result : Result Outcome Memory) →
+      IsKeeping schema base failures words s keeper → IfOk result (λ it. new ≡ made s session change) →
+      OnErr result (new ≡ s) → IsKeeping schema base failures words new keeper
+  keeping_answered s new keeper session change (Ok outcome) keeping ok err =
+      keeping_made s new keeper session change keeping ok
+  keeping_answered s new keeper session change (Err memory) keeping ok err =
+      subst (λ (t : State). IsKeeping schema base failures words t keeper) (sym err) keeping
 
 not_reached : (live appends done : Bool) → (appends && done) ≡ false → ((live && appends) && done) ≡ false
 not_reached true appends done is = is
@@ -152,14 +153,16 @@ committed_schema s new session request (Ok outcome) (inr kept) = ap (λ (t : Sta
 committed_schema s new session request (Err memory) is = ap (λ (t : State). t.schema) is
 
 -- the keeper keeps what is running now
-pub keeping_committed : {K : Type 0} (schema : K → Option Tables) (base : K → List Row) (failures : K → ℕ) (s new : State)
-    (before after : K) (session : ℕ) (request : Request) (result : Result Outcome Memory) →
-    IsKeeping schema base failures s before → Commits s new session request result → schema after ≡ schema before →
-    base after ≡ base_of new → failures after ≡ new.faults → IsKeeping schema base failures new after
-keeping_committed schema base failures s new before after session request result keeping commits same kept faults = record {
+pub keeping_committed : {K : Type 0} (schema : K → Option Tables) (base : K → List Row) (failures : K → ℕ)
+    (words : Lasting K) (s new : State) (before after : K) (session : ℕ) (request : Request) (result : Result Outcome Memory) →
+    IsKeeping schema base failures words s before → Commits s new session request result → schema after ≡ schema before →
+    base after ≡ base_of new → LeavesStanding base words after → failures after ≡ new.faults →
+    IsKeeping schema base failures words new after
+keeping_committed schema base failures words s new before after session request result keeping commits same kept stands faults = record {
   schema_is = subst (λ (found : Option Tables). IfSome found (λ tables. tables ≡ new.schema)) (sym same)
       (by_schema (schema before) s.schema new.schema (committed_schema s new session request result commits) keeping.schema_is);
   kept = kept;
+  stands = stands;
   faults = faults;
 }
 

@@ -17,6 +17,7 @@ use Rattle.nc_machine.specs.declared.course.Change.{Change}
 use Rattle.nc_machine.specs.declared.course.Change.TheVariants.{Nothing, Candidate, Discard, Grant, Release, Confirm, Revert, Over, GrantNodes, ReleaseNodes}
 use Rattle.nc_partial.specs.declared.locks.PartialFault.{PartialFault}
 use Rattle.nc_partial.specs.Granted.{lock_given}
+use Rattle.nc_machine.specs.Lasting.{Lasting}
 use Rattle.nc_machine.specs.inner.Courses.{confirming, granted, made, partly_granted, partly_released, unlocked, with_given}
 use Rattle.nc_machine.specs.inner.Turns.{IsKeeping, LeavesKept}
 use Rattle.nc_machine.proofs.Confirmed.{confirming_base}
@@ -128,10 +129,12 @@ pub by_schema : (found : Option Tables) (one other : Tables) → other ≡ one �
 by_schema None one other is by = tt
 by_schema (Some tables) one other is by = by ∙ sym is
 
-pub keeping_stays : {K : Type 0} (schema : K → Option Tables) (base : K → List Row) (failures : K → ℕ) (s t : State) (keeper : K) →
-    IsKeeping schema base failures s keeper → LeavesKept s t → IsKeeping schema base failures t keeper
-keeping_stays schema base failures s t keeper keeping same = record {
+pub keeping_stays : {K : Type 0} (schema : K → Option Tables) (base : K → List Row) (failures : K → ℕ) (words : Lasting K)
+    (s t : State) (keeper : K) → IsKeeping schema base failures words s keeper → LeavesKept s t →
+    IsKeeping schema base failures words t keeper
+keeping_stays schema base failures words s t keeper keeping same = record {
   schema_is = by_schema (schema keeper) s.schema t.schema same.schema_is keeping.schema_is;
   kept = keeping.kept ∙ sym same.base_is;
+  stands = keeping.stands;
   faults = keeping.faults ∙ sym same.faults_is;
 }

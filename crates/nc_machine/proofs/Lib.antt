@@ -12,6 +12,10 @@ pub mod Edits
 pub mod Courses
 pub mod Keeping
 pub mod Answering
+pub mod Members
+pub mod Names
+pub mod Withstanding
+pub mod Stood
 pub mod Sound
 pub mod Standing
 pub mod Replies

@@ -1,5 +1,6 @@
--- A machine that stands for a history stands for it with one entry more.
-use Rattle.std.proofs.Common.{◌≡◌, ◌+◌, ◌<◌, ℕ, List, [], ◌∷◌, ◌++◌, length, map, refl, sym, ap, subst, ◌∙◌, arith, length-append, append_assoc, Option, Some, None}
+-- A desk of one thread that stands for a history stands for it with one entry more.
+use Rattle.std.proofs.Common.{◌≡◌, ◌+◌, ◌<◌, ◌^◌, ℕ, true, List, [], ◌∷◌, ◌++◌, length, map, refl, sym, ap, subst, ◌∙◌, arith, append-nil, length-append, append_assoc, Option, Some, None}
+use Rattle.std.specs.Coded.{Coded}
 use Rattle.std.specs.Prelude.{IfSome}
 use Rattle.std.proofs.lemmas.List.{map-append}
 use Rattle.std.proofs.lemmas.List.Elements.{filter-append}
@@ -7,35 +8,22 @@ use Rattle.nc_names.specs.Counts.{one_more}
 use Rattle.nc_names.specs.Limits.{most_requests}
 use Rattle.nc_model.specs.declared.entry.Entry.{Entry}
 use Rattle.nc_model.specs.declared.event.Event.{Event}
-use Rattle.nc_model.specs.declared.event.Event.TheVariants.{Reading}
-use Rattle.nc_model.specs.declared.event.Outcome.TheVariants.{Noted}
 use Rattle.nc_model.specs.Desks.{Entered, Home, is_own, own_of}
-use Rattle.nc_model.specs.History.{after}
-use Rattle.nc_model.specs.State.{State, expired}
-use Rattle.nc_model.specs.Step.{Fits, next}
-use Rattle.nc_model.proofs.HistoryLemmas.{histories_join, legal_histories_join, one_entry_is_legal}
 use Rattle.nc_outside.specs.Clocks.{TellsAnswer}
+use Rattle.nc_machine.specs.Lasting.{Lasting, name_of}
 use Rattle.nc_machine.specs.Seats.{SoloStands, TellsReadings}
-use Rattle.nc_machine.specs.Serving.{IsRead, Makes, Serving, StandsFor}
-use Rattle.nc_machine.proofs.Keeping.{read_keeps}
+use Rattle.nc_machine.specs.Serving.{GoesOn, Serving, StandsFor}
+use Rattle.nc_machine.proofs.Names.{name_is_some, named_once}
 
-pub stands_more : {K : Type 0} (opening : State) (old new : Serving K) (history : List Entry) (event : Event) (at : ℕ) (e : Entry) →
-    StandsFor opening old history → Makes old new event at e → StandsFor opening new (history ++ e ∷ [])
-stands_more opening old new history event at e stood makes = record {
-  legal = (legal_histories_join 0 opening history (e ∷ [])).1 (
-    stood.legal,
-    (one_entry_is_legal (0 + length history) (after opening history) e).1
-        (omega (arith, makes.number_is, stood.count_is), subst (λ (s : State). Fits s e) stood.state_is makes.fits),
-  );
-  state_is = makes.state_is ∙ (ap (λ (s : State). next s e) stood.state_is ∙ sym (histories_join opening history (e ∷ [])));
-  count_is = omega (arith, makes.count_is, stood.count_is, length-append history (e ∷ []));
-}
+pub none_read : (given : Option (List ℕ)) → IfSome given (TellsReadings given [])
+none_read None = tt
+none_read (Some all) = ap Some (sym (append-nil all))
 
 own_more : (seen : List Entry) (e : Entry) → own_of (seen ++ e ∷ []) ≡ own_of seen ++ own_of (e ∷ [])
 own_more seen e = filter-append (λ (x : Entry). is_own x.event) seen (e ∷ [])
 
 -- the clock's answers are the readings of the entries, with one more
-readings_more : (seen : List Entry) (e : Entry) (at : ℕ) (heard given given_now : Option (List ℕ)) → e.at ≡ at →
+pub readings_more : (seen : List Entry) (e : Entry) (at : ℕ) (heard given given_now : Option (List ℕ)) → e.at ≡ at →
     TellsAnswer given given_now at → IfSome given (TellsReadings heard seen) →
     IfSome given_now (TellsReadings heard (seen ++ e ∷ []))
 readings_more seen e at heard given None is tells told = tt
@@ -63,47 +51,55 @@ readings_more seen e at (Some earlier) (Some before) (Some all) is tells told = 
         ∙ ap (λ (xs : List ℕ). earlier ++ xs)
         (ap (λ (n : ℕ). map (λ x. x.at) seen ++ n ∷ []) (sym is) ∙ sym (map-append (λ (x : Entry). x.at) seen (e ∷ [])))))
 
--- a reading of the clock and an event of the machine
-pub solo_entered : {K : Type 0} (old new : Serving K) (answers answers_now : ℕ) (given given_now : Option (List ℕ)) (from : ℕ)
-    (home : Home) (seen mine : List Entry) (event : Event) (at : ℕ) (e : Entry) →
-    answers_now ≡ one_more answers → TellsAnswer given given_now at → old.count < most_requests → Makes old new event at e →
-    SoloStands (record { machine = old; answers = answers; given = given; from = from }) home seen mine →
-    Entered (SoloStands (record { machine = new; answers = answers_now; given = given_now; from = from }) home) home.alone
-    seen mine event e
-solo_entered old new answers answers_now given given_now from home seen mine event at e rose tells room makes stood = record {
-  event_is = makes.event_is;
-  others = [];
-  none = λ alone. refl;
-  stands = record {
-    alone = stood.alone;
-    place_is = stood.place_is;
-    from_is = stood.from_is;
-    machine_stands = stands_more home.opening old new seen event at e stood.machine_stands makes;
-    mine_is = ap (λ (m : List Entry). m ++ own_of (e ∷ [])) stood.mine_is ∙ sym (own_more seen e);
-    few = omega (arith, stood.machine_stands.count_is, length-append seen (e ∷ []));
-    answers_is = omega (arith, rose, stood.answers_is, length-append seen (e ∷ []));
-    readings = readings_more seen e at home.heard given given_now makes.at_is tells stood.readings;
-  };
-}
+module _ {K : Type 0} (coded : Coded K) (words : Lasting K) where
+  -- a reading of the clock and an event of the machine
+  pub solo_entered : (old new : Serving K) (answers answers_now : ℕ) (given given_now : Option (List ℕ)) (from : ℕ)
+      (home : Home) (seen mine : List Entry) (event : Event) (at : ℕ) (e : Entry) →
+      answers_now ≡ one_more answers → TellsAnswer given given_now at → old.count < most_requests →
+      e.event ≡ event → e.at ≡ at → GoesOn words old new (e ∷ []) →
+      SoloStands coded words (record { machine = old; answers = answers; given = given; from = from }) home seen mine →
+      Entered (SoloStands coded words (record { machine = new; answers = answers_now; given = given_now; from = from }) home)
+      home.alone seen mine event e
+  solo_entered old new answers answers_now given given_now from home seen mine event at e rose tells room event_is at_is goes stood = record {
+    event_is = event_is;
+    others = [];
+    none = λ alone. refl;
+    stands = record {
+      alone = stood.alone;
+      from_is = stood.from_is;
+      machine_stands = goes.stands home seen stood.machine_stands;
+      continues = λ first is. goes.continues first (stood.continues first is);
+      mine_is = ap (λ (m : List Entry). m ++ own_of (e ∷ [])) stood.mine_is ∙ sym (own_more seen e);
+      few = omega (arith, room, stood.machine_stands.count_is, length-append seen (e ∷ []));
+      answers_is = omega (arith, rose, stood.answers_is, length-append seen (e ∷ []));
+      readings = readings_more seen e at home.heard given given_now at_is tells stood.readings;
+    };
+  }
 
--- a clock that is read is the entry of a reading
-pub read_makes : {K : Type 0} (old new : Serving K) (at : ℕ) → IsRead old new at → (e : Entry) × Makes old new Reading at e
-read_makes old new at read = (
-  record {
-    number = old.count;
-    at = at;
-    event = Reading;
-    outcome = Noted;
-    faults_before = old.state.faults;
-    faults_after = old.state.faults;
-  },
-  record {
-    event_is = refl;
-    at_is = refl;
-    number_is = refl;
-    fits = record { proper = tt; outcome = refl; before = refl; faults = refl };
-    state_is = read.state_is
-        ∙ ap (λ (n : ℕ). record (expired old.state at) { faults = n }) (read_keeps old.state at).faults_is;
-    count_is = read.count_is;
-  },
-)
+  -- a keeper that was not called yet is the one that its name tells
+  pub named_continues : ((k : K) → words.continues k k) → (keeper : K) (place : List ℕ) → place ≡ name_of coded keeper →
+      (first : K) → place ≡ name_of coded first → words.continues first keeper
+  named_continues on keeper place named first is =
+      subst (λ (k : K). words.continues k keeper) (named_once coded keeper first (sym named ∙ is)) (on keeper)
+
+  -- a place without numbers tells no keeper
+  pub unnamed_continues : (keeper : K) (place : List ℕ) → place ≡ [] →
+      (first : K) → place ≡ name_of coded first → words.continues first keeper
+  unnamed_continues keeper place none first is = absurd (name_is_some coded first (sym is ∙ none))
+
+  -- a machine that has made no entry, and its clock
+  pub solo_begins : (machine : Serving K) (answers : ℕ) (given : Option (List ℕ)) (home : Home) → home.alone ≡ true →
+      home.answers ≡ answers → answers < 2 ^ 64 → home.heard ≡ given →
+      ((first : K) → home.place ≡ name_of coded first → words.continues first machine.keeper) →
+      StandsFor words home machine [] →
+      SoloStands coded words (record { machine = machine; answers = answers; given = given; from = answers }) home [] []
+  solo_begins machine answers given home alone from few heard continues stood = record {
+    alone = alone;
+    from_is = from;
+    machine_stands = stood;
+    continues = continues;
+    mine_is = refl;
+    few = omega arith;
+    answers_is = omega (arith, few);
+    readings = subst (λ (h : Option (List ℕ)). IfSome given (TellsReadings h [])) (sym heard) (none_read given);
+  }

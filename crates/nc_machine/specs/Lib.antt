@@ -1,3 +1,4 @@
+pub mod Lasting
 pub mod Serving
 pub mod Seats
 pub mod Laws

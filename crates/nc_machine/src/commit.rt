@@ -1,11 +1,12 @@
 //! The candidate is kept, and is then running (RFC 6241 8.3.4.1).
-ghost use Rattle.std.specs.Prelude.{◌≡◌, ◌≤◌, IfOk, OnErr};
+ghost use Rattle.std.specs.Prelude.{◌≡◌, ◌≤◌, true, IfOk, OnErr};
 ghost use Rattle.nc_schema.specs.Configuration.{IsConfiguration};
 ghost use Rattle.nc_schema.specs.Record.{record_size};
 ghost use Rattle.nc_names.specs.Limits.{body_limit};
 ghost use Rattle.nc_schema.specs.Violations.{IsValid};
 ghost use Rattle.nc_model.specs.State.{base_of, candidate_in_force};
-ghost use Rattle.nc_machine.specs.inner.Turns.{Commits, IsKeeping};
+ghost use Rattle.nc_machine.specs.Lasting.{LeavesStanding, Withstands, lasting};
+ghost use Rattle.nc_machine.specs.inner.Turns.{Commits, IsKeeping, failed_in};
 
 use crate::causes::refused;
 use crate::server::Server;
@@ -23,15 +24,19 @@ pub(crate) fn commit<K: Keeper>(
     session: u32,
     request: &Request,
 ) -> Result<Outcome, Memory>
-    requires keeping { IsKeeping K.schema K.base K.failures server.old keeper.old }
+    requires keeping { IsKeeping K.schema K.base K.failures
+        (lasting K.doubt K.moment K.leaves K.continues) server.old keeper.old }
     requires configuration { IsConfiguration server.old.schema (candidate_in_force server.old) }
     requires valid { IsValid server.old.schema (candidate_in_force server.old) }
     requires small { record_size (candidate_in_force server.old) ≤ body_limit }
     ensures commits { Commits server.old server.new session request.now result }
     ensures schema_is { K.schema keeper.new ≡ K.schema keeper.old }
     ensures kept { K.base keeper.new ≡ base_of server.new }
+    ensures stands { LeavesStanding K.base (lasting K.doubt K.moment K.leaves K.continues) keeper.new }
     ensures faults { K.failures keeper.new ≡ server.new.faults }
     ensures memory { OnErr result (keeper.new ≡ keeper.old) }
+    ensures withstands { Withstands K.base (lasting K.doubt K.moment K.leaves K.continues) true
+        (candidate_in_force server.old) keeper.old keeper.new (failed_in result) }
 {
     let alloc = server.alloc();
     let done = server.answered(session, request, Verdict::Done)?;

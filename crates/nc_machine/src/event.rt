@@ -6,7 +6,9 @@ ghost use Rattle.nc_model.specs.ProperEvents.{IsProperEvent};
 ghost use Rattle.nc_model.specs.State.{IsGood, expired, is_live};
 ghost use Rattle.nc_model.specs.Step.{reaches_disk};
 ghost use Rattle.nc_outside.specs.Clocks.{last_reading};
-ghost use Rattle.nc_machine.specs.inner.Turns.{Answers, Enters, IsKeeping, LeavesKept};
+ghost use Rattle.nc_machine.specs.Lasting.{WithstandsEvent, lasting};
+ghost use Rattle.nc_machine.specs.Serving.{failed_of};
+ghost use Rattle.nc_machine.specs.inner.Turns.{Answers, Enters, IsKeeping, LeavesKept, failed_in};
 
 use crate::commit::commit;
 use crate::course::Course;
@@ -26,12 +28,16 @@ fn live_outcome<K: Keeper>(
 ) -> Result<Outcome, Memory>
     requires live { is_live server.old session ≡ true }
     requires good { IsGood server.old }
-    requires keeping { IsKeeping K.schema K.base K.failures server.old keeper.old }
+    requires keeping { IsKeeping K.schema K.base K.failures
+        (lasting K.doubt K.moment K.leaves K.continues) server.old keeper.old }
     ensures answers { IfOk result (λ it. Answers server.old server.new session request.now it) }
     ensures memory { OnErr result ((server.new ≡ server.old) × (keeper.new ≡ keeper.old)) }
-    ensures keeping { IsKeeping K.schema K.base K.failures server.new keeper.new }
+    ensures keeping { IsKeeping K.schema K.base K.failures
+        (lasting K.doubt K.moment K.leaves K.continues) server.new keeper.new }
     ensures untouched { reaches_disk server.old (Requested session request.now) ≡ false →
         keeper.new ≡ keeper.old }
+    ensures withstands { WithstandsEvent K.base (lasting K.doubt K.moment K.leaves K.continues)
+        server.old (Requested session request.now) keeper.old keeper.new (failed_in result) }
 {
     match server.course(session, request)? {
         Course::Answer { verdict, change } => server.answer(session, request, verdict, change),
@@ -48,12 +54,16 @@ fn outcome<K: Keeper>(
     request: &Request,
 ) -> Result<Outcome, Memory>
     requires good { IsGood server.old }
-    requires keeping { IsKeeping K.schema K.base K.failures server.old keeper.old }
+    requires keeping { IsKeeping K.schema K.base K.failures
+        (lasting K.doubt K.moment K.leaves K.continues) server.old keeper.old }
     ensures answers { IfOk result (λ it. Answers server.old server.new session request.now it) }
     ensures memory { OnErr result ((server.new ≡ server.old) × (keeper.new ≡ keeper.old)) }
-    ensures keeping { IsKeeping K.schema K.base K.failures server.new keeper.new }
+    ensures keeping { IsKeeping K.schema K.base K.failures
+        (lasting K.doubt K.moment K.leaves K.continues) server.new keeper.new }
     ensures untouched { reaches_disk server.old (Requested session request.now) ≡ false →
         keeper.new ≡ keeper.old }
+    ensures withstands { WithstandsEvent K.base (lasting K.doubt K.moment K.leaves K.continues)
+        server.old (Requested session request.now) keeper.old keeper.new (failed_in result) }
 {
     if server.is_live(session) {
         return live_outcome(server, keeper, session, request);
@@ -73,14 +83,18 @@ pub(crate) fn requested<K: Keeper>(
 ) -> Result<Entry, Memory>
     requires proper { IsProper request }
     requires good { IsGood server.old }
-    requires keeping { IsKeeping K.schema K.base K.failures server.old keeper.old }
+    requires keeping { IsKeeping K.schema K.base K.failures
+        (lasting K.doubt K.moment K.leaves K.continues) server.old keeper.old }
     requires at { at ≤ last_reading }
     ensures entered { IfOk result (λ e.
         Enters server.old server.new number (Requested session request) at e) }
     ensures memory { OnErr result ((server.new ≡ expired server.old at) × (keeper.new ≡ keeper.old)) }
-    ensures keeping { IsKeeping K.schema K.base K.failures server.new keeper.new }
+    ensures keeping { IsKeeping K.schema K.base K.failures
+        (lasting K.doubt K.moment K.leaves K.continues) server.new keeper.new }
     ensures untouched { reaches_disk (expired server.old at) (Requested session request) ≡ false →
         keeper.new ≡ keeper.old }
+    ensures withstands { WithstandsEvent K.base (lasting K.doubt K.moment K.leaves K.continues)
+        (expired server.old at) (Requested session request) keeper.old keeper.new (failed_of result) }
 {
     server.read_clock(at);
     let faults_before = server.faults();
@@ -169,12 +183,16 @@ pub(crate) fn entered<K: Keeper>(
 ) -> Result<Entry, Memory>
     requires proper { IsProperEvent event }
     requires good { IsGood server.old }
-    requires keeping { IsKeeping K.schema K.base K.failures server.old keeper.old }
+    requires keeping { IsKeeping K.schema K.base K.failures
+        (lasting K.doubt K.moment K.leaves K.continues) server.old keeper.old }
     requires at { at ≤ last_reading }
     ensures entered { IfOk result (λ e. Enters server.old server.new number event at e) }
     ensures memory { OnErr result ((server.new ≡ expired server.old at) × (keeper.new ≡ keeper.old)) }
-    ensures keeping { IsKeeping K.schema K.base K.failures server.new keeper.new }
+    ensures keeping { IsKeeping K.schema K.base K.failures
+        (lasting K.doubt K.moment K.leaves K.continues) server.new keeper.new }
     ensures untouched { reaches_disk (expired server.old at) event ≡ false → keeper.new ≡ keeper.old }
+    ensures withstands { WithstandsEvent K.base (lasting K.doubt K.moment K.leaves K.continues)
+        (expired server.old at) event keeper.old keeper.new (failed_of result) }
 {
     match event {
         Event::Start { peer } => started(server, number, peer, at),

@@ -9,6 +9,9 @@ use nc_tree::Keeper;
 ///
 /// It is alone: its history is what its machine made. Each call that is not spent is one reading of the
 /// clock and one call of the machine, and a call that is spent is neither.
+///
+/// What it stands for says what a crash leaves, and, where its home names the keeper that the machine was
+/// given, that the machine's keeper is that one at a later moment.
 #[derive(Drop)]
 pub struct Solo<K: Keeper, C: Clock> {
     /// The machine.
@@ -20,15 +23,17 @@ pub struct Solo<K: Keeper, C: Clock> {
 }
 
 impl<K: Keeper, C: Clock> Desk for Solo<K, C> {
+    ghost use Rattle.nc_machine.specs.Lasting.{lasting};
     ghost use Rattle.nc_machine.specs.Seats.{SoloStands, IsSpent};
     ghost use Rattle.nc_machine.specs.inner.Views.{solo_views};
 
-    ghost stands = { λ solo home seen mine. SoloStands (record {
-      machine = solo.machine;
-      answers = C.count solo.clock;
-      given = C.given solo.clock;
-      from = solo.from;
-    }) home seen mine };
+    ghost stands = { λ solo home seen mine. SoloStands K.row.coded
+        (lasting K.doubt K.moment K.leaves K.continues) (record {
+          machine = solo.machine;
+          answers = C.count solo.clock;
+          given = C.given solo.clock;
+          from = solo.from;
+        }) home seen mine };
 
     ghost spent = { λ solo ticket. IsSpent solo.machine ticket };
 
@@ -62,10 +67,11 @@ impl<K: Keeper, C: Clock> Desk for Solo<K, C> {
         Ok(self.machine.tick(at))
     }
 
-    ghost views = { λ desk home seen mine stood. solo_views (record {
-      machine = desk.machine;
-      answers = C.count desk.clock;
-      given = C.given desk.clock;
-      from = desk.from;
-    }) home seen mine stood };
+    ghost views = { λ desk home seen mine stood. solo_views K.row.coded
+        (lasting K.doubt K.moment K.leaves K.continues) (record {
+          machine = desk.machine;
+          answers = C.count desk.clock;
+          given = C.given desk.clock;
+          from = desk.from;
+        }) home seen mine stood };
 }

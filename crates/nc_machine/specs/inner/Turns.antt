@@ -1,5 +1,5 @@
 -- What becomes of the state in one event, apart from the machine's count and its keeper.
-use Rattle.std.specs.Prelude.{◌≡◌, ◌≤◌, ◌⊎◌, ℕ, List, [], Option, None, IfSome, Result, Ok, Err}
+use Rattle.std.specs.Prelude.{◌≡◌, ◌≤◌, ◌⊎◌, ℕ, Bool, List, [], Option, Some, None, IfSome, Result, Ok, Err}
 use Rattle.nc_names.specs.Counts.{Rose}
 use Rattle.nc_names.specs.declared.cause.CauseKind.TheVariants.{DiskFault}
 use Rattle.nc_names.specs.declared.memory.Memory.{Memory}
@@ -18,14 +18,21 @@ use Rattle.nc_protocol.specs.Reply.{reply_of}
 use Rattle.nc_model.specs.State.{State, base_of}
 use Rattle.nc_model.specs.Step.{CountsFaults, Fits, changed, committed, has_failed, next, outcome_of, reaches_disk}
 use Rattle.nc_protocol.specs.Refusals.{refused_for}
+use Rattle.nc_machine.specs.Lasting.{Lasting, LeavesStanding}
 
 -- a keeper keeps what the state says: it reads by the state's schema, where it has one; its base is what running is
--- once no commit is pending; and the faults are its own
-pub record IsKeeping {K : Type 0} (schema : K → Option Tables) (base : K → List Row) (failures : K → ℕ) (s : State)
-    (keeper : K) : Type 0 where
+-- once no commit is pending; that or what is in doubt is what a crash leaves; and the faults are its own
+pub record IsKeeping {K : Type 0} (schema : K → Option Tables) (base : K → List Row) (failures : K → ℕ)
+    (words : Lasting K) (s : State) (keeper : K) : Type 0 where
   pub schema_is : IfSome (schema keeper) (λ tables. tables ≡ s.schema)
   pub kept : base keeper ≡ base_of s
+  pub stands : LeavesStanding base words keeper
   pub faults : failures keeper ≡ s.faults
+
+-- whether the disk failed, where there is an answer
+abbrev pub failed_in : Result Outcome Memory → Option Bool
+failed_in (Ok outcome) = Some (has_failed outcome)
+failed_in (Err memory) = None
 
 -- what a keeper keeps is as before
 pub record LeavesKept (old new : State) : Type 0 where

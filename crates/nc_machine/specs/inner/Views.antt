@@ -2,12 +2,14 @@
 use Rattle.std.proofs.Common.{◌≡◌, ◌<◌, ℕ, zero, suc, List, [], ◌∷◌, ◌++◌, length, take, drop, refl, sym, ap, subst, arith}
 use Rattle.std.specs.Prelude.{slice_index_or}
 use Rattle.std.proofs.lemmas.List.{get_or_default, length-take-le}
+use Rattle.std.specs.Coded.{Coded}
 use Rattle.std.specs.List.{Contains}
 use Rattle.nc_model.specs.declared.entry.Entry.{Entry}
 use Rattle.nc_model.specs.Desks.{Home, IsView, is_own, own_of}
 use Rattle.nc_model.specs.History.{IsLegal, IsMineIn}
 use Rattle.nc_model.specs.State.{State}
 use Rattle.nc_protocol.proofs.ListLemmas.{all_filter, pairs_filter}
+use Rattle.nc_machine.specs.Lasting.{Lasting}
 use Rattle.nc_machine.specs.Seats.{Seat, SoloStands}
 
 cut : {X : Type 0} (xs : List X) (i : ℕ) (d : X) → i < length xs →
@@ -38,9 +40,9 @@ own_is_mine opening seen legal = record {
       (λ k d within. (k, within, get_or_default seen k (slice_index_or seen k d) d within));
 }
 
-pub solo_views : {K : Type 0} (seat : Seat K) (home : Home) (seen mine : List Entry) → SoloStands seat home seen mine →
-    IsView home seen mine
-solo_views seat home seen mine stood = record {
+pub solo_views : {K : Type 0} (coded : Coded K) (words : Lasting K) (seat : Seat K) (home : Home) (seen mine : List Entry) →
+    SoloStands coded words seat home seen mine → IsView home seen mine
+solo_views coded words seat home seen mine stood = record {
   legal = stood.machine_stands.legal;
   own = subst (λ (m : List Entry). IsMineIn m seen) (sym stood.mine_is)
       (own_is_mine home.opening seen stood.machine_stands.legal);

@@ -8,5 +8,6 @@ pub returns-clause-entered : goal.returns-clause-entered
 returns-clause-entered g c =
     let room : c.args.self.now.machine.count < most_requests = omega arith in
     λ home seen mine stood.
-    solo_entered c.args.self.now.machine c.end.new.self _ _ _ _ _ home seen mine (End c.args.session) _ c.end.result c.now-at.ensures.count
-    c.now-at.ensures.told room c.end.ensures.entered stood
+    solo_entered _ _ c.args.self.now.machine c.end.new.self _ _ _ _ _ home seen mine (End c.args.session) _ c.end.result
+    c.now-at.ensures.count c.now-at.ensures.told room c.end.ensures.entered.event_is c.end.ensures.entered.at_is
+    c.end.ensures.goes_on stood

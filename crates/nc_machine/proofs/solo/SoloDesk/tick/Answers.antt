@@ -8,5 +8,5 @@ pub returns-clause-entered : goal.returns-clause-entered
 returns-clause-entered g c =
     let room : c.args.self.now.machine.count < most_requests = omega arith in
     λ home seen mine stood.
-    solo_entered c.args.self.now.machine c.tick.new.self _ _ _ _ _ home seen mine Reading _ c.tick.result c.now-at.ensures.count
-    c.now-at.ensures.told room c.tick.ensures.entered stood
+    solo_entered _ _ c.args.self.now.machine c.tick.new.self _ _ _ _ _ home seen mine Reading _ c.tick.result c.now-at.ensures.count
+    c.now-at.ensures.told room c.tick.ensures.entered.event_is c.tick.ensures.entered.at_is c.tick.ensures.goes_on stood

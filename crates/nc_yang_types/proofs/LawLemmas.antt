@@ -1,7 +1,9 @@
 -- Entries are there where no rule is broken, and ranges are no wider than their base.
-use Rattle.std.proofs.Common.{◌≡◌, ◌&&◌, ◌||◌, ◌++◌, ℕ, Bool, true, false, cond, not, List, [], ◌∷◌, Option, Some, None, refl, ap, subst, arith}
-use Rattle.std.specs.Prelude.{ℤ, ◌==◌, int_le, IsSome, is_some, option_map, option_and_then}
+use Rattle.std.proofs.Common.{◌≡◌, ◌&&◌, ◌||◌, ◌++◌, ℕ, Bool, true, false, cond, not, List, [], ◌∷◌, Option, Some, None, refl, ap, ◌∙◌, subst, arith}
+use Rattle.std.specs.Prelude.{ℤ, pos, ◌-ℤ◌, ◌==◌, int_le, int_lt, IsSome, is_some, option_map, option_and_then}
 use Rattle.std.specs.List.{list_all, slice_split}
+use Rattle.std.specs.Ordering.{int_eq}
+use Rattle.std.proofs.lemmas.Bool.Decides.{Decides-int_eq}
 use Rattle.std.proofs.lemmas.Int.{ints}
 use Rattle.nc_names.specs.Signs.{bar}
 use Rattle.nc_schema.specs.NumberTexts.{is_among, number_of}
@@ -23,7 +25,7 @@ use Rattle.nc_yang_types.specs.Entries.{decimal, decimals, digits_by, digits_in,
 use Rattle.nc_yang_types.specs.Laws.{needs_names}
 use Rattle.nc_yang_types.specs.Parts.{foreign, foreign_over, lacking, misshapen}
 use Rattle.nc_yang_types.specs.Patterns.{ill_patterns}
-use Rattle.nc_yang_types.specs.Ranges.{are_ascending, are_parts, holds, is_tight, lies_in, parts_of, restriction, whole_of}
+use Rattle.nc_yang_types.specs.Ranges.{adjoins, are_ascending, are_parts, holds, is_tight, lies_in, merged, merged_with, parts_of, restriction, whole_of}
 
 empty_left : {A : Type 0} (xs ys : List A) → xs ++ ys ≡ [] → xs ≡ []
 empty_left [] ys e = refl
@@ -147,11 +149,11 @@ taken_over c f (Some w) parts e = taken_of c (f w) parts e
 abbrev fits : List Between → List ℕ → List Between → Bool
 fits base text parts = is_tight text && are_parts base parts
 
-are_inside : (counted : Counted) (base parts : List Between) (text : List ℕ) → restriction counted base text ≡ Some parts → list_all (lies_in base) parts ≡ true
+are_inside : (counted : Counted) (base parts : List Between) (text : List ℕ) → restriction counted base text ≡ Some parts → list_all (lies_in (merged base)) parts ≡ true
 are_inside counted base parts text e =
     let kept : fits base text parts ≡ true =
     taken_over (fits base text) (λ whole. parts_of counted whole (slice_split (λ c. c == bar) text)) (whole_of base) parts e in
-    right (are_ascending parts) (list_all (lies_in base) parts) (right (is_tight text) (are_parts base parts) kept)
+    right (are_ascending parts) (list_all (lies_in (merged base)) parts) (right (is_tight text) (are_parts base parts) kept)
 
 abbrev among_one : ℤ → Between → Bool
 among_one number range = int_le range.least number && int_le number range.most
@@ -184,5 +186,54 @@ all_held : (number : ℤ) (base parts : List Between) → list_all (lies_in base
 all_held number base [] inside one = absurd (cc)
 all_held number base (part ∷ parts) inside one = all_step (among_one number part) number base part parts refl inside one (all_held number base parts)
 
+-- parts of which those that adjoin are one have no other numbers
+after_gap : (number b c : ℤ) → int_lt b c ≡ true → int_eq (c -ℤ pos 1) b ≡ true → int_le number b ≡ false → int_le c number ≡ true
+after_gap number b c lt next past = let same : c -ℤ pos 1 ≡ b = (Decides-int_eq (c -ℤ pos 1) b).0 next in grind (arith, ints)
+
+in_either : (number a b c d : ℤ) (x : Bool) → int_le number b ≡ x → (int_le number b ≡ false → int_le c number ≡ true) → (int_le a number && int_le number d) ≡ true
+    → ((int_le a number && int_le number b) || (int_le c number && int_le number d)) ≡ true
+in_either number a b c d true e later h =
+    ap (λ z. (z && int_le number b) || (int_le c number && int_le number d)) (left (int_le a number) (int_le number d) h)
+    ∙ ap (λ z. z || (int_le c number && int_le number d)) e
+in_either number a b c d false e later h =
+    ap (λ z. (z && int_le number b) || (int_le c number && int_le number d)) (left (int_le a number) (int_le number d) h)
+    ∙ ap (λ z. z || (int_le c number && int_le number d)) e
+    ∙ ap (λ z. z && int_le number d) (later e) ∙ right (int_le a number) (int_le number d) h
+
+among_both : (number : ℤ) (part next : Between) → adjoins part next ≡ true → among_one number (record { least = part.least; most = next.most }) ≡ true → (among_one number part || among_one number next) ≡ true
+among_both number part next e h =
+    in_either number part.least part.most next.least next.most (int_le number part.most) refl
+    (after_gap number part.most next.least (left (int_lt part.most next.least) (int_eq (next.least -ℤ pos 1) part.most) e) (right (int_lt part.most next.least) (int_eq (next.least -ℤ pos 1) part.most) e)) h
+
+or_more : (a b c d : Bool) → (a ≡ true → (b || c) ≡ true) → (a || d) ≡ true → (b || (c || d)) ≡ true
+or_more true true c d h e = refl
+or_more true false true d h e = refl
+or_more true false false d h e = absurd (let f : false ≡ true = h refl in cc)
+or_more false true c d h e = refl
+or_more false false true d h e = refl
+or_more false false false d h e = e
+
+or_rest : (a b c : Bool) → (b ≡ true → c ≡ true) → (a || b) ≡ true → (a || c) ≡ true
+or_rest true b c h e = refl
+or_rest false b c h e = h e
+
+merged_step : (x : Bool) (number : ℤ) (part next : Between) (parts : List Between) → adjoins part next ≡ x
+    → is_among (cond x (merged_with (record { least = part.least; most = next.most }) parts) (part ∷ merged_with next parts)) number ≡ true
+    → (is_among (merged_with (record { least = part.least; most = next.most }) parts) number ≡ true → is_among (record { least = part.least; most = next.most } ∷ parts) number ≡ true)
+    → (is_among (merged_with next parts) number ≡ true → is_among (next ∷ parts) number ≡ true) → is_among (part ∷ next ∷ parts) number ≡ true
+merged_step true number part next parts e h first more =
+    or_more (among_one number (record { least = part.least; most = next.most })) (among_one number part) (among_one number next) (is_among parts number)
+    (among_both number part next e) (first h)
+merged_step false number part next parts e h first more = or_rest (among_one number part) (is_among (merged_with next parts) number) (is_among (next ∷ parts) number) more h
+
+among_with : (number : ℤ) (parts : List Between) (part : Between) → is_among (merged_with part parts) number ≡ true → is_among (part ∷ parts) number ≡ true
+among_with number [] part h = h
+among_with number (next ∷ parts) part h =
+    merged_step (adjoins part next) number part next parts refl h (among_with number parts (record { least = part.least; most = next.most })) (among_with number parts next)
+
+among_merged : (number : ℤ) (base : List Between) → is_among (merged base) number ≡ true → is_among base number ≡ true
+among_merged number [] h = h
+among_merged number (part ∷ parts) h = among_with number parts part h
+
 pub restrictions_narrow : (counted : Counted) (base parts : List Between) (text : List ℕ) (number : ℤ) → restriction counted base text ≡ Some parts → is_among parts number ≡ true → is_among base number ≡ true
-restrictions_narrow counted base parts text number e one = all_held number base parts (are_inside counted base parts text e) one
+restrictions_narrow counted base parts text number e one = among_merged number base (all_held number (merged base) parts (are_inside counted base parts text e) one)

@@ -7,7 +7,8 @@ use Rattle.nc_names.specs.Same.{is_same_text}
 use Rattle.nc_schema.specs.NumberTexts.{number_of}
 use Rattle.nc_yang_words.specs.declared.statement.Statement.{Statement}
 use Rattle.nc_yang_statements.specs.declared.fault.Fault.{Fault}
-use Rattle.nc_yang_statements.specs.declared.fault.ModuleWhy.TheVariants.{Twice, BadArgument}
+use Rattle.nc_yang_statements.specs.declared.fault.ModuleWhy.{ModuleWhy}
+use Rattle.nc_yang_statements.specs.declared.fault.ModuleWhy.TheVariants.{Missing, Twice, BadArgument}
 use Rattle.nc_yang_statements.specs.declared.keyword.Keyword.{Keyword}
 use Rattle.nc_yang_statements.specs.declared.keyword.Keyword.TheVariants.{EnumName, Bit, Value, Position}
 use Rattle.nc_yang_statements.specs.Keywords.{is_same_keyword}
@@ -87,13 +88,20 @@ abbrev pub numbering : Listed → Statement → Option Statement → Statement
 numbering listed s None = s
 numbering listed s (Some given) = given
 
-abbrev pub at_number : Listed → Statement → Bool → List Fault
-at_number listed s bad = at_if bad (numbering listed s (part (number_word listed) (below s))) BadArgument
+abbrev pub at_number : Listed → Statement → Bool → ModuleWhy → List Fault
+at_number listed s bad why = at_if bad (numbering listed s (part (number_word listed) (below s))) why
 
 -- there is no number, or another name has it
 abbrev pub is_unfit : List ℤ → Option ℤ → Bool
 is_unfit before None = true
 is_unfit before (Some n) = list_any (λ other. int_eq other n) before
+
+-- then the one that is written or counted stands twice, the one that is written is past the bounds, or none is written
+-- after the last one
+abbrev pub why_unfit : Option Statement → Option ℤ → ModuleWhy
+why_unfit given (Some n) = Twice
+why_unfit (Some given) None = BadArgument
+why_unfit None None = Missing
 
 abbrev pub with_number : List ℤ → Option ℤ → List ℤ
 with_number before None = before
@@ -103,7 +111,8 @@ with_number before (Some n) = before ++ n ∷ []
 abbrev pub misnumbered : Listed → List ℤ → List (Statement × Option ℤ) → List Fault
 misnumbered listed before [] = []
 misnumbered listed before (p ∷ ps) =
-    at_number listed p.0 (is_unfit before p.1) ++ misnumbered listed (with_number before p.1) ps
+    at_number listed p.0 (is_unfit before p.1) (why_unfit (part (number_word listed) (below p.0)) p.1)
+    ++ misnumbered listed (with_number before p.1) ps
 
 -- all rules of the names and numbers
 abbrev pub ill_listed : Listed → List Statement → List Fault

@@ -1,6 +1,7 @@
 -- The arguments of `range` and `length` (RFC 7950 9.2.4, 9.4.4; 14, `range-arg` and `length-arg`).
-use Rattle.std.specs.Prelude.{ℕ, ◌-◌, ◌==◌, ◌&&◌, not, Bool, true, if◌then◌else◌, List, [], ◌∷◌, length, ℤ, int_le, int_lt, Option, Some, None, option_map, codes}
+use Rattle.std.specs.Prelude.{ℕ, ◌-◌, ◌==◌, ◌&&◌, not, Bool, true, if◌then◌else◌, List, [], ◌∷◌, length, ℤ, pos, ◌-ℤ◌, int_le, int_lt, Option, Some, None, option_map, codes}
 use Rattle.std.specs.List.{list_all, list_any, slice_split, before_first}
+use Rattle.std.specs.Ordering.{int_eq}
 use Rattle.nc_names.specs.Ends.{trimmed}
 use Rattle.nc_names.specs.Same.{is_same_text}
 use Rattle.nc_names.specs.Signs.{bar, dot}
@@ -79,6 +80,21 @@ abbrev pub are_ascending : List Between → Bool
 are_ascending [] = true
 are_ascending (part ∷ parts) = int_le part.least part.most && is_below part.most parts && are_ascending parts
 
+-- the next part begins right after it
+abbrev pub adjoins : Between → Between → Bool
+adjoins part next = int_lt part.most next.least && int_eq (next.least -ℤ pos 1) part.most
+
+-- a part with those after it, of which each that adjoins is one with the one before
+abbrev pub merged_with : Between → List Between → List Between
+merged_with part [] = part ∷ []
+merged_with part (next ∷ parts) =
+    if adjoins part next then merged_with (record { least = part.least; most = next.most }) parts
+    else part ∷ merged_with next parts
+
+abbrev pub merged : List Between → List Between
+merged [] = []
+merged (part ∷ parts) = merged_with part parts
+
 -- all its numbers are those of one part of the base
 abbrev pub holds : Between → Between → Bool
 holds part over = int_le over.least part.least && int_le part.most over.most
@@ -100,9 +116,9 @@ whole_of (part ∷ parts) = Some (record { least = part.least; most = highest pa
 abbrev pub is_tight : List ℕ → Bool
 is_tight text = is_visible_at text 0 && is_visible_at text (length text - 1)
 
--- the parts may stand in a type over this base
+-- the parts may stand in a type over this base, whose adjoining parts are one
 abbrev pub are_parts : List Between → List Between → Bool
-are_parts base parts = are_ascending parts && list_all (lies_in base) parts
+are_parts base parts = are_ascending parts && list_all (lies_in (merged base)) parts
 
 -- the numbers that a `range` or a `length` leaves of those of the base
 abbrev pub restriction : Counted → List Between → List ℕ → Option (List Between)

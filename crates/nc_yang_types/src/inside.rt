@@ -1,10 +1,12 @@
 //! Whether parts lie in those of a base (RFC 7950 9.2.4).
-ghost use Rattle.std.specs.Prelude.{◌≡◌};
+ghost use Rattle.std.specs.Prelude.{◌≡◌, IfOk};
 ghost use Rattle.std.specs.List.{list_all};
 ghost use Rattle.nc_yang_types.specs.Ranges as ranges;
 ghost use Rattle.nc_yang_types.specs.inner.Walks as walks;
 
+use nc_names::{Many, Memory};
 use nc_schema::Between;
+use std::alloc::Global;
 
 /// Whether each number of a part is lower than those of the next, and no part is empty.
 pub(crate) fn are_ascending(parts: &[Between]) -> bool
@@ -21,6 +23,34 @@ pub(crate) fn are_ascending(parts: &[Between]) -> bool
         last = *part;
     }
     last.least <= last.most
+}
+
+// Whether the next part begins right after this.
+fn adjoins(part: Between, next: Between) -> bool
+    ensures { result ≡ ranges.adjoins part next }
+{
+    part.most < next.least && next.least - 1 == part.most
+}
+
+/// The parts, of which those that adjoin are one.
+pub(crate) fn merged(alloc: Global, parts: &[Between]) -> Result<Many<Between>, Memory>
+    ensures { IfOk result (λ it. it ≡ ranges.merged parts.now) }
+{
+    let mut merged = Many::new(alloc);
+    let Some((first, rest)) = parts.split_first() else {
+        return Ok(merged);
+    };
+    let mut last = *first;
+    for next in rest {
+        if adjoins(last, *next) {
+            last.most = next.most;
+        } else {
+            merged.push(last)?;
+            last = *next;
+        }
+    }
+    merged.push(last)?;
+    Ok(merged)
 }
 
 // Whether the second holds all numbers of the first.

@@ -1,6 +1,7 @@
 //! Numbers of names that are none, or stand twice (RFC 7950 9.6.4.2, 9.7.4.2).
 ghost use Rattle.std.specs.Prelude.{◌≡◌, ◌++◌, ◌∷◌, [], List, ℤ, None, Some, true, IfOk};
 ghost use Rattle.nc_yang_statements.specs.Rules as rules;
+ghost use Rattle.nc_yang_statements.specs.Statements as statements;
 ghost use Rattle.nc_yang_types.specs.Members as members;
 ghost use Rattle.nc_yang_types.specs.inner.Known.{HasNumbers};
 
@@ -13,12 +14,12 @@ use std::alloc::Global;
 use std::collections::BTreeSet;
 
 // The fault of a number.
-fn number_fault(listed: Listed, statement: &Statement) -> Fault
-    ensures { Some result ≡ rules.first (members.at_number listed statement.now true) }
+fn number_fault(listed: Listed, statement: &Statement, why: ModuleWhy) -> Fault
+    ensures { Some result ≡ rules.first (members.at_number listed statement.now true why) }
 {
     match number_part(listed, statement) {
-        Some(given) => fault(given, ModuleWhy::BadArgument),
-        None => fault(statement, ModuleWhy::BadArgument),
+        Some(given) => fault(given, why),
+        None => fault(statement, why),
     }
 }
 
@@ -29,6 +30,20 @@ fn is_unfit(known: &BTreeSet<i128>, number: Option<i128>) -> bool
     match number {
         Some(number) => known.contains(&number),
         None => true,
+    }
+}
+
+// Why it does not suit then.
+fn why_unfit(listed: Listed, statement: &Statement, number: Option<i128>) -> ModuleWhy
+    ensures { result ≡ members.why_unfit
+        (statements.part (members.number_word listed) (statements.below statement.now)) number }
+{
+    if number.is_some() {
+        return ModuleWhy::Twice;
+    }
+    match number_part(listed, statement) {
+        Some(_) => ModuleWhy::BadArgument,
+        None => ModuleWhy::Missing,
     }
 }
 
@@ -53,7 +68,7 @@ fn with_number(known: BTreeSet<i128>, number: Option<i128>) -> Result<BTreeSet<i
     }
 }
 
-/// The first name without a number, or with the number of one before.
+/// The first name without a number, or with that of one before.
 pub(crate) fn misnumbered(
     alloc: Global,
     listed: Listed,
@@ -70,7 +85,8 @@ pub(crate) fn misnumbered(
         }
         let number = number_at(listed, high, statement);
         if is_unfit(&known, number) {
-            return Ok(Some(number_fault(listed, statement)));
+            let why = why_unfit(listed, statement, number);
+            return Ok(Some(number_fault(listed, statement, why)));
         }
         known = with_number(known, number)?;
         high = higher(high, number);

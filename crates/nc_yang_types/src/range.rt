@@ -7,7 +7,7 @@ ghost use Rattle.nc_yang_types.specs.Ranges as ranges;
 ghost use Rattle.nc_yang_types.specs.inner.Cuts.{SplitsAt, SplitsAtDots, parts_left};
 
 use crate::bound::{Counted, bound};
-use crate::inside::{all_lie_in, are_ascending};
+use crate::inside::{all_lie_in, are_ascending, merged};
 use nc_names::{Many, Memory, is_white, trimmed};
 use nc_schema::Between;
 use std::alloc::Global;
@@ -135,11 +135,12 @@ fn is_tight(text: &[u8]) -> bool
     is_visible_at(text, 0) && is_visible_at(text, text.len().saturating_sub(1))
 }
 
-// Whether the parts may stand in a type over this base.
-fn are_parts(base: &[Between], parts: &[Between]) -> bool
-    ensures { result ≡ ranges.are_parts base.now parts.now }
+// Whether the parts may stand in a type over a base, of which adjoining parts are one.
+fn are_parts(alloc: Global, base: &[Between], parts: &[Between]) -> Result<bool, Memory>
+    ensures { IfOk result (λ it. it ≡ ranges.are_parts base.now parts.now) }
 {
-    are_ascending(parts) && all_lie_in(base, parts)
+    let whole = merged(alloc, base)?;
+    Ok(are_ascending(parts) && all_lie_in(whole.as_slice(), parts))
 }
 
 /// The numbers that the text of a `range` or a `length` leaves of those of the base; `None` where it is
@@ -158,7 +159,10 @@ pub fn restriction(
     let Some(parts) = parts_of(alloc, counted, whole, text)? else {
         return Ok(None);
     };
-    if is_tight(text.as_bytes()) && are_parts(base, parts.as_slice()) {
+    if !is_tight(text.as_bytes()) {
+        return Ok(None);
+    }
+    if are_parts(alloc, base, parts.as_slice())? {
         Ok(Some(parts))
     } else {
         Ok(None)

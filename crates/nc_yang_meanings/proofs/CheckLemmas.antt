@@ -12,10 +12,10 @@ use Rattle.nc_yang_scopes.specs.Names.{StandsIn, inside, itself}
 use Rattle.nc_yang_scopes.specs.inner.Naming.{HasNumber}
 use Rattle.nc_yang_scopes.proofs.Lists.{get_within}
 use Rattle.nc_yang_scopes.proofs.BookLemmas.{root_past}
-use Rattle.nc_yang_meanings.specs.Faults.{BreaksType, BreaksTypes, KeepsTypes}
+use Rattle.nc_yang_meanings.specs.Faults.{BreaksOne, BreaksType, BreaksTypes, KeepsTypes}
 use Rattle.nc_yang_meanings.specs.Meanings.{Breaks}
 use Rattle.nc_yang_meanings.specs.Plans.{AreMeanings, IsFinding}
-use Rattle.nc_yang_meanings.specs.inner.Judging.{Judges, JudgesText, fault_in}
+use Rattle.nc_yang_meanings.specs.inner.Judging.{Judges, JudgesMembers, JudgesText, fault_in}
 use Rattle.nc_yang_meanings.specs.declared.planned.Finding.{Finding}
 use Rattle.nc_yang_meanings.specs.declared.planned.Finding.TheVariants.{Broken, Nothing, Plan}
 use Rattle.nc_yang_meanings.specs.declared.planned.Meanings.{Meanings}
@@ -23,7 +23,7 @@ use Rattle.nc_yang_meanings.proofs.MeaningLemmas.{means_keeps}
 use Rattle.nc_yang_scopes.proofs.PartLemmas.{statement_is}
 
 module _ (scoping : Scoping) (meanings : Meanings) (n : ℕ) (s : Statement) (number : HasNumber scoping n s) (on : ℕ → List ℕ → Bool) (are : AreMeanings on scoping meanings) (l : Located) (here : slice_get scoping.located n ≡ Some l) where
-  breaks_here : (fault : Fault) → Some fault ≡ fault_in (slice_get meanings.findings n) → Breaks on scoping.texts l fault
+  pub breaks_here : (fault : Fault) → Some fault ≡ fault_in (slice_get meanings.findings n) → Breaks on scoping.texts l fault
   breaks_here fault e = by (slice_get meanings.findings n) (are n l here) e
     where
       by : (o : Option Finding) → IsSomeAnd o (IsFinding on scoping meanings.plans l) → Some fault ≡ fault_in o → Breaks on scoping.texts l fault
@@ -32,7 +32,7 @@ module _ (scoping : Scoping) (meanings : Meanings) (n : ℕ) (s : Statement) (nu
       by (Some (Broken other)) h e = let same : other ≡ fault = cc in subst (Breaks on scoping.texts l) same h.0
       by (Some (Plan k)) h e = absurd (cc)
 
-  keeps_here : None ≡ fault_in (slice_get meanings.findings n) → (fault : Fault) → Breaks on scoping.texts l fault → ⊥
+  pub keeps_here : None ≡ fault_in (slice_get meanings.findings n) → (fault : Fault) → Breaks on scoping.texts l fault → ⊥
   keeps_here e = by (slice_get meanings.findings n) (are n l here) e
     where
       by : (o : Option Finding) → IsSomeAnd o (IsFinding on scoping meanings.plans l) → None ≡ fault_in o → (fault : Fault) → Breaks on scoping.texts l fault → ⊥
@@ -41,24 +41,33 @@ module _ (scoping : Scoping) (meanings : Meanings) (n : ℕ) (s : Statement) (nu
       by (Some (Broken other)) h e = absurd (cc)
       by (Some (Plan k)) h e = λ fault breaks. means_keeps on scoping.texts l h.meaning fault h.means breaks
 
-  pub fault_here : (fault : Fault) → Some fault ≡ fault_in (slice_get meanings.findings n) → BreaksType on scoping.texts l fault
-  fault_here fault e = record { statement = l; stands = itself l; breaks = breaks_here fault e }
+  pub fault_here : (fault : Fault) → BreaksOne on scoping.texts l fault → BreaksType on scoping.texts l fault
+  fault_here fault e = record { statement = l; stands = itself l; breaks = e }
+
+  -- by itself and by its members
+  pub breaks_by_parts : (fault : Fault) → Some fault ≡ fault_in (slice_get meanings.findings n) → BreaksOne on scoping.texts l fault
+  breaks_by_parts fault e = inl (breaks_here fault e)
+
+  pub judged_both : (result : Option Fault) → None ≡ fault_in (slice_get meanings.findings n) → JudgesMembers scoping meanings n result →
+      MatchOption result ((fault : Fault) → BreaksOne on scoping.texts l fault → ⊥) (BreaksOne on scoping.texts l)
+  judged_both None none judged = λ fault h. elim h [ inl b ↦ keeps_here none fault b | inr r ↦ judged on are l here fault r ]
+  judged_both (Some fault) none judged = inr (judged on are l here)
 
   -- a statement by itself and those in it
-  either : (u : Located) (fault : Fault) → None ≡ fault_in (slice_get meanings.findings n) →
-      ((c : Located) (place : ℕ) → is_closed (kind l.statement) ≡ false → child place l ≡ Some c → StandsIn c u → ⊥) → StandsIn l u → Breaks on scoping.texts u fault → ⊥
+  either : (u : Located) (fault : Fault) → ((fault : Fault) → BreaksOne on scoping.texts l fault → ⊥) →
+      ((c : Located) (place : ℕ) → is_closed (kind l.statement) ≡ false → child place l ≡ Some c → StandsIn c u → ⊥) → StandsIn l u → BreaksOne on scoping.texts u fault → ⊥
   either u fault none none_in stands breaks = by l refl stands breaks
     where
-      by : (k : Located) → k ≡ l → StandsIn k u → Breaks on scoping.texts u fault → ⊥
-      by k same (itself j) b = keeps_here none fault (subst (λ z. Breaks on scoping.texts z fault) same b)
+      by : (k : Located) → k ≡ l → StandsIn k u → BreaksOne on scoping.texts u fault → ⊥
+      by k same (itself j) b = none fault (subst (λ z. BreaksOne on scoping.texts z fault) same b)
       by k same (inside j c i place is_open one d) b = none_in c place (subst (λ (z : Located). is_closed (kind z.statement) ≡ false) same is_open) (subst (λ z. child place z ≡ Some c) same one) d
 
-  pub faultless_closed : (fault : Fault) → None ≡ fault_in (slice_get meanings.findings n) → is_closed (kind s) ≡ true → BreaksType on scoping.texts l fault → ⊥
+  pub faultless_closed : (fault : Fault) → ((fault : Fault) → BreaksOne on scoping.texts l fault → ⊥) → is_closed (kind s) ≡ true → BreaksType on scoping.texts l fault → ⊥
   faultless_closed fault none shut h =
       either h.statement fault none
       (λ c place is_open one d. let e : is_closed (kind l.statement) ≡ true = ap (λ z. is_closed (kind z)) (statement_is scoping n s l number here) ∙ shut in cc (e, is_open)) h.stands h.breaks
 
-  pub faultless_all : (among : List Statement) → among ≡ below s → (count : ℕ) (fault : Fault) → None ≡ fault_in (slice_get meanings.findings n) → length among ≤ count →
+  pub faultless_all : (among : List Statement) → among ≡ below s → (count : ℕ) (fault : Fault) → ((fault : Fault) → BreaksOne on scoping.texts l fault → ⊥) → length among ≤ count →
       ((i : ℕ) (c : Located) (fault : Fault) → i < count → child i l ≡ Some c → BreaksType on scoping.texts c fault → ⊥) → BreaksType on scoping.texts l fault → ⊥
   faultless_all among among_is count fault none le none_in h =
       either h.statement fault none
@@ -75,7 +84,7 @@ module _ (scoping : Scoping) (meanings : Meanings) (n : ℕ) (s : Statement) (nu
           by (Some t) there e = get_within (below l.statement) place t there
 
   -- a child of it
-  child_is : (among : List Statement) → among ≡ below s → (place : ℕ) (t : Statement) → place < length among → t ≡ get_or among place t → child place l ≡ Some (record { statement = t; place = inside_of l })
+  pub child_is : (among : List Statement) → among ≡ below s → (place : ℕ) (t : Statement) → place < length among → t ≡ get_or among place t → child place l ≡ Some (record { statement = t; place = inside_of l })
   child_is among among_is place t less is =
       ap (λ z. option_map put (slice_get (below z) place)) (statement_is scoping n s l number here) ∙ ap (λ ts. option_map put (slice_get ts place)) (sym among_is)
       ∙ ap (option_map put) (slice_get-get_or among place t less ∙ ap Some (sym is))

@@ -5,3 +5,4 @@ pub mod TableLemmas
 pub mod CheckLemmas
 pub mod FoundLemmas
 pub mod DefaultLemmas
+pub mod MemberLemmas

@@ -139,7 +139,7 @@ module _ (on : ℕ → List ℕ → Bool) (scoping : Scoping) (l : Located) (one
   )
 
 -- a plan over another
-same_shape : (located : List Located) (planned : Planned) (m : Meaning) → IsPlan located planned m → shape_of planned ≡ shape m
+pub same_shape : (located : List Located) (planned : Planned) (m : Meaning) → IsPlan located planned m → shape_of planned ≡ shape m
 same_shape located (Finished entry ns) (Entry other ps) is = is.0
 same_shape located (Finished entry ns) (OneOf ls) is = absurd is
 same_shape located (Finished entry ns) (DerivedFrom ls) is = absurd is

@@ -3,8 +3,9 @@ ghost use Rattle.std.specs.Prelude.{◌≡◌, ℕ, List, Bool, slice_get, Match
 ghost use Rattle.nc_yang_scopes.specs.inner.Naming.{HasNumber};
 ghost use Rattle.nc_yang_meanings.specs.Faults.{BreaksTypes, KeepsTypes};
 ghost use Rattle.nc_yang_meanings.specs.Plans.{AreMeanings};
-ghost use Rattle.nc_yang_meanings.specs.inner.Judging.{Judges, JudgesText, fault_in};
+ghost use Rattle.nc_yang_meanings.specs.inner.Judging.{Judges, JudgesOne, JudgesText, fault_in};
 
+use crate::member::referring_member;
 use crate::planned::{Finding, Meanings};
 use nc_yang_scopes::{Scopes, TextFault};
 use nc_yang_statements::{Fault, is_closed, kind};
@@ -20,6 +21,22 @@ fn fault_of(meanings: &Meanings, number: usize) -> Option<Fault>
     }
 }
 
+// A rule that the statement of a number breaks, or that a member of it does.
+fn own_fault(
+    scopes: &Scopes,
+    meanings: &Meanings,
+    number: usize,
+    statement: &Statement,
+) -> Option<Fault>
+    requires { HasNumber scopes.now number statement.now }
+    ensures { JudgesOne scopes.now meanings.now number result }
+{
+    if let Some(fault) = fault_of(meanings, number) {
+        return Some(fault);
+    }
+    referring_member(scopes, meanings, number, statement)
+}
+
 // A rule that the statement of a number breaks, or one that stands in it.
 fn check(
     scopes: &Scopes,
@@ -30,7 +47,7 @@ fn check(
     requires { HasNumber scopes.now number statement.now }
     ensures { Judges scopes.now meanings.now number result }
 {
-    if let Some(fault) = fault_of(meanings, number) {
+    if let Some(fault) = own_fault(scopes, meanings, number, statement) {
         return Some(fault);
     }
     if is_closed(kind(statement)) {

@@ -54,11 +54,8 @@ pub(crate) fn footings(alloc: Global, scopes: &Scopes) -> Result<Many<Footing>, 
     ensures { IfOk result (AreFootings scopes.now (length scopes.now.located)) }
 {
     let mut footings = Many::new(alloc);
-    for number in 0..usize::MAX {
-        let Some(_) = scopes.statement(number) else {
-            return Ok(footings);
-        };
+    for number in 0..scopes.len() {
         footings.push(rests_on(scopes, number))?;
     }
-    Err(Memory)
+    Ok(footings)
 }

@@ -8,7 +8,9 @@
 //! leafref). A typedef of a union, an identityref or a leafref means what its type means, and types that add
 //! nothing to another share its plan.
 //!
-//! `meanings_of` promises what every type means where none breaks a rule, and else a rule that is broken.
+//! `meanings_of` promises what every type means where none breaks a rule, and else a rule that is broken. One
+//! rule is that no member of a union is a leafref or an instance identifier, through typedefs too: the server
+//! does not have such unions.
 //! `defaults_of` and `leaf_default` promise the nearest default along the typedefs. No call recurses
 //! along a chain of typedefs, and each type is looked at once. The folders of cases/ test it.
 #![tactic(auto)]
@@ -22,6 +24,7 @@ mod features;
 mod footing;
 mod found;
 mod laws;
+mod member;
 mod over;
 mod planned;
 mod table;

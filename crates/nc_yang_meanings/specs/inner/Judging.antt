@@ -1,16 +1,58 @@
 -- What an answer says of the statement of a number and of those in it.
-use Rattle.std.specs.Prelude.{◌≡◌, ℕ, Bool, List, Option, Some, None, slice_get, MatchOption}
+use Rattle.std.specs.Prelude.{◌≡◌, ℕ, ◌&&◌, Bool, true, false, List, Option, Some, None, slice_get, MatchOption}
+use Rattle.std.specs.Option.{option_map_or}
+use Rattle.nc_yang_words.specs.declared.statement.Statement.{Statement}
+use Rattle.nc_yang_statements.specs.declared.built_in.BuiltIn.{BuiltIn}
+use Rattle.nc_yang_statements.specs.declared.built_in.BuiltIn.TheVariants.{Union}
+use Rattle.nc_yang_statements.specs.declared.keyword.Keyword.TheVariants.{TypeName}
+use Rattle.nc_yang_statements.specs.BuiltIns.{built_in_of}
+use Rattle.nc_yang_statements.specs.Keywords.{is_same_keyword}
+use Rattle.nc_yang_statements.specs.Statements.{kind, name}
 use Rattle.nc_yang_statements.specs.declared.fault.Fault.{Fault}
 use Rattle.nc_yang_scopes.specs.Scopes.{Located, Scoping}
-use Rattle.nc_yang_meanings.specs.Faults.{BreaksType, BreaksTypes}
+use Rattle.nc_yang_meanings.specs.Faults.{BreaksOne, BreaksType, BreaksTypes, RefersInUnion, is_reference}
 use Rattle.nc_yang_meanings.specs.Plans.{AreMeanings}
 use Rattle.nc_yang_meanings.specs.declared.planned.Finding.{Finding}
-use Rattle.nc_yang_meanings.specs.declared.planned.Finding.TheVariants.{Broken}
+use Rattle.nc_yang_meanings.specs.declared.planned.Finding.TheVariants.{Broken, Plan}
 use Rattle.nc_yang_meanings.specs.declared.planned.Meanings.{Meanings}
+use Rattle.nc_yang_meanings.specs.declared.planned.Planned.{Planned}
+use Rattle.nc_yang_meanings.specs.inner.Planning.{shape_of}
 
 abbrev pub fault_in : Option Finding → Option Fault
 fault_in (Some (Broken fault)) = Some fault
 fault_in finding = None
+
+-- what was found of a statement refers to other data
+abbrev pub refers_by : List Planned → Option Finding → Bool
+refers_by plans (Some (Plan place)) = option_map_or (λ p. is_reference (shape_of p)) (slice_get plans place) false
+refers_by plans finding = false
+
+abbrev pub refers_at : Meanings → ℕ → Bool
+refers_at meanings number = refers_by meanings.plans (slice_get meanings.findings number)
+
+-- the statement of a number is a `type` statement that does
+abbrev pub is_referring : Meanings → ℕ → Statement → Bool
+is_referring meanings number s = is_same_keyword TypeName (kind s) && refers_at meanings number
+
+-- the built-in type is a union
+abbrev pub is_union_type : Option BuiltIn → Bool
+is_union_type (Some Union) = true
+is_union_type one = false
+
+abbrev pub is_union : Statement → Bool
+is_union s = is_same_keyword TypeName (kind s) && is_union_type (built_in_of (name s))
+
+-- a member of the union of a number that refers to other data, or that there is none
+abbrev pub JudgesMembers : Scoping → Meanings → ℕ → Option Fault → Type 0
+JudgesMembers scoping meanings number result =
+    (on : ℕ → List ℕ → Bool) → AreMeanings on scoping meanings → (l : Located) → slice_get scoping.located number ≡ Some l →
+    MatchOption result ((fault : Fault) → RefersInUnion on scoping.texts l fault → ⊥) (RefersInUnion on scoping.texts l)
+
+-- what is wrong with the statement of a number by itself, or that nothing is
+abbrev pub JudgesOne : Scoping → Meanings → ℕ → Option Fault → Type 0
+JudgesOne scoping meanings number result =
+    (on : ℕ → List ℕ → Bool) → AreMeanings on scoping meanings → (l : Located) → slice_get scoping.located number ≡ Some l →
+    MatchOption result ((fault : Fault) → BreaksOne on scoping.texts l fault → ⊥) (BreaksOne on scoping.texts l)
 
 -- what is wrong with the statement of a number or in it, or that nothing is
 abbrev pub Judges : Scoping → Meanings → ℕ → Option Fault → Type 0

@@ -7,12 +7,12 @@ use Rattle.nc_yang_meanings.proofs.check.+check.Goals as goal
 
 pub returns-in-Some : goal.returns-in-Some
 returns-in-Some t c = λ on are l here.
-    fault_here c.args.scopes.now c.args.meanings.now c.args.number c.args.statement.now c.requires on are l here c.in-Some.fault c.in-Some.ensures
+    fault_here c.args.scopes.now c.args.meanings.now c.args.number c.args.statement.now c.requires on are l here c.in-Some.fault (c.in-Some.ensures on are l here)
 
 pub returns-then-is_closed : goal.returns-then-is_closed
 returns-then-is_closed t c = λ on are l here fault.
     let shut : is_closed (kind c.args.statement.now) ≡ true = sym (c.if-is_closed.ensures ∙ ap is_closed c.kind.ensures) in
-    faultless_closed c.args.scopes.now c.args.meanings.now c.args.number c.args.statement.now c.requires on are l here fault c.in_default.ensures shut
+    faultless_closed c.args.scopes.now c.args.meanings.now c.args.number c.args.statement.now c.requires on are l here fault (c.in_default.ensures on are l here) shut
 
 pub returns-in-Some-check : goal.returns-in-Some-check
 returns-in-Some-check t c = λ on are l here.
@@ -29,4 +29,4 @@ loop-place-preserved t c = λ on are l here.
 pub returns : goal.returns
 returns t c = λ on are l here fault.
     faultless_all c.args.scopes.now c.args.meanings.now c.args.number c.args.statement.now c.requires on are l here c.as_slice-among.result.now c.as_slice-among.ensures
-    c.loop-place.place fault c.in_default.ensures c.loop-place-test.false (c.loop-place.invariant on are l here)
+    c.loop-place.place fault (c.in_default.ensures on are l here) c.loop-place-test.false (c.loop-place.invariant on are l here)

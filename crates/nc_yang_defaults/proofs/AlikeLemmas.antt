@@ -1,6 +1,6 @@
 -- Schemas that are one but for the numbers of types: where their types take texts alike, they have the same defaults.
 use Rattle.std.proofs.Common.{◌≡◌, ◌&&◌, ◌||◌, ◌==◌, not, cond, ℕ, zero, suc, Bool, true, false, List, [], ◌∷◌, length, map, refl, sym, ap, ◌∙◌, subst, arith}
-use Rattle.std.specs.Prelude.{◌<◌, pos, Option, Some, None, IfSome, option_and_then, slice_get, Contains}
+use Rattle.std.specs.Prelude.{◌<◌, pos, Option, Some, None, option_and_then, slice_get}
 use Rattle.std.specs.List.{list_any}
 use Rattle.std.proofs.lemmas.Option.{slice_get_within}
 use Rattle.nc_names.specs.declared.name.Bound.{Bound}
@@ -23,7 +23,7 @@ use Rattle.nc_yang_scopes.specs.Prefixes.{prefixes_in}
 use Rattle.nc_yang_scopes.specs.Scopes.{Located, Scoping}
 use Rattle.nc_yang_scopes.specs.declared.naming.TextFault.{TextFault}
 use Rattle.nc_yang_nodes.specs.declared.planned.Plan.{Plan}
-use Rattle.nc_yang_defaults.specs.Defaults.{AreDefaultsOf, BreaksAt, BreaksDefault, HasDefaults, KeepsDefaults, StopsAt}
+use Rattle.nc_yang_defaults.specs.Defaults.{AreDefaultsOf, BreaksAt, BreaksDefault, HasDefaults, IsBroken, KeepsDefaults, StopsAt}
 use Rattle.nc_yang_defaults.specs.Readings.{has_whole, is_other_base, value_of}
 use Rattle.nc_yang_defaults.specs.Sources.{AreSources, BringsTo, Defined, brought, nothing, own}
 use Rattle.nc_yang_defaults.proofs.BareLemmas.{bare_by, identity_same, instance_same, key_above_same, key_nodes_same, node_instance_same}
@@ -163,7 +163,8 @@ stops_alike texts t u n ls default same s = record {
   cut = s.cut;
   earlier = s.earlier;
   values = record { read = ap (λ f. map f s.before) same ∙ s.values.read; apart = s.values.apart };
-  broken = subst (λ f. IfSome (f default) (Contains s.earlier)) (sym same) s.broken;
+  why = s.why;
+  broken = subst (λ f. IsBroken s.earlier (f default) s.why) (sym same) s.broken;
 }
 
 -- where the defaults of a schema keep their rules, they break none in one that differs in its types alone, which give the

@@ -1,6 +1,6 @@
 -- The defaults of data nodes.
 use Rattle.std.proofs.Common.{inl, inr, ◌≡◌, ◌≢◌, ◌<◌, ◌≤◌, ◌+◌, ◌⊎◌, ℕ, List, [], ◌∷◌, ◌++◌, length, map, refl, sym, ap, ◌∙◌, subst, arith}
-use Rattle.std.specs.Prelude.{Option, Some, None, IsSome, IfSome, Result, slice_get, Contains, option_and_then}
+use Rattle.std.specs.Prelude.{Option, Some, None, IsSome, Result, slice_get, Contains, option_and_then}
 use Rattle.std.specs.List.{AllPairs}
 use Rattle.std.proofs.lemmas.Bool.{cases_lt}
 use Rattle.std.proofs.lemmas.List.{length-append}
@@ -17,11 +17,12 @@ use Rattle.nc_yang_nodes.specs.Plans.{statement_of}
 use Rattle.nc_yang_scopes.specs.Numbers.{AreNumbers, OnNumber}
 use Rattle.nc_yang_statements.specs.declared.stop.Stop.{Stop}
 use Rattle.nc_yang_statements.specs.declared.stop.Stop.TheVariants.{Broken, Memory as NoMemory}
-use Rattle.nc_yang_defaults.specs.Defaults.{AreDefaultsOf, AreValues, BreaksAt, BreaksDefault, bad_argument, blamed}
+use Rattle.nc_yang_defaults.specs.Defaults.{AreDefaultsOf, AreValues, BreaksAt, BreaksDefault, IsBroken, bad_default, blamed}
 use Rattle.nc_yang_statements.specs.Stops.{OnBroken}
 use Rattle.nc_yang_defaults.specs.Readings.{value_of}
 use Rattle.nc_yang_defaults.specs.Sources.{AreSources, Defined, IsDefined, brought, nothing, own, own_of}
 use Rattle.nc_yang_defaults.specs.Typed.{IsTyped}
+use Rattle.nc_yang_defaults.specs.declared.values.BadDefault.{BadDefault}
 use Rattle.nc_yang_defaults.specs.inner.Reading.{AreFound, FindsDefaults, IsBrought, IsFault, IsStop, MeansIt, defined}
 use Rattle.nc_yang_defaults.proofs.ListLemmas.{get_there, map_some_same, never_again, read_cut}
 use Rattle.nc_yang_defaults.proofs.SourceLemmas.{one_sources}
@@ -33,7 +34,7 @@ good_not_bad texts tables d values default good bad =
     let same : good.sources ≡ s.before ++ default ∷ s.after = one_sources texts d good.sources bad.sources good.are bad.are ∙ s.cut in
     let c = read_cut (value_of texts tables d.number) s.before s.after default values (ap (map (value_of texts tables d.number)) (sym same) ∙ good.read.read) in
     let front : s.earlier ≡ c.front = map_some_same s.earlier c.front (sym s.values.read ∙ c.read) in
-    let again : Contains s.earlier c.value = subst (λ o. IfSome o (Contains s.earlier)) c.is s.broken in
+    let again : Contains s.earlier c.value = (subst (λ o. IsBroken s.earlier o s.why) c.is s.broken).0 in
     never_again c.front c.back c.value (subst (AllPairs (λ one later. one ≢ later)) c.cut good.read.apart) (subst (λ z. Contains z c.value) front again)
 
 no_numbers : (located : List Located) (numbers : List ℕ) → AreNumbers located numbers [] → numbers ≡ []
@@ -64,11 +65,12 @@ module _ (scoping : Scoping) (tables : Tables) (d : Defined) where
     pub own_good : (values : List (List ℕ)) → AreValues scoping.texts tables d.number (own_of d.node.kind d.statement) values → AreDefaultsOf scoping.texts tables d values
     own_good values v = record { sources = ls; are = own_sources ls numbers some are refl; read = v }
 
-    pub own_bad : (at : ℕ) (fault : TextFault) → IsStop scoping tables d.number (own_of d.node.kind d.statement) at → OnNumber scoping at (λ l. fault ≡ bad_argument l) → IsFault scoping.texts tables d fault
-    own_bad at fault s is = record {
+    pub own_bad : (stop : BadDefault) (fault : TextFault) → IsStop scoping tables d.number (own_of d.node.kind d.statement) stop → OnNumber scoping stop.at (λ l. fault ≡ bad_default stop.why l) →
+        IsFault scoping.texts tables d fault
+    own_bad stop fault s is = record {
       default = s.default;
       breaks = record { sources = ls; are = own_sources ls numbers some are refl; stops = s.stops };
-      is = is s.default s.is ∙ ap bad_argument (sym (own_blamed ls numbers s.default some are));
+      is = is s.default s.is ∙ ap (λ why. bad_default why s.default) s.why ∙ ap (bad_default s.stops.why) (sym (own_blamed ls numbers s.default some are));
     }
 
   -- ---- brought
@@ -85,13 +87,14 @@ module _ (scoping : Scoping) (tables : Tables) (d : Defined) where
     pub brought_good : (number : Option ℕ) (b : IsBrought scoping d number) (values : List (List ℕ)) → AreValues scoping.texts tables d.number (brought_sources number b).sources values → AreDefaultsOf scoping.texts tables d values
     brought_good number b values v = let s = brought_sources number b in record { sources = s.sources; are = s.are; read = v }
 
-    pub brought_bad : (number : Option ℕ) (b : IsBrought scoping d number) (at : ℕ) (fault : TextFault) → IsStop scoping tables d.number (brought_sources number b).sources at → fault ≡ bad_argument d.statement → IsFault scoping.texts tables d fault
+    pub brought_bad : (number : Option ℕ) (b : IsBrought scoping d number) (at : BadDefault) (fault : TextFault) → IsStop scoping tables d.number (brought_sources number b).sources at → fault ≡ bad_default at.why d.statement →
+        IsFault scoping.texts tables d fault
     brought_bad number b at fault stop is =
         let s = brought_sources number b in
         record {
           default = stop.default;
           breaks = record { sources = s.sources; are = s.are; stops = stop.stops };
-          is = is ∙ ap bad_argument (sym (ap (λ z. blamed z d.statement stop.default) none));
+          is = is ∙ ap (λ why. bad_default why d.statement) stop.why ∙ ap (bad_default stop.stops.why) (sym (ap (λ z. blamed z d.statement stop.default) none));
         }
 
 -- ---- by its number

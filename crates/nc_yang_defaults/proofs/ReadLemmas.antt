@@ -1,6 +1,6 @@
 -- The values of `default` statements, one after another.
 use Rattle.std.proofs.Common.{◌≡◌, ◌≢◌, ◌<◌, ◌≤◌, ◌+◌, ◌||◌, cond, ℕ, zero, suc, Bool, true, false, List, [], ◌∷◌, ◌++◌, length, take, map, get_or, refl, sym, ap, ◌∙◌, subst, arith, append_assoc}
-use Rattle.std.specs.Prelude.{Option, Some, None, is_some, slice_get, Contains, IfSome}
+use Rattle.std.specs.Prelude.{Option, Some, None, is_some, slice_get, Contains}
 use Rattle.std.specs.List.{AllPairs, list_any}
 use Rattle.std.proofs.lemmas.List.{length-take-le, map-append, take_all}
 use Rattle.std.proofs.lemmas.List.Folds.{list_any-append}
@@ -12,7 +12,8 @@ use Rattle.nc_yang_scopes.specs.Tables.{either, is_key, number_at, KeepsOneMore}
 use Rattle.nc_yang_scopes.specs.declared.table.Table.{Table}
 use Rattle.nc_yang_scopes.proofs.Lists.{take_next}
 use Rattle.nc_yang_scopes.specs.Numbers.{AreNumbers, OnNumber}
-use Rattle.nc_yang_defaults.specs.Defaults.{AreValues}
+use Rattle.nc_yang_statements.specs.declared.fault.ModuleWhy.TheVariants.{BadArgument, Twice}
+use Rattle.nc_yang_defaults.specs.Defaults.{AreValues, IsBroken}
 use Rattle.nc_yang_defaults.specs.Readings.{value_of}
 use Rattle.nc_yang_defaults.specs.inner.Reading.{AreRead, IsAgain, IsFirstAgain, IsStop}
 use Rattle.nc_yang_defaults.proofs.ListLemmas.{apart_more, contains_any, cut_at, cut_read, get_middle}
@@ -110,7 +111,7 @@ module _ (scoping : Scoping) (tables : Tables) (number : ℕ) (defaults : List L
 
   -- a text stands before it
   pub stop_again : (stop : Option ℕ) (place at : ℕ) (numbers : List ℕ) → AreRead scoping tables number defaults values stop → IsAgain values place →
-      AreNumbers scoping.located numbers defaults → slice_get numbers place ≡ Some at → IsStop scoping tables number defaults at
+      AreNumbers scoping.located numbers defaults → slice_get numbers place ≡ Some at → IsStop scoping tables number defaults (record { at = at; why = Twice })
   stop_again stop place at numbers read again are at_is =
       let f = front_of stop read in
       let c = cut_read (value_of scoping.texts tables number) f.front again.before again.after again.value (f.read ∙ ap (map Some) again.cut) in
@@ -128,16 +129,18 @@ module _ (scoping : Scoping) (tables : Tables) (number : ℕ) (defaults : List L
           cut = cut;
           earlier = again.before;
           values = record { read = c.read; apart = again.apart };
-          broken = subst (λ o. IfSome o (Contains again.before)) (sym c.is) again.again;
+          why = Twice;
+          broken = subst (λ o. IsBroken again.before o Twice) (sym c.is) (again.again, refl);
         };
+        why = refl;
       }
 
   pub stop_again_at : (stop : Option ℕ) (place at : ℕ) (numbers : List ℕ) → place < length numbers → at ≡ get_or numbers place 0 → AreRead scoping tables number defaults values stop → IsAgain values place →
-      AreNumbers scoping.located numbers defaults → IsStop scoping tables number defaults at
+      AreNumbers scoping.located numbers defaults → IsStop scoping tables number defaults (record { at = at; why = Twice })
   stop_again_at stop place at numbers less is read again are = stop_again stop place at numbers read again are (slice_get-get_or numbers place 0 less ∙ ap Some (sym is))
 
   -- a text has no value
-  pub stop_lacks : (stop : ℕ) → AreRead scoping tables number defaults values (Some stop) → IsFirstAgain values None → IsStop scoping tables number defaults stop
+  pub stop_lacks : (stop : ℕ) → AreRead scoping tables number defaults values (Some stop) → IsFirstAgain values None → IsStop scoping tables number defaults (record { at = stop; why = BadArgument })
   stop_lacks stop h apart = record {
     default = h.default;
     is = h.is;
@@ -147,8 +150,10 @@ module _ (scoping : Scoping) (tables : Tables) (number : ℕ) (defaults : List L
       cut = h.cut;
       earlier = values;
       values = record { read = h.read; apart = apart };
-      broken = subst (λ o. IfSome o (Contains values)) (sym h.none) tt;
+      why = BadArgument;
+      broken = subst (λ o. IsBroken values o BadArgument) (sym h.none) refl;
     };
+    why = refl;
   }
 
   pub all_read : AreRead scoping tables number defaults values None → IsFirstAgain values None → AreValues scoping.texts tables number defaults values

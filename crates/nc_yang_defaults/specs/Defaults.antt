@@ -1,10 +1,11 @@
 -- The defaults of the leafs and leaf-lists of a schema (RFC 7950 7.6.1, 7.6.4, 7.7.2, 7.7.4).
-use Rattle.std.specs.Prelude.{◌≡◌, ◌≢◌, ◌<◌, ℕ, List, [], ◌∷◌, ◌++◌, map, length, Some, slice_get, Contains, IfSome}
+use Rattle.std.specs.Prelude.{◌≡◌, ◌≢◌, ◌<◌, ℕ, List, [], ◌∷◌, ◌++◌, map, length, Option, Some, None, slice_get, Contains}
 use Rattle.std.specs.List.{AllPairs}
 use Rattle.nc_schema.specs.Tables.{Tables}
 use Rattle.nc_yang_words.specs.declared.statement.Statement.{Statement}
 use Rattle.nc_yang_statements.specs.Statements.{line}
-use Rattle.nc_yang_statements.specs.declared.fault.ModuleWhy.TheVariants.{BadArgument}
+use Rattle.nc_yang_statements.specs.declared.fault.ModuleWhy.{ModuleWhy}
+use Rattle.nc_yang_statements.specs.declared.fault.ModuleWhy.TheVariants.{BadArgument, Twice}
 use Rattle.nc_yang_scopes.specs.Scopes.{Located, Scoping}
 use Rattle.nc_yang_scopes.specs.declared.naming.TextFault.{TextFault}
 use Rattle.nc_yang_nodes.specs.declared.planned.Plan.{Plan}
@@ -24,7 +25,12 @@ pub record AreDefaultsOf (texts : List Statement) (tables : Tables) (d : Defined
   pub are : AreSources texts d sources
   pub read : AreValues texts tables d.number sources values
 
--- of `default` statements this is the first that has no value, or that of one before it
+-- why a `default` statement breaks a rule: it has no value, or that of one before it
+abbrev pub IsBroken : (earlier : List (List ℕ)) → Option (List ℕ) → ModuleWhy → Type 0
+IsBroken earlier None why = why ≡ BadArgument
+IsBroken earlier (Some value) why = Contains earlier value × (why ≡ Twice)
+
+-- of `default` statements this is the first that does
 pub record StopsAt (texts : List Statement) (tables : Tables) (number : ℕ) (defaults : List Located)
     (default : Located) : Type 0 where
   pub before : List Located
@@ -32,7 +38,8 @@ pub record StopsAt (texts : List Statement) (tables : Tables) (number : ℕ) (de
   pub cut : defaults ≡ before ++ default ∷ after
   pub earlier : List (List ℕ)
   pub values : AreValues texts tables number before earlier
-  pub broken : IfSome (value_of texts tables number default) (Contains earlier)
+  pub why : ModuleWhy
+  pub broken : IsBroken earlier (value_of texts tables number default) why
 
 -- those of a data node break a rule there
 pub record BreaksAt (texts : List Statement) (tables : Tables) (d : Defined) (default : Located) : Type 0 where
@@ -40,8 +47,8 @@ pub record BreaksAt (texts : List Statement) (tables : Tables) (d : Defined) (de
   pub are : AreSources texts d sources
   pub stops : StopsAt texts tables d.number sources default
 
-abbrev pub bad_argument : Located → TextFault
-bad_argument l = record { text = l.place.text; fault = record { line = line l.statement; why = BadArgument } }
+abbrev pub bad_default : ModuleWhy → Located → TextFault
+bad_default why l = record { text = l.place.text; fault = record { line = line l.statement; why = why } }
 
 -- the statement that is to blame: a `default` statement of the node's own, or the node that its type's does not suit
 abbrev pub blamed : (own : List Located) → (node default : Located) → Located
@@ -56,7 +63,7 @@ pub record BreaksDefault (scoping : Scoping) (plan : Plan) (tables : Tables) (fa
   pub breaks : BreaksAt scoping.texts tables at default
   pub first : (other : Defined) (d : Located) → IsDefined scoping plan tables other → other.number < at.number
       → BreaksAt scoping.texts tables other d → ⊥
-  pub fault_is : fault ≡ bad_argument (blamed (own_of at.node.kind at.statement) at.statement default)
+  pub fault_is : fault ≡ bad_default breaks.stops.why (blamed (own_of at.node.kind at.statement) at.statement default)
 
 -- those of no data node break a rule
 abbrev pub KeepsDefaults : Scoping → Plan → Tables → Type 0

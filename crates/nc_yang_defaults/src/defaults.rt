@@ -38,9 +38,10 @@ pub fn keep_defaults(
 /// own, or the one that its type brings where no value has to be there (RFC 7950 7.6.1, 7.6.4, 7.7.2, 7.7.4).
 /// `defaults` has for the number of each `type` statement that of the `default` statement which it brings,
 /// and `prefixes` for each text what its prefixes stand for: a default is read with those of the text in
-/// which it is written. Else the answer is a bad argument of the first default that is no value of its type,
-/// that begins with `0` and goes on where it is an integer (RFC 7950 9.2.1), or that is one before it in its
-/// leaf-list: at the `default` statement, or at the leaf to which a type brings it.
+/// which it is written. Else the answer is the first default that breaks a rule: BadArgument where it is no
+/// value of its type, or begins with `0` and goes on where it is an integer (RFC 7950 9.2.1), and Twice where
+/// it is one before it in its leaf-list (RFC 7950 7.7.4); at the `default` statement, or at the leaf to which
+/// a type brings it.
 pub fn with_defaults(
     alloc: Global,
     scopes: &Scopes,

@@ -2,7 +2,7 @@
 ghost use Rattle.std.specs.Prelude.{◌≡◌, ◌≢◌, []};
 ghost use Rattle.nc_yang_meanings.specs.Defaults.{AreDefaults};
 ghost use Rattle.nc_yang_scopes.specs.Numbers.{AreNumbers, OnNumber};
-ghost use Rattle.nc_yang_defaults.specs.Defaults.{bad_argument};
+ghost use Rattle.nc_yang_defaults.specs.Defaults.{bad_default};
 ghost use Rattle.nc_yang_defaults.specs.Sources as sources;
 ghost use Rattle.nc_yang_defaults.specs.Sources.{Defined, IsDefined};
 ghost use Rattle.nc_yang_scopes.specs.Prefixes.{ArePrefixes};
@@ -17,9 +17,9 @@ use nc_yang_scopes::{Scopes, TextFault};
 use nc_yang_statements::{Fault, ModuleWhy, Stop};
 use std::alloc::Global;
 
-// A bad argument of the statement of a number.
-fn bad_argument(scopes: &Scopes, number: usize) -> TextFault
-    ensures { OnNumber scopes.now number (λ l. result ≡ bad_argument l) }
+// A default that breaks a rule for that reason, told at the statement of a number.
+fn bad_default(scopes: &Scopes, number: usize, why: ModuleWhy) -> TextFault
+    ensures { OnNumber scopes.now number (λ l. result ≡ bad_default why l) }
 {
     let text = scopes.text(number).unwrap_or(0);
     let line = match scopes.statement(number) {
@@ -28,10 +28,7 @@ fn bad_argument(scopes: &Scopes, number: usize) -> TextFault
     };
     TextFault {
         text,
-        fault: Fault {
-            line,
-            why: ModuleWhy::BadArgument,
-        },
+        fault: Fault { line, why },
     }
 }
 
@@ -53,7 +50,7 @@ fn by_own(
 {
     match values_of(alloc, scopes, prefixes, schema, number, own) {
         Ok(values) => Ok(values),
-        Err(Stop::Broken(at)) => Err(Stop::Broken(bad_argument(scopes, at))),
+        Err(Stop::Broken(stop)) => Err(Stop::Broken(bad_default(scopes, stop.at, stop.why))),
         Err(Stop::Memory) => Err(Stop::Memory),
     }
 }
@@ -78,7 +75,7 @@ fn by_type(
     let found = list_of(alloc, brought(scopes, defaults, number, node, statement))?;
     match values_of(alloc, scopes, prefixes, schema, number, found.as_slice()) {
         Ok(values) => Ok(values),
-        Err(Stop::Broken(_)) => Err(Stop::Broken(bad_argument(scopes, statement))),
+        Err(Stop::Broken(stop)) => Err(Stop::Broken(bad_default(scopes, statement, stop.why))),
         Err(Stop::Memory) => Err(Stop::Memory),
     }
 }

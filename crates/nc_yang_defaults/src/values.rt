@@ -9,7 +9,7 @@ use crate::value::value;
 use nc_names::{Bound, Many, Memory, Text};
 use nc_schema::Schema;
 use nc_yang_scopes::{Scopes, Table};
-use nc_yang_statements::Stop;
+use nc_yang_statements::{ModuleWhy, Stop};
 use std::alloc::Global;
 
 // The values of the `default` statements of these numbers up to the first that has none, and its number.
@@ -51,6 +51,15 @@ fn first_again(alloc: Global, values: &[Text]) -> Result<Option<usize>, Memory>
     Ok(None)
 }
 
+/// A `default` statement that breaks a rule.
+#[derive(Clone, Copy, Debug, PartialEq, Eq)]
+pub(crate) struct BadDefault {
+    /// Its number in the `Scopes`.
+    pub at: usize,
+    /// Why: it has no value of the type, or that of one before it (RFC 7950 7.7.4).
+    pub why: ModuleWhy,
+}
+
 /// The values at a data node of the `default` statements of these numbers, or the first that breaks a rule.
 pub(crate) fn values_of(
     alloc: Global,
@@ -59,16 +68,22 @@ pub(crate) fn values_of(
     schema: &Schema,
     number: u32,
     defaults: &[usize],
-) -> Result<Many<Text>, Stop<usize>>
+) -> Result<Many<Text>, Stop<BadDefault>>
     ensures { ArePrefixes scopes.now.texts prefixes.now →
         FindsValues scopes.now schema.now number defaults.now result }
 {
     let (values, stop) = read_all(alloc, scopes, prefixes, schema, number, defaults)?;
     if let Some(place) = first_again(alloc, values.as_slice())? {
-        return Err(Stop::Broken(defaults[place]));
+        return Err(Stop::Broken(BadDefault {
+            at: defaults[place],
+            why: ModuleWhy::Twice,
+        }));
     }
     match stop {
-        Some(at) => Err(Stop::Broken(at)),
+        Some(at) => Err(Stop::Broken(BadDefault {
+            at,
+            why: ModuleWhy::BadArgument,
+        })),
         None => Ok(values),
     }
 }

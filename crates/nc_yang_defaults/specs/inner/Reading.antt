@@ -12,8 +12,9 @@ use Rattle.nc_yang_scopes.specs.declared.naming.TextFault.{TextFault}
 use Rattle.nc_yang_nodes.specs.declared.planned.Plan.{Plan}
 use Rattle.nc_yang_scopes.specs.Numbers.{AreNumbers}
 use Rattle.nc_yang_statements.specs.declared.stop.Stop.{Stop}
-use Rattle.nc_yang_defaults.specs.Defaults.{AreDefaultsOf, AreValues, BreaksAt, StopsAt, bad_argument, blamed}
+use Rattle.nc_yang_defaults.specs.Defaults.{AreDefaultsOf, AreValues, BreaksAt, StopsAt, bad_default, blamed}
 use Rattle.nc_yang_statements.specs.Stops.{OnBroken}
+use Rattle.nc_yang_defaults.specs.declared.values.BadDefault.{BadDefault}
 use Rattle.nc_yang_defaults.specs.Readings.{value_of}
 use Rattle.nc_yang_defaults.specs.Sources.{BringsTo, Defined, IsDefined, own_of}
 use Rattle.nc_yang_defaults.specs.Typed.{HasMeaning}
@@ -55,15 +56,16 @@ abbrev pub IsFirstAgain : List (List ℕ) → Option ℕ → Type 0
 IsFirstAgain values None = AllPairs (λ one later. one ≢ later) values
 IsFirstAgain values (Some place) = IsAgain values place
 
--- the statement of a number is the first that breaks a rule
+-- the statement of a number is the first that breaks a rule, for that reason
 pub record IsStop (scoping : Scoping) (tables : Tables) (number : ℕ) (defaults : List Located)
-    (stop : ℕ) : Type 0 where
+    (stop : BadDefault) : Type 0 where
   pub default : Located
-  pub is : slice_get scoping.located stop ≡ Some default
+  pub is : slice_get scoping.located stop.at ≡ Some default
   pub stops : StopsAt scoping.texts tables number defaults default
+  pub why : stop.why ≡ stops.why
 
 -- what is found of `default` statements that have these numbers
-abbrev pub FindsValues : Scoping → Tables → ℕ → List ℕ → Result (List (List ℕ)) (Stop ℕ) → Type 0
+abbrev pub FindsValues : Scoping → Tables → ℕ → List ℕ → Result (List (List ℕ)) (Stop BadDefault) → Type 0
 FindsValues scoping tables number numbers result =
     (defaults : List Located) → AreNumbers scoping.located numbers defaults → MatchResult result
     (AreValues scoping.texts tables number defaults) (OnBroken (IsStop scoping tables number defaults))
@@ -78,7 +80,7 @@ IsBrought scoping d (Some number) =
 pub record IsFault (texts : List Statement) (tables : Tables) (d : Defined) (fault : TextFault) : Type 0 where
   pub default : Located
   pub breaks : BreaksAt texts tables d default
-  pub is : fault ≡ bad_argument (blamed (own_of d.node.kind d.statement) d.statement default)
+  pub is : fault ≡ bad_default breaks.stops.why (blamed (own_of d.node.kind d.statement) d.statement default)
 
 abbrev pub defined : ℕ → Node → Located → Defined
 defined number node l = record { number = number; node = node; statement = l }

@@ -12,6 +12,6 @@ returns-in-Ok c = λ are l here some numbers.
 
 pub returns-in-Err-Broken : goal.returns-in-Err-Broken
 returns-in-Err-Broken c = λ are l here some numbers.
-    own_bad c.args.scopes.now c.args.schema.now (defined c.args.number c.args.node.now l) c.args.own.now some numbers c.in-Err-Broken.at c.bad_argument.result
+    own_bad c.args.scopes.now c.args.schema.now (defined c.args.number c.args.node.now l) c.args.own.now some numbers c.in-Err-Broken.stop c.bad_default.result
     (subst (OnBroken (IsStop c.args.scopes.now c.args.schema.now c.args.number (own_of c.args.node.now.kind l))) c.in-Err-Broken.field-0-is (c.in-Err-Broken.ensures are (own_of c.args.node.now.kind l) numbers))
-    c.bad_argument.ensures
+    c.bad_default.ensures

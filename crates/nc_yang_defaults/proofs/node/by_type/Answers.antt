@@ -18,7 +18,7 @@ returns-in-Err-Broken c = λ are l here none means.
     let d = defined c.args.number c.args.node.now l in
     let b = c.brought.ensures l here none means in
     let s = brought_sources c.args.scopes.now c.args.schema.now d none c.brought.result b in
-    brought_bad c.args.scopes.now c.args.schema.now d none c.brought.result b _ c.bad_argument.result
+    brought_bad c.args.scopes.now c.args.schema.now d none c.brought.result b c.in-Err-Broken.stop c.bad_default.result
     (subst (OnBroken (IsStop c.args.scopes.now c.args.schema.now c.args.number s.sources)) c.in-Err-Broken.field-0-is
     (c.in-Err-Broken.ensures are s.sources (subst (λ z. AreNumbers c.args.scopes.now.located z s.sources) (sym (c.as_slice.ensures ∙ c.in_ok-found.ensures)) s.numbers)))
-    (c.bad_argument.ensures l here)
+    (c.bad_default.ensures l here)

@@ -125,7 +125,7 @@ type_open s keyword = ap is_closed (sym (same_keyword TypeName (kind s) keyword)
 
 module _ (on : ℕ → List ℕ → Bool) (texts : List Statement) (keeps : KeepsTexts texts) (types : KeepsTypes on texts) where
   no_breaks : (l : Located) → Looked texts l → (fault : Fault) → Breaks on texts l fault → ⊥
-  no_breaks l k fault breaks = types k.text fault (record { top = k.top; is = k.is_top; breaks = record { statement = l; stands = k.stands; breaks = breaks } })
+  no_breaks l k fault breaks = types k.text fault (record { top = k.top; is = k.is_top; breaks = record { statement = l; stands = k.stands; breaks = inl breaks } })
 
   over_built_in : (l : Located) → Looked texts l → is_type l.statement → (one : BuiltIn) → built_in_of (name l.statement) ≡ Some one →
       ((place : ℕ) (s : Statement) → slice_get (below l.statement) place ≡ Some s → is_type s → MeansWhole on texts (put l s)) → MeansWhole on texts l

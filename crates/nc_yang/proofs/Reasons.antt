@@ -1,11 +1,12 @@
 -- No rule of modules is that a pattern was refused.
-use Rattle.std.proofs.Common.{◌≡◌, ℕ, Bool, true, false, cond, List, inl, inr, refl, sym, subst}
+use Rattle.std.proofs.Common.{◌≡◌, ℕ, Bool, true, false, cond, List, inl, inr, refl, sym, ap, subst}
 use Rattle.std.specs.Prelude.{Option, Some, None, option_map, Result, Ok, Err, IfErr, MatchResult}
 use Rattle.std.proofs.lemmas.List.Elements.{All-contains}
 use Rattle.nc_patterns.specs.Makers.{Rose}
 use Rattle.nc_schema.specs.Tables.{Tables}
 use Rattle.nc_yang_words.specs.declared.statement.Statement.{Statement}
 use Rattle.nc_yang_statements.specs.declared.fault.Fault.{Fault}
+use Rattle.nc_yang_statements.specs.declared.fault.ModuleWhy.{ModuleWhy}
 use Rattle.nc_yang_statements.specs.declared.fault.ModuleWhy.TheVariants.{PatternRefused}
 use Rattle.nc_yang_statements.specs.Statements.{below}
 use Rattle.nc_yang_scopes.specs.Scopes.{Located, Scoping}
@@ -18,18 +19,25 @@ use Rattle.nc_yang_nodes.specs.Roles.{FeatureTest}
 use Rattle.nc_yang_nodes.specs.declared.planned.Plan.{Plan}
 use Rattle.nc_yang_data.specs.Data.{data_faults}
 use Rattle.nc_yang_types.specs.Entries.{narrowed_faults, own_faults}
+use Rattle.nc_yang_meanings.specs.Faults.{BreaksOne}
 use Rattle.nc_yang_meanings.specs.Meanings.{Breaks as BreaksParts, in_itself, over_base, shape}
 use Rattle.nc_yang_leafs.specs.Bases.{type_of}
 use Rattle.nc_yang_leafs.specs.Patterns.{Refusals, without_patterns}
+use Rattle.nc_yang_defaults.specs.Defaults.{IsBroken}
 use Rattle.nc_yang.specs.Access.{in_file}
 use Rattle.nc_yang.specs.Depths.{is_too_deep, too_deep_at}
 use Rattle.nc_yang.specs.Schemas.{Breaks, BreaksPlan, BreaksSchema, Defines, GivesNone, by_pattern, circle, deep, default, ill_typed, in_place, in_plan, in_schema, leafref, past, text, unread}
-use Rattle.nc_yang.proofs.TextReasons.{OfRule, OfTextRule, no_refusal, of_text, of_unread}
+use Rattle.nc_yang.proofs.TextReasons.{OfRule, OfTextRule, is_of_rule, no_refusal, of_text, of_unread}
 use Rattle.nc_yang.proofs.TypeReasons.{of_data, of_narrowed, of_own}
 
 of_parts : (on : ℕ → List ℕ → Bool) (texts : List Statement) (l : Located) (fault : Fault) → BreaksParts on texts l fault → OfRule fault
 of_parts on texts _ _ (in_itself l one fault built here) = All-contains OfRule (own_faults one l.statement) fault (of_own one l.statement) here
 of_parts on texts _ _ (over_base l base n fault is means here) = All-contains OfRule (narrowed_faults (shape n) (below l.statement)) fault (of_narrowed (shape n) (below l.statement)) here
+
+-- or by what a member of it means
+of_one : (on : ℕ → List ℕ → Bool) (texts : List Statement) (l : Located) (fault : Fault) → BreaksOne on texts l fault → OfRule fault
+of_one on texts l fault (inl breaks) = of_parts on texts l fault breaks
+of_one on texts l fault (inr refers) = subst OfRule (sym refers.at) refl
 
 -- a value that is read through too many types
 of_depth : (b : Bool) (o : Option Located) (found : TextFault) → cond b (option_map too_deep_at o) None ≡ Some found → OfTextRule found
@@ -37,16 +45,21 @@ of_depth false o found e = absurd (cc)
 of_depth true None found e = absurd (cc)
 of_depth true (Some l) found e = let same : too_deep_at l ≡ found = cc in subst OfTextRule same refl
 
+-- a default without a value, or with that of one before it
+of_default : (earlier : List (List ℕ)) (value : Option (List ℕ)) (why : ModuleWhy) → IsBroken earlier value why → is_of_rule why ≡ true
+of_default earlier None why is = ap is_of_rule is
+of_default earlier (Some value) why is = ap is_of_rule is.1
+
 of_plan : (scoping : Scoping) (on : FeatureTest) (plan : Plan) (found : TextFault) → BreaksPlan scoping on plan found → OfTextRule found
 of_plan scoping on plan _ (in_place found here) = All-contains OfTextRule (data_faults scoping on plan) found (of_data scoping on plan) here
 of_plan scoping on plan _ (circle found kept breaks) = subst OfTextRule (sym breaks.at) refl
 of_plan scoping on plan _ (leafref found kept breaks) = subst OfTextRule (sym breaks.at) refl
 of_plan scoping on plan _ (deep found typed kept straight types breaks) = of_depth (is_too_deep (without_patterns typed) breaks.0) (type_of scoping plan breaks.0) found breaks.1
-of_plan scoping on plan _ (default found typed kept straight types breaks) = subst OfTextRule (sym breaks.fault_is) refl
-of_plan scoping on plan _ (by_pattern found typed is breaks) = subst OfTextRule (sym breaks.fault_is) refl
+of_plan scoping on plan _ (default found typed kept straight types breaks) = subst OfTextRule (sym breaks.fault_is) (of_default breaks.breaks.stops.earlier _ breaks.breaks.stops.why breaks.breaks.stops.broken)
+of_plan scoping on plan _ (by_pattern found typed is breaks) = subst OfTextRule (sym breaks.fault_is) (of_default breaks.breaks.stops.earlier _ breaks.breaks.stops.why breaks.breaks.stops.broken)
 
 of_schema : (scoping : Scoping) (on : FeatureTest) (found : TextFault) → BreaksSchema scoping on found → OfTextRule found
-of_schema scoping on _ (ill_typed found breaks) = of_parts _ scoping.texts breaks.breaks.statement found.fault breaks.breaks.breaks
+of_schema scoping on _ (ill_typed found breaks) = of_one _ scoping.texts breaks.breaks.statement found.fault breaks.breaks.breaks
 of_schema scoping on _ (past found first) = subst OfTextRule (sym first.at) refl
 of_schema scoping on _ (in_plan plan found types planned breaks) = of_plan scoping on plan found breaks
 

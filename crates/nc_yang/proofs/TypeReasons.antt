@@ -1,5 +1,5 @@
 -- No rule of data nodes and types is that a pattern was refused.
-use Rattle.std.proofs.Common.{◌++◌, ◌+◌, ◌&&◌, ◌||◌, ℕ, ℤ, true, false, not, cond, List, [], ◌∷◌, Option, Some, None, refl}
+use Rattle.std.proofs.Common.{◌≡◌, ◌++◌, ◌+◌, ◌&&◌, ◌||◌, ℕ, ℤ, true, false, not, cond, List, [], ◌∷◌, Option, Some, None, refl}
 use Rattle.std.specs.Prelude.{Ok, Err, is_some, map, slice_get}
 use Rattle.std.specs.Option.{option_map_or}
 use Rattle.std.specs.List.{All}
@@ -35,13 +35,13 @@ use Rattle.nc_yang_data.specs.Lists.{has_again, has_none, key_faults, keyless, l
 use Rattle.nc_yang_data.specs.Places.{faults_at, faults_from, in_text, is_astray, is_twin, node_faults}
 use Rattle.nc_yang_data.specs.declared.naming.Naming.TheVariants.{Keys, Uniques}
 use Rattle.nc_yang_types.specs.Entries.{decimals, digits_of, ill_digits, ill_digits_by, integers, lengths, misnarrowed, misread, misread_by, misread_units, misused, narrowed_faults, own_faults}
-use Rattle.nc_yang_types.specs.Members.{at_number, has_name, ill_listed, is_member, is_unfit, misnumbered, numbered, numbering, number_word, renamed, with_number}
+use Rattle.nc_yang_types.specs.Members.{at_number, has_name, ill_listed, is_member, is_unfit, misnumbered, numbered, numbering, number_word, renamed, why_unfit, with_number}
 use Rattle.nc_yang_types.specs.Parts.{chooses, foreign, foreign_over, lacking, lacking_part, misshapen, narrows, needs, takes, why_foreign, why_foreign_over}
 use Rattle.nc_yang_types.specs.Patterns.{ill_patterns, why_ill, why_unread}
 use Rattle.nc_yang_types.specs.Ranges.{restriction}
 use Rattle.nc_yang_types.specs.declared.bound.Counted.{Counted}
 use Rattle.nc_yang_types.specs.declared.bound.Counted.TheVariants.{Lengths, Units}
-use Rattle.nc_yang.proofs.TextReasons.{OfRule, OfTextRule, WhyOfRule, all_flat, all_one, by_option, either, of_at, of_at_if}
+use Rattle.nc_yang.proofs.TextReasons.{OfRule, OfTextRule, WhyOfRule, all_flat, all_one, by_option, either, is_of_rule, of_at, of_at_if}
 
 -- keys and `unique` leafs
 of_keys : (s : Statement) (o : Option (List ℕ)) → All OfRule (key_faults s o)
@@ -172,11 +172,17 @@ of_renamed listed before (s ∷ ss) =
     All-append OfRule (at_if (is_member listed s && has_name listed (name s) before) s Twice) (renamed listed (before ++ s ∷ []) ss)
     (of_at_if (is_member listed s && has_name listed (name s) before) s Twice refl) (of_renamed listed (before ++ s ∷ []) ss)
 
+of_unfit : (given : Option Statement) (number : Option ℤ) → is_of_rule (why_unfit given number) ≡ true
+of_unfit given (Some n) = refl
+of_unfit (Some given) None = refl
+of_unfit None None = refl
+
 of_misnumbered : (listed : _) (before : List ℤ) (ps : List (Statement × Option ℤ)) → All OfRule (misnumbered listed before ps)
 of_misnumbered listed before [] = All-nil OfRule
 of_misnumbered listed before (p ∷ ps) =
-    All-append OfRule (at_number listed p.0 (is_unfit before p.1)) (misnumbered listed (with_number before p.1) ps)
-    (of_at_if (is_unfit before p.1) (numbering listed p.0 (part (number_word listed) (below p.0))) BadArgument refl) (of_misnumbered listed (with_number before p.1) ps)
+    let given = part (number_word listed) (below p.0) in
+    All-append OfRule (at_number listed p.0 (is_unfit before p.1) (why_unfit given p.1)) (misnumbered listed (with_number before p.1) ps)
+    (of_at_if (is_unfit before p.1) (numbering listed p.0 given) (why_unfit given p.1) (of_unfit given p.1)) (of_misnumbered listed (with_number before p.1) ps)
 
 of_listed : (listed : _) (ss : List Statement) → All OfRule (ill_listed listed ss)
 of_listed listed ss =

@@ -1,7 +1,8 @@
 -- Lines that name no feature, over texts that are read and texts that are not.
-use Rattle.std.proofs.Common.{◌≡◌, ◌≢◌, ℕ, true, false, List, [], ◌∷◌, refl, subst, arith}
-use Rattle.std.specs.Prelude.{Option, Some, None, slice_get, IsSomeAnd, MatchOption}
+use Rattle.std.proofs.Common.{◌≡◌, ◌≢◌, ℕ, true, false, List, [], ◌∷◌, length, refl, sym, subst, arith}
+use Rattle.std.specs.Prelude.{◌==◌, Option, Some, None, slice_get, IsSomeAnd, MatchOption}
 use Rattle.std.specs.List.{All}
+use Rattle.std.proofs.lemmas.Bool.Decides.{Decides-eqb}
 use Rattle.nc_yang_statements.specs.declared.fault.Fault.{Fault}
 use Rattle.nc_yang_words.specs.declared.statement.Statement.{Statement}
 use Rattle.nc_yang_texts.specs.Texts.{AreRead, IsUnread}
@@ -12,6 +13,14 @@ use Rattle.nc_yang.specs.Features.{IsFirstOther, IsFirstUnknown, NamesFeature, i
 some_map : {A : Type 0} (P Q : A → Type 0) (found : Option A) → ((x : A) → P x → Q x) → IsSomeAnd found P → IsSomeAnd found Q
 some_map P Q None further is = is
 some_map P Q (Some x) further is = further x is
+
+-- no line names another thing than a feature
+pub none_named : (modules : List ModuleText) (lines : List (List ℕ)) → true ≡ (length lines == 0) → All (NamesFeature modules) lines
+none_named modules [] e = λ k d less. absurd (omega (arith, less))
+none_named modules (line ∷ lines) e = absurd (omega (arith, none))
+  where
+    none : length (line ∷ lines) ≡ 0
+    none = (Decides-eqb (length (line ∷ lines)) 0).0 (sym e)
 
 -- modules that are not read have no feature
 pub none_known : (modules : List ModuleText) (lines : List (List ℕ)) (file : ℕ) (fault : Fault) → IsUnread modules file fault → lines ≢ []

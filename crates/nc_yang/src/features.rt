@@ -82,7 +82,8 @@ fn first_unknown<'a>(scopes: &Scopes<'a>, lines: &'a [Text]) -> Option<usize>
 }
 
 /// The place of the first line that names no feature of the modules, each `module:feature` (RFC 7950 7.20.1),
-/// or `None` where each names one. Modules that cannot be read have none.
+/// or `None` where each names one. Modules that cannot be read have none. Where there is no line, no text is
+/// read.
 pub fn first_unknown_feature(
     alloc: Global,
     modules: &[ModuleText],
@@ -92,12 +93,13 @@ pub fn first_unknown_feature(
         (All (words.NamesFeature modules.now) lines.now)
         (words.IsFirstUnknown modules.now lines.now)) }
 {
+    if lines.is_empty() {
+        return Ok(None);
+    }
     let roots = match read_texts(alloc, modules) {
         Ok(roots) => roots,
         Err(CompileFault::Memory) => return Err(Memory),
-        Err(CompileFault::Module { .. }) => {
-            return Ok(if lines.is_empty() { None } else { Some(0) });
-        }
+        Err(CompileFault::Module { .. }) => return Ok(Some(0)),
     };
     let scopes = Scopes::of(alloc, roots.as_slice())?;
     Ok(first_unknown(&scopes, lines))

@@ -110,9 +110,13 @@ is_version text = is_same_text text (codes "1") || is_same_text text (codes "1.1
 abbrev pub is_boolean : List ℕ → Bool
 is_boolean text = is_true_text text || is_false_text text
 
+-- such a number without a sign, up to a bound
+abbrev pub is_at_most : ℤ → List ℕ → Bool
+is_at_most most text = is_plain text && is_between (pos 0) most text
+
 -- how many entries there have to be, and may be (RFC 7950 7.7.5, 7.7.6)
 abbrev pub is_least : List ℕ → Bool
-is_least text = is_between (pos 0) (pos 18446744073709551615) text
+is_least text = is_at_most (pos 18446744073709551615) text
 
 abbrev pub is_most : List ℕ → Bool
 is_most text = is_unbounded text || is_between (pos 1) (pos 18446744073709551615) text
@@ -147,7 +151,7 @@ abbrev pub suits_number : Keyword → List ℕ → Bool
 suits_number MinElements text = is_least text
 suits_number FractionDigits text = is_between (pos 1) (pos 18) text
 suits_number Value text = is_between (negsuc 2147483647) (pos 2147483647) text
-suits_number Position text = is_between (pos 0) (pos 4294967295) text
+suits_number Position text = is_at_most (pos 4294967295) text
 suits_number keyword text = true
 
 -- the keyword's statement may have this argument

@@ -7,7 +7,7 @@ ghost use Rattle.nc_yang_statements.specs.Arguments as arguments;
 
 use crate::built_in::built_in_of;
 use crate::keyword::is_refused;
-use crate::number::is_between;
+use crate::number::{is_at_most, is_between};
 use crate::path::why_path;
 use crate::{Keyword, ModuleWhy};
 use nc_names::{Text, is_identifier, is_white};
@@ -259,10 +259,10 @@ fn suits_number(keyword: Keyword, text: &str) -> bool
     ensures { result ≡ arguments.suits_number keyword text.now }
 {
     match keyword {
-        Keyword::MinElements => is_between(0, 18_446_744_073_709_551_615, text),
+        Keyword::MinElements => is_at_most(18_446_744_073_709_551_615, text),
         Keyword::FractionDigits => is_between(1, 18, text),
         Keyword::Value => is_between(-2_147_483_648, 2_147_483_647, text),
-        Keyword::Position => is_between(0, 4_294_967_295, text),
+        Keyword::Position => is_at_most(4_294_967_295, text),
         _ => true,
     }
 }

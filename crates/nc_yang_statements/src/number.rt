@@ -46,3 +46,10 @@ pub(crate) fn is_between(least: i128, most: i128, text: &str) -> bool
     };
     least <= found && found <= most && is_plain(without_minus(text.as_bytes()))
 }
+
+/// Whether it is a number without a sign, up to that one.
+pub(crate) fn is_at_most(most: i128, text: &str) -> bool
+    ensures { result ≡ arguments.is_at_most most text.now }
+{
+    is_plain(text.as_bytes()) && is_between(0, most, text)
+}

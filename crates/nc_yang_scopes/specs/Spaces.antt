@@ -1,4 +1,5 @@
--- Spaces of names, in which no two statements of a block have one name (RFC 7950 6.2.1, 7.1.4, 7.1.9).
+-- Spaces of names, in which no two statements of a block have one name (RFC 7950 6.2.1, 7.1.4). Dates of revisions are
+-- none: two revisions may have one.
 use Rattle.std.specs.Prelude.{◌≡◌, ℕ, ◌&&◌, ◌||◌, not, Bool, true, false, if◌then◌else◌, List, [], ◌∷◌, ◌++◌, Option, Some, None, option_map, slice_get, Contains}
 use Rattle.std.specs.List.{flat_map, list_any}
 use Rattle.std.specs.Option.{option_map_or}
@@ -7,15 +8,15 @@ use Rattle.nc_yang_words.specs.declared.statement.Statement.{Statement}
 use Rattle.nc_yang_statements.specs.declared.fault.Fault.{Fault}
 use Rattle.nc_yang_statements.specs.declared.fault.ModuleWhy.TheVariants.{Twice}
 use Rattle.nc_yang_statements.specs.declared.keyword.Keyword.{Keyword}
-use Rattle.nc_yang_statements.specs.declared.keyword.Keyword.TheVariants.{Action, Choice, Container, Feature, Grouping, Identity, Import, Leaf, LeafList, List as ListWord, Module, Notification, Prefix, Revision, Rpc, Typedef}
+use Rattle.nc_yang_statements.specs.declared.keyword.Keyword.TheVariants.{Action, Choice, Container, Feature, Grouping, Identity, Import, Leaf, LeafList, List as ListWord, Module, Notification, Prefix, Rpc, Typedef}
 use Rattle.nc_yang_statements.specs.Keywords.{is_closed, is_same_keyword}
 use Rattle.nc_yang_statements.specs.Statements.{below, kind, name, part}
 use Rattle.nc_yang_statements.specs.Rules.{at_if, is_case}
 use Rattle.nc_yang_scopes.specs.declared.space.Space.{Space}
-use Rattle.nc_yang_scopes.specs.declared.space.Space.TheVariants.{Cases, Features, Groupings, Identities, Nodes, Prefixes, Revisions, Typedefs}
+use Rattle.nc_yang_scopes.specs.declared.space.Space.TheVariants.{Cases, Features, Groupings, Identities, Nodes, Prefixes, Typedefs}
 
 unfoldable pub spaces : List Space
-spaces = Typedefs ∷ Groupings ∷ Identities ∷ Features ∷ Nodes ∷ Cases ∷ Prefixes ∷ Revisions ∷ []
+spaces = Typedefs ∷ Groupings ∷ Identities ∷ Features ∷ Nodes ∷ Cases ∷ Prefixes ∷ []
 
 -- a data node, a choice, an rpc, an action or a notification (RFC 7950 6.2.1)
 abbrev pub is_node : Keyword → Bool
@@ -39,7 +40,6 @@ is_in_space Features above keyword = is_same_keyword Feature keyword
 is_in_space Nodes above keyword = not (is_same_keyword Choice above) && is_node keyword
 is_in_space Cases above keyword = is_same_keyword Choice above && is_case keyword
 is_in_space Prefixes above keyword = is_same_keyword Module above && (is_same_keyword Prefix keyword || is_same_keyword Import keyword)
-is_in_space Revisions above keyword = is_same_keyword Revision keyword
 
 -- the prefix that an import says
 abbrev pub prefix_in : Statement → Option (List ℕ)

@@ -12,7 +12,7 @@ use nc_yang_statements::{Fault, Keyword, ModuleWhy, is_closed, is_same_keyword, 
 use nc_yang_words::Statement;
 use std::alloc::Global;
 
-/// A space of names (RFC 7950 6.2.1, 7.1.4, 7.1.9).
+/// A space of names (RFC 7950 6.2.1, 7.1.4). Dates of revisions are none: two revisions may have one.
 #[derive(Clone, Copy, Debug, PartialEq, Eq)]
 pub enum Space {
     /// The typedefs of a block.
@@ -29,8 +29,6 @@ pub enum Space {
     Cases,
     /// The prefixes of a module: its own and those of its imports.
     Prefixes,
-    /// The dates of the revisions of a module.
-    Revisions,
 }
 
 // All spaces.
@@ -46,7 +44,6 @@ fn spaces() -> &'static [Space]
         Space::Nodes,
         Space::Cases,
         Space::Prefixes,
-        Space::Revisions,
     ]
 }
 
@@ -98,7 +95,6 @@ fn is_in_space(space: Space, above: Keyword, keyword: Keyword) -> bool
                 && (is_same_keyword(Keyword::Prefix, keyword)
                     || is_same_keyword(Keyword::Import, keyword))
         }
-        Space::Revisions => is_same_keyword(Keyword::Revision, keyword),
     }
 }
 
@@ -188,7 +184,7 @@ fn check(alloc: Global, statement: &Statement) -> Result<Option<Fault>, Memory>
 }
 
 /// A statement of a text with a name that one before it in its block has in the same space, or `None` where there
-/// is none (RFC 7950 6.2.1, 7.1.4, 7.1.9). Of several it is the first that is met.
+/// is none (RFC 7950 6.2.1, 7.1.4). Of several it is the first that is met.
 pub fn first_renamed(alloc: Global, root: &Statement) -> Result<Option<Fault>, Memory>
     ensures { IfOk result (λ it. MatchOption it (KeepsSpaces root.now) (BreaksSpaces root.now)) }
 {

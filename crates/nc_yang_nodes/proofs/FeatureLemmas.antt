@@ -1,5 +1,5 @@
 -- The features that are on.
-use Rattle.std.proofs.Common.{◌≡◌, ◌&&◌, ◌||◌, not, ℕ, Bool, true, false, cond, List, refl, ap, ◌∙◌, Bor}
+use Rattle.std.proofs.Common.{◌≡◌, ◌<◌, ◌+◌, ◌&&◌, ◌||◌, not, ℕ, Bool, true, false, cond, List, length, refl, ap, subst, ◌∙◌, arith, Bor}
 use Rattle.std.specs.BTreeSet.{contains}
 use Rattle.std.specs.Cmp.{unsigned_tied}
 use Rattle.std.specs.Cmp.Lexicographic.{slice_cmp}
@@ -8,7 +8,7 @@ use Rattle.std.specs.declared.cmp.Ordering.{Ordering}
 use Rattle.std.specs.declared.cmp.Ordering.TheVariants.{Less, Equal, Greater}
 use Rattle.std.proofs.lemmas.Map.Text.{is_eq-slice_cmp}
 use Rattle.nc_yang_nodes.specs.declared.features.Features.{Features}
-use Rattle.nc_yang_nodes.specs.FeaturesOn.{is_key, is_on, order}
+use Rattle.nc_yang_nodes.specs.FeaturesOn.{is_key, is_on, order, size}
 
 is_eq_then : (a b : Ordering) → is_eq (ordering_then a b) ≡ (is_eq a && is_eq b)
 is_eq_then Less b = refl
@@ -41,3 +41,9 @@ pub one_less : (old new : Features) (text : ℕ) (word : Bor (List ℕ)) →
 one_less old new text word put other name =
     put (other, record { ref_ptr = (0, 0); now = name }) ∙ ap (λ b. cond b false (is_on old other name)) (key_ties text other word.now name)
     ∙ neither (is_key text word.now other name) (is_on old other name)
+
+-- how many are left
+pub one_fewer : (old new : Features) (found : Bool) → length new.names.keys + cond found 1 0 ≡ length old.names.keys → found ≡ true → size new < size old
+one_fewer old new found counted is =
+    let e : length new.names.keys + 1 ≡ length old.names.keys = subst (λ b. length new.names.keys + cond b 1 0 ≡ length old.names.keys) is counted in
+    omega (arith, e)

@@ -1,5 +1,5 @@
 -- The features that are on by those that are given.
-use Rattle.std.proofs.Common.{◌≡◌, ◌<◌, ◌≤◌, ◌+◌, ◌==◌, ◌&&◌, ◌||◌, not, ℕ, Bool, true, false, List, [], ◌∷◌, length, refl, sym, ap, ◌∙◌, arith, zero, suc, inl, inr}
+use Rattle.std.proofs.Common.{◌≡◌, ◌<◌, ◌≤◌, ◌+◌, ◌==◌, ◌&&◌, ◌||◌, not, ℕ, Bool, true, false, List, [], ◌∷◌, length, refl, sym, ap, subst, ◌∙◌, arith, zero, suc, inl, inr}
 use Rattle.std.specs.Prelude.{Option, Some, None, slice_get, option_map}
 use Rattle.std.specs.Option.{option_map_or}
 use Rattle.std.specs.List.{list_all}
@@ -16,7 +16,7 @@ use Rattle.nc_yang_scopes.specs.Scopes.{Located, Scoping, resolved}
 use Rattle.nc_yang_nodes.specs.FeaturesOn.{is_key}
 use Rattle.nc_yang_nodes.specs.Roles.{FeatureTest, children, is_met, is_supported}
 use Rattle.nc_yang_nodes.specs.Supported.{AreAmong, AreOn, AreTogether, is_unsupported}
-use Rattle.nc_yang_nodes.specs.inner.Narrowing.{Keeps, Narrows}
+use Rattle.nc_yang_nodes.specs.inner.Narrowing.{IsOff, Keeps, Narrows}
 use Rattle.nc_yang_nodes.specs.inner.Tables.{allows}
 
 all_more : {A : Type 0} (p q : A → Bool) → ((x : A) → p x ≡ true → q x ≡ true) → (xs : List A) → list_all p xs ≡ true → list_all q xs ≡ true
@@ -104,21 +104,6 @@ are_on scoping given on keeps together = record { among = keeps.among; together 
 abbrev pub TogetherBelow : Scoping → FeatureTest → ℕ → Type 0
 TogetherBelow scoping on count = (number : ℕ) (l : Located) → number < count → slice_get scoping.located number ≡ Some l → is_unsupported scoping.texts on l ≡ false
 
-past_end : {A : Type 0} (xs : List A) (n : ℕ) → slice_get xs n ≡ None → length xs ≤ n
-past_end [] n is = omega arith
-past_end (x ∷ xs) zero is = absurd (cc)
-past_end (x ∷ xs) (suc n) is = let more : length xs ≤ n = past_end xs n is in omega arith
-
-pub together_all : (scoping : Scoping) (on : FeatureTest) (count : ℕ) → None ≡ option_map (λ l. l.statement) (slice_get scoping.located count)
-    → TogetherBelow scoping on count → AreTogether scoping on
-together_all scoping on count end h number l at =
-    let e : slice_get scoping.located count ≡ None = by (slice_get scoping.located count) end in
-    h number l (let a = past_end scoping.located count e in let b = slice_get_within scoping.located number l at in omega (arith, a, b)) at
-  where
-    by : (o : Option Located) → None ≡ option_map (λ (l : Located). l.statement) o → o ≡ None
-    by None z = refl
-    by (Some k) z = absurd (cc)
-
 pub together_more : (scoping : Scoping) (on : FeatureTest) (count : ℕ) → TogetherBelow scoping on count
     → ((l : Located) → slice_get scoping.located count ≡ Some l → is_unsupported scoping.texts on l ≡ false) → TogetherBelow scoping on (count + 1)
 together_more scoping on count h one number l lt at =
@@ -126,6 +111,42 @@ together_more scoping on count h one number l lt at =
       | inl below ↦ h number l below at
       | inr not_below ↦ (let e : number ≡ count = omega arith in one l (ap (slice_get scoping.located) (sym e) ∙ at))
     ]
+
+-- the statement of a number
+pub off_at : (scoping : Scoping) (on : FeatureTest) (number : ℕ) (s : Statement) (result : Bool) → Some s ≡ option_map (λ l. l.statement) (slice_get scoping.located number)
+    → ((l : Located) → slice_get scoping.located number ≡ Some l → result ≡ is_unsupported scoping.texts on l) → result ≡ true → IsOff scoping on number
+off_at scoping on number s result is at h = by (slice_get scoping.located number) refl
+  where
+    by : (o : Option Located) → slice_get scoping.located number ≡ o → IsOff scoping on number
+    by None e = let z : Some s ≡ None = is ∙ ap (option_map (λ (l : Located). l.statement)) e in absurd (cc)
+    by (Some l) e = record { definition = l; is = e; off = sym (at l e) ∙ h }
+
+pub none_off : (scoping : Scoping) (on : FeatureTest) (number : ℕ) → None ≡ option_map (λ l. l.statement) (slice_get scoping.located number)
+    → (l : Located) → slice_get scoping.located number ≡ Some l → is_unsupported scoping.texts on l ≡ false
+none_off scoping on number none l at = let z : None ≡ Some l.statement = none ∙ ap (option_map (λ (l : Located). l.statement)) at in absurd (cc)
+
+pub off_each : (scoping : Scoping) (on : FeatureTest) (number : ℕ) → IsOff scoping on number
+    → (l : Located) → slice_get scoping.located number ≡ Some l → is_unsupported scoping.texts on l ≡ true
+off_each scoping on number off l at =
+    let e : Some off.definition ≡ Some l = sym off.is ∙ at in
+    let same : off.definition ≡ l = cc in
+    subst (λ z. is_unsupported scoping.texts on z ≡ true) same off.off
+
+-- its feature is on
+pub on_there : (scoping : Scoping) (on : FeatureTest) (number text : ℕ) (word : List ℕ) (s : Statement)
+    → Some text ≡ option_map (λ l. l.place.text) (slice_get scoping.located number) → Some s ≡ option_map (λ l. l.statement) (slice_get scoping.located number)
+    → word ≡ name s → IsOff scoping on number → on text word ≡ true
+on_there scoping on number text word s in_text is named off =
+    let d = off.definition in
+    let t : Some text ≡ Some d.place.text = in_text ∙ ap (option_map (λ (l : Located). l.place.text)) off.is in
+    let z : Some s ≡ Some d.statement = is ∙ ap (option_map (λ (l : Located). l.statement)) off.is in
+    let same_text : text ≡ d.place.text = cc in
+    let same : s ≡ d.statement = cc in
+    let here = (parts (is_same_keyword Feature (kind d.statement)) (on d.place.text (name d.statement)) (is_supported scoping.texts on d) off.off).0 in
+    ap (λ z. on z word) same_text ∙ ap (on d.place.text) (named ∙ ap name same) ∙ here
+
+pub together_end : (scoping : Scoping) (on : FeatureTest) (count : ℕ) → length scoping.located ≤ count → TogetherBelow scoping on count → AreTogether scoping on
+together_end scoping on count past h number l at = h number l (let b = slice_get_within scoping.located number l at in omega (arith, b)) at
 
 pub narrows_at : (scoping : Scoping) (on left : FeatureTest) (number text : ℕ) (word : List ℕ) (s : Statement)
     → Some text ≡ option_map (λ l. l.place.text) (slice_get scoping.located number) → Some s ≡ option_map (λ l. l.statement) (slice_get scoping.located number)

@@ -1,5 +1,5 @@
 -- Features that are on, each by the text that defines it and its name (RFC 7950 7.20.1).
-use Rattle.std.specs.Prelude.{ℕ, ◌==◌, ◌&&◌, Bool, List}
+use Rattle.std.specs.Prelude.{length, ℕ, ◌==◌, ◌&&◌, Bool, List}
 use Rattle.std.proofs.Common.{Bor}
 use Rattle.std.specs.BTreeSet.{contains}
 use Rattle.std.specs.Cmp.Lexicographic.{slice_cmp}
@@ -17,3 +17,7 @@ is_on features text word = contains order features.names (text, record { ref_ptr
 
 abbrev pub is_key : ℕ → List ℕ → ℕ → List ℕ → Bool
 is_key text word other name = text == other && is_same_text word name
+
+-- how many are on
+abbrev pub size : Features → ℕ
+size features = length features.names.keys

@@ -7,6 +7,7 @@ use crate::role::Role;
 use crate::table::{Table, child_of};
 use nc_names::{Many, Memory};
 use nc_yang_order::{Ordered, is_within, targets_first};
+use nc_yang_statements::{is_closed, kind};
 use std::alloc::Global;
 
 // Whether a statement gives nothing besides what stands in it or in its grouping.
@@ -93,17 +94,60 @@ impl<'s, 'a> Table<'s, 'a> {
         }
     }
 
-    // For each statement the blocks that are to be known before its own.
+    // No statement stands in one that is passed over.
+    fn none_passed(&self, alloc: Global) -> Result<Many<bool>, Memory> {
+        let mut passed = Many::new(alloc);
+        for _ in self.entries.as_slice() {
+            passed.push(false)?;
+        }
+        Ok(passed)
+    }
+
+    // Whether nothing that stands in the statement of a number is ever taken: it is passed over, or stands in
+    // one that is.
+    fn passes_over(&self, passed: &[bool], number: usize) -> bool {
+        if passed.get(number).copied() == Some(true) {
+            return true;
+        }
+        match self.scopes.statement(number) {
+            Some(statement) => is_closed(kind(statement)),
+            None => false,
+        }
+    }
+
+    // Those that stand directly in the statement of a number stand in one that is passed over.
+    fn pass(&self, passed: &mut Many<bool>, number: usize) {
+        let Some(statement) = self.scopes.statement(number) else {
+            return;
+        };
+        for place in 0..statement.below.len() {
+            if let Some(child) = child_of(self.scopes, number, place) {
+                if child < passed.len() {
+                    passed.set(child, true);
+                }
+            }
+        }
+    }
+
+    // For each statement the blocks that are to be known before its own. A statement has a higher number than
+    // the one in which it stands.
     fn graph(&self, alloc: Global) -> Result<Many<Many<u32>>, Memory> {
+        let mut passed = self.none_passed(alloc)?;
         let mut graph = Many::new(alloc);
         for number in 0..self.entries.len() {
-            graph.push(self.targets(alloc, number)?)?;
+            if self.passes_over(passed.as_slice(), number) {
+                self.pass(&mut passed, number);
+                graph.push(Many::new(alloc))?;
+            } else {
+                graph.push(self.targets(alloc, number)?)?;
+            }
         }
         Ok(graph)
     }
 
-    // The statements in an order in which groupings come before those that use them. Where one leads back to
-    // itself with nothing planned between, no memory would be enough.
+    // The statements in an order in which groupings come before those that use them; what stands in a
+    // statement that is passed over may name itself. Where another leads back to itself with nothing planned
+    // between, no memory would be enough.
     fn order(&self, alloc: Global) -> Result<Many<u32>, Memory> {
         let graph = self.graph(alloc)?;
         if graph.len() > u32::MAX as usize || !is_within(graph.as_slice()) {

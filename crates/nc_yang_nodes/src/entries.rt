@@ -147,12 +147,11 @@ pub(crate) fn entries_of<'a>(
     ensures { IfOk result (tables.AreStored scopes.now (is_on features.now)) }
 {
     let mut entries = Many::new(alloc);
-    for number in 0..usize::MAX {
+    for number in 0..scopes.len() {
         let Some(statement) = scopes.statement(number) else {
             return Ok(entries);
         };
         entries.push(entry_of(scopes, features, number, statement))?;
     }
-    // there are not as many statements
-    Err(Memory)
+    Ok(entries)
 }

@@ -1,6 +1,6 @@
 //! Features that are on.
-ghost use Rattle.std.specs.Prelude.{◌≡◌, ◌||◌, ◌&&◌, not, ℕ, List, false, IfOk};
-ghost use Rattle.nc_yang_nodes.specs.FeaturesOn.{is_on, is_key};
+ghost use Rattle.std.specs.Prelude.{◌≡◌, ◌<◌, ◌||◌, ◌&&◌, not, ℕ, List, true, false, IfOk};
+ghost use Rattle.nc_yang_nodes.specs.FeaturesOn.{is_on, is_key, size};
 
 use nc_names::Memory;
 use std::alloc::Global;
@@ -34,8 +34,9 @@ impl<'a> Features<'a> {
 
     /// Without a feature.
     pub(crate) fn without(self, text: usize, name: &'a str) -> Features<'a>
-        ensures { (other : ℕ) (word : List ℕ) →
+        ensures others { (other : ℕ) (word : List ℕ) →
             is_on result other word ≡ (not (is_key text name.now other word) && is_on self.entry other word) }
+        ensures fewer { is_on self.entry text name.now ≡ true → size result < size self.entry }
     {
         let mut features = self;
         let _ = features.names.remove(&(text, name));

@@ -1,9 +1,9 @@
 //! The features that are on by those that are given.
-ghost use Rattle.std.specs.Prelude.{◌≡◌, true, Some, slice_get, IfOk};
+ghost use Rattle.std.specs.Prelude.{◌≡◌, true, false, Some, slice_get, IfOk, MatchOption};
 ghost use Rattle.nc_yang_scopes.specs.Scopes.{Located};
 ghost use Rattle.nc_yang_nodes.specs.FeaturesOn.{is_on};
 ghost use Rattle.nc_yang_nodes.specs.Supported as words;
-ghost use Rattle.nc_yang_nodes.specs.inner.Narrowing.{Narrows};
+ghost use Rattle.nc_yang_nodes.specs.inner.Narrowing.{IsOff, Narrows, TakesAllOff, TakesOff};
 
 use crate::entries::{is_feature_on, is_supported};
 use crate::features::Features;
@@ -31,32 +31,41 @@ fn is_unsupported<'a>(scopes: &Scopes<'a>, features: &Features<'a>, number: usiz
     !is_supported(scopes, features, number, statement)
 }
 
-// Whether those that the features name are on, too.
-fn are_together<'a>(scopes: &Scopes<'a>, features: &Features<'a>) -> bool
-    ensures { result ≡ true → words.AreTogether scopes.now (is_on features.now) }
+// Whether there is a statement of that number that does so.
+fn is_off<'a>(scopes: &Scopes<'a>, features: &Features<'a>, number: usize) -> bool
+    ensures off { result ≡ true → IsOff scopes.now (is_on features.now) number }
+    ensures kept { result ≡ false → (l : Located) → slice_get scopes.now.located number ≡ Some l
+        → words.is_unsupported scopes.now.texts (is_on features.now) l ≡ false }
 {
-    for number in 0..usize::MAX {
-        if scopes.statement(number).is_none() {
-            return true;
-        }
-        if is_unsupported(scopes, features, number) {
-            return false;
+    match scopes.statement(number) {
+        Some(_) => is_unsupported(scopes, features, number),
+        None => false,
+    }
+}
+
+// The first statement that defines a feature that is on, and names one that is off.
+fn first_unsupported<'a>(scopes: &Scopes<'a>, features: &Features<'a>) -> Option<usize>
+    ensures { MatchOption result (words.AreTogether scopes.now (is_on features.now))
+        (IsOff scopes.now (is_on features.now)) }
+{
+    for number in 0..scopes.len() {
+        if is_off(scopes, features, number) {
+            return Some(number);
         }
     }
-    false
+    None
 }
 
 // Without the feature that the statement of a number defines.
 fn taken_off<'a>(scopes: &Scopes<'a>, features: Features<'a>, number: usize) -> Features<'a>
-    requires { (l : Located) → slice_get scopes.now.located number ≡ Some l
-        → words.is_unsupported scopes.now.texts (is_on features) l ≡ true }
-    ensures { Narrows scopes.now (is_on features.entry) (is_on result) }
+    requires { IsOff scopes.now (is_on features) number }
+    ensures { TakesOff scopes.now features.entry result }
 {
     let Some(text) = scopes.text(number) else {
-        return features;
+        unreachable!();
     };
     let Some(statement) = scopes.statement(number) else {
-        return features;
+        unreachable!();
     };
     features.without(text, name(statement))
 }
@@ -65,7 +74,7 @@ fn taken_off<'a>(scopes: &Scopes<'a>, features: Features<'a>, number: usize) -> 
 fn narrowed<'a>(scopes: &Scopes<'a>, features: Features<'a>, number: usize) -> Features<'a>
     ensures { Narrows scopes.now (is_on features.entry) (is_on result) }
 {
-    if is_unsupported(scopes, &features, number) {
+    if is_off(scopes, &features, number) {
         taken_off(scopes, features, number)
     } else {
         features
@@ -146,8 +155,20 @@ fn order(alloc: Global, scopes: &Scopes) -> Result<Many<u32>, Memory> {
     }
 }
 
+// Those that can be on together: one after another is taken off, until each that they name is on.
+fn together<'a>(scopes: &Scopes<'a>, given: Features<'a>) -> Features<'a>
+    ensures { TakesAllOff scopes.now (is_on given.entry) (is_on result) }
+{
+    let mut features = given;
+    while let Some(number) = first_unsupported(scopes, &features) {
+        features = taken_off(scopes, features, number);
+    }
+    features
+}
+
 /// The features that are on by those that are given: as many of these as can be on together, since one is off
-/// where one that it names by `if-feature` is (RFC 7950 7.20.1, 7.20.2).
+/// where one that it names by `if-feature` is (RFC 7950 7.20.1, 7.20.2). They are looked at in an order in
+/// which each comes after those that it names, so that one round is enough.
 pub fn features_on<'a>(
     alloc: Global,
     scopes: &Scopes<'a>,
@@ -156,13 +177,6 @@ pub fn features_on<'a>(
     ensures { IfOk result (λ it. words.AreOn scopes.now (is_on given.entry) (is_on it)) }
 {
     let order = order(alloc, scopes)?;
-    let mut features = given;
-    for _ in 0..usize::MAX {
-        if are_together(scopes, &features) {
-            return Ok(features);
-        }
-        features = narrowed_by(scopes, features, order.as_slice());
-    }
-    // there are not as many features
-    Err(Memory)
+    let features = narrowed_by(scopes, given, order.as_slice());
+    Ok(together(scopes, features))
 }

@@ -20,6 +20,7 @@ mod opening;
 #[cfg(test)]
 mod socket_tests;
 mod stream;
+mod streams;
 #[cfg(test)]
 mod tests;
 mod waiting;

@@ -4,10 +4,12 @@ ghost use Rattle.std.specs.Prelude.{◌≡◌, false, IfOk};
 use crate::Stream;
 use crate::binding::bind;
 use crate::stream::Door;
+use crate::streams::stand_ins;
 use crate::waiting::{Waiting, Waits};
 use nc_names::{Memory, Text};
 use nc_outside::{Failed, Hangup, Joined, Listener, ReaderSource, WriterSink};
 use std::alloc::{AllocError, Global};
+use std::fs::File;
 use std::io::{self, ErrorKind, Write};
 use std::net::Shutdown;
 use std::thread;
@@ -56,11 +58,12 @@ fn out_of_memory(_: AllocError) -> io::Error {
     ErrorKind::OutOfMemory.into()
 }
 
-// A socket that listens, and how many of its connections wait.
+// A socket that listens, how many of its connections wait, and what stands in for standard streams.
 #[derive(Drop)]
 struct Bound {
     door: Door,
     waiting: Waiting,
+    streams: Vec<File>,
 }
 
 impl Bound {
@@ -94,6 +97,8 @@ impl Bound {
 
 /// Gives the connections of a socket, without an end. It is bound at the first call: at `unix:PATH`, or at
 /// `tcp:PORT` on 127.0.0.1. Where that fails, each call fails.
+///
+/// No connection has the descriptor of a standard stream: where one is closed, a file stands in for it.
 ///
 /// A socket that a server has left at PATH is removed: a file is one where it is a socket, and connecting to
 /// it is refused. Whoever may write to the file may connect; its mode is what the process's umask leaves, and
@@ -130,8 +135,13 @@ impl SocketListener {
 
     fn try_bind(&self) -> io::Result<Bound> {
         let waiting = Waiting::new(self.rt.alloc()).map_err(out_of_memory)?;
+        let streams = stand_ins(&self.rt);
         let door = bind(&self.rt, self.address.as_str())?;
-        Ok(Bound { door, waiting })
+        Ok(Bound {
+            door,
+            waiting,
+            streams,
+        })
     }
 
     // Binds the socket, where this is the first call.

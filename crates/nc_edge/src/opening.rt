@@ -1,11 +1,8 @@
 //! The file of a store is opened.
+use crate::streams::is_stream;
 use std::fs::{File, OpenOptions, TryLockError};
 use std::io::{self, ErrorKind};
-use std::os::fd::AsRawFd;
 use std::os::unix::fs::OpenOptionsExt;
-
-/// The standard streams have the descriptors below this.
-const STREAMS: i32 = 3;
 
 // Takes the lock that keeps other programs from the file.
 fn lock(file: &File) -> io::Result<()> {
@@ -19,11 +16,6 @@ fn lock(file: &File) -> io::Result<()> {
 // Makes the name of a file in a folder durable.
 fn sync_folder(rt: &HostRuntime, folder: &str) -> io::Result<()> {
     File::open(rt, folder)?.sync_all()
-}
-
-// Whether a file has the descriptor of a standard stream, which was closed then.
-fn is_stream(file: &File) -> bool {
-    file.as_raw_fd() < STREAMS
 }
 
 // A file beside the standard streams: else what the program writes to one that is closed would go into it.

@@ -1,0 +1,21 @@
+//! The words of the command line.
+use nc_edge::{Address, read_address};
+
+/// A server, and who asks it for a session.
+#[derive(Clone, Copy, Debug, PartialEq, Eq)]
+pub struct Words<'a> {
+    /// Where the server listens.
+    pub address: Address<'a>,
+    /// The user, and its groups.
+    pub names: &'a [String],
+}
+
+/// Reads the words after the program's name. `None` means that they are no line `ADDRESS USER [GROUP]...`.
+pub fn read_words(words: &[String]) -> Option<Words<'_>> {
+    let (address, names) = words.split_first()?;
+    if names.is_empty() {
+        return None;
+    }
+    let address = read_address(address.as_str())?;
+    Some(Words { address, names })
+}

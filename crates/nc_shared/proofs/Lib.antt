@@ -1,4 +1,5 @@
 pub mod Gaining
 pub mod SameDesks
+pub mod Closing
 pub mod Sent
 pub mod Sharing

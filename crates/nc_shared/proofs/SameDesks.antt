@@ -1,12 +1,11 @@
--- A desk stands for what its pass has seen, and a desk of a home is a desk of that machine, with as many parts.
-use Rattle.std.proofs.Common.{◌≡◌, ℕ, List, [], ◌∷◌, refl, sym, ap, ◌∙◌, subst, Option}
+-- A desk stands for what its pass has seen, and a desk of a home is a desk of what is shared, with as many parts.
+use Rattle.std.proofs.Common.{◌≡◌, ℕ, List, [], ◌∷◌, ◌++◌, length, refl, sym, ap, ◌∙◌, subst, arith}
 use Rattle.atomic_table.specs.Seated.{TableId}
 use Rattle.nc_model.specs.Desks.{Home}
 use Rattle.nc_model.specs.History.{IsLegal}
-use Rattle.nc_turn.specs.Passes.{Pass, view}
-use Rattle.nc_shared.specs.declared.held.Held.{Held}
+use Rattle.nc_turn.specs.Passes.{Pass, view, first_of}
 use Rattle.nc_shared.specs.declared.shared.Shared.{Shared}
-use Rattle.nc_shared.specs.Chairs.{Chair, ChairStands, place_of, home_of, desk_home, chair_of, IsLeft, IsPassOf}
+use Rattle.nc_shared.specs.Chairs.{Chair, ChairStands, place_of, desk_home, chair_of, IsLeft, IsPassOf}
 
 same_table : (y z : TableId) → place_of y ≡ place_of z → y ≡ z
 same_table y z e =
@@ -33,17 +32,29 @@ first_same a b xs ys e = cc
 pub rest_same : (a b : ℕ) (xs ys : List ℕ) → a ∷ xs ≡ b ∷ ys → xs ≡ ys
 rest_same a b xs ys e = cc
 
--- homes that differ in their places alone
-abbrev pub unplaced : Home → Home
-unplaced home = record home { place = [] }
+-- two lists of one length before others
+split_same : (xs ys rest more : List ℕ) → length xs ≡ length ys → xs ++ rest ≡ ys ++ more → (xs ≡ ys) × (rest ≡ more)
+split_same [] [] rest more long e = (refl, e)
+split_same [] (y ∷ ys) rest more long e = absurd (omega (arith, long))
+split_same (x ∷ xs) [] rest more long e = absurd (omega (arith, long))
+split_same (x ∷ xs) (y ∷ ys) rest more long e =
+    let heads = first_same x y (xs ++ rest) (ys ++ more) e in
+    let tails = split_same xs ys rest more (omega (arith, long)) (rest_same x y (xs ++ rest) (ys ++ more) e) in
+    (λ i. heads i ∷ tails.0 i, tails.1)
 
-module _ {K C A : Type 0} (given : C → Option (List ℕ)) where
+-- one home, where only the place was another
+placed_same : (one other : Home) (a b : List ℕ) → record one { place = a } ≡ record other { place = b } →
+    one.place ≡ other.place → one ≡ other
+placed_same one other a b same place = λ i. record (same i) { place = place i }
+
+module _ {T : Type 0} (home : T → Home) where
   -- a desk stands for what its pass has seen
-  pub sits : (shared : Shared K C A) (pass : Pass (Held K C A)) (chair : Chair) → IsPassOf given shared pass →
-      chair ≡ chair_of given shared pass →
-      ChairStands chair (desk_home (chair_of given shared pass)) (view pass).seen (view pass).mine
+  pub sits : (shared : Shared T) (pass : Pass T) (chair : Chair) → IsPassOf home shared pass →
+      chair ≡ chair_of home shared pass →
+      ChairStands chair (desk_home (chair_of home shared pass)) (view pass).seen (view pass).mine
   sits shared pass chair it is =
-      let here : ChairStands (chair_of given shared pass) (desk_home (chair_of given shared pass)) (view pass).seen (view pass).mine = record {
+      let here : ChairStands (chair_of home shared pass) (desk_home (chair_of home shared pass)) (view pass).seen
+      (view pass).mine = record {
         home_is = refl;
         seen_is = refl;
         mine_is = refl;
@@ -51,39 +62,45 @@ module _ {K C A : Type 0} (given : C → Option (List ℕ)) where
         own = it.of.own;
         few = it.of.few;
       } in
-      subst (λ (c : Chair). ChairStands c (desk_home (chair_of given shared pass)) (view pass).seen (view pass).mine)
+      subst (λ (c : Chair). ChairStands c (desk_home (chair_of home shared pass)) (view pass).seen (view pass).mine)
       (sym is) here
 
-  -- a pass of a turn at that place and of that home is one of this machine
-  pub of_same_turn : (shared other : Shared K C A) (pass theirs : Pass (Held K C A)) →
-      place_of pass.table_id ≡ place_of theirs.table_id → home_of given other ≡ home_of given shared →
-      IsPassOf given shared pass → IsPassOf given other theirs → IsPassOf given shared theirs
-  of_same_turn shared other pass theirs place home mine it = record {
+  -- a pass of a turn at that table and of that home is one of this
+  pub of_same_turn : (shared other : Shared T) (pass theirs : Pass T) → pass.table_id ≡ theirs.table_id →
+      home (first_of other.turn) ≡ home (first_of shared.turn) → IsPassOf home shared pass →
+      IsPassOf home other theirs → IsPassOf home shared theirs
+  of_same_turn shared other pass theirs table same mine it = record {
     of = record {
       at = record {
-        table = sym (same_table pass.table_id theirs.table_id place) ∙ mine.of.at.table;
+        table = sym table ∙ mine.of.at.table;
         value = it.of.at.value;
         first = it.of.at.first;
-        same = it.of.at.same ∙ home;
+        same = it.of.at.same ∙ same;
         live = it.of.at.live;
       };
-      legal = subst (λ (h : Home). IsLegal 0 h.opening (view theirs).seen) home it.of.legal;
+      legal = subst (λ (h : Home). IsLegal 0 h.opening (view theirs).seen) same it.of.legal;
       own = it.of.own;
       few = it.of.few;
     };
     idle = it.idle;
   }
 
-  pub same_desk : (shared : Shared K C A) (pass : Pass (Held K C A)) (chair : Chair) (theirs : Pass (Held K C A)) →
-      desk_home (chair_of given shared pass) ≡ desk_home chair → IsPassOf given shared pass → IsLeft given chair theirs →
-      IsPassOf given shared theirs × ((view theirs).parts ≡ (view pass).parts)
+  pub same_desk : (shared : Shared T) (pass : Pass T) (chair : Chair) (theirs : Pass T) →
+      desk_home (chair_of home shared pass) ≡ desk_home chair → IsPassOf home shared pass → IsLeft home chair theirs →
+      IsPassOf home shared theirs × ((view theirs).parts ≡ (view pass).parts)
   same_desk shared pass chair theirs whole mine left =
       let other = left.shared in
-      let same : desk_home (chair_of given shared pass) ≡ desk_home (chair_of given other theirs) = whole ∙ ap desk_home left.chair_is in
+      let here = home (first_of shared.turn) in
+      let there = home (first_of other.turn) in
+      let same : desk_home (chair_of home shared pass) ≡ desk_home (chair_of home other theirs) = whole
+      ∙ ap desk_home left.chair_is in
       let place = ap (λ (h : Home). h.place) same in
       let parts = first_same (view pass).parts (view theirs).parts _ _ place in
-      let table = rest_same (view pass).parts (view theirs).parts _ _ place in
-      let home : home_of given other ≡ home_of given shared = ap unplaced (sym same) in (
-        of_same_turn shared other pass theirs table home mine left.of,
+      let rest = rest_same (view pass).parts (view theirs).parts _ _ place in
+      let long = first_same (length here.place) (length there.place) _ _ rest in
+      let both = split_same here.place there.place (place_of pass.table_id) (place_of theirs.table_id) long
+      (rest_same (length here.place) (length there.place) _ _ rest) in (
+        of_same_turn shared other pass theirs (same_table pass.table_id theirs.table_id both.1)
+            (sym (placed_same here there _ _ same both.0)) mine left.of,
         sym parts,
       )

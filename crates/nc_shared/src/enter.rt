@@ -5,6 +5,7 @@ ghost use Rattle.nc_model.specs.Desks.{Submits, Enters, TellsSpent, last_ticket}
 ghost use Rattle.nc_model.specs.ProperEvents.{IsProperEvent};
 ghost use Rattle.nc_turn.specs.Passes.{view, first_of, IsOf, IsIdle, IsHolding};
 ghost use Rattle.nc_turn.specs.Views.{written, given_on};
+ghost use Rattle.nc_machine.specs.Lasting.{lasting};
 ghost use Rattle.nc_shared.specs.Holding.{held_home, Stood};
 ghost use Rattle.nc_shared.specs.inner.Seating.{Shows, IsPassOn};
 
@@ -22,11 +23,12 @@ fn give_back<K: Keeper, C: Clock, E: Bears>(
     held: Held<K, C>,
     entry: &E,
 )
-    requires pass { IsOf (held_home C.given) turn.now pass.old × IsHolding pass.old
+    requires pass { IsOf (held_home K.row.coded C.given) turn.now pass.old × IsHolding pass.old
         × ((view pass.old).wrote ≡ 0) }
-    requires home { held_home C.given held ≡ held_home C.given (first_of turn.now) }
-    requires stands { Stood C.count C.given held ((view pass.old).seen ++ E.entry entry.now ∷ []) }
-    ensures pass { IsOf (held_home C.given) turn.now pass.new × IsIdle pass.new }
+    requires home { held_home K.row.coded C.given held ≡ held_home K.row.coded C.given (first_of turn.now) }
+    requires stands { Stood (lasting K.doubt K.moment K.leaves K.continues) C.count C.given held
+        ((view pass.old).seen ++ E.entry entry.now ∷ []) }
+    ensures pass { IsOf (held_home K.row.coded C.given) turn.now pass.new × IsIdle pass.new }
     ensures given { view pass.new ≡ given_on (written (E.entry entry.now) (view pass.old)) }
 {
     turn.write(pass, entry);
@@ -41,8 +43,8 @@ pub(crate) fn enter<R: Wait, K: Keeper, C: Clock>(
     event: Event,
 ) -> Result<Entry, DeskFault>
     requires proper { IsProperEvent event }
-    requires pass { IsOf (held_home C.given) turn.now pass.old × IsIdle pass.old }
-    ensures pass { IsPassOn (held_home C.given) turn.now pass.old pass.new }
+    requires pass { IsOf (held_home K.row.coded C.given) turn.now pass.old × IsIdle pass.old }
+    ensures pass { IsPassOn (held_home K.row.coded C.given) turn.now pass.old pass.new }
     ensures entered { Submits (Shows (view pass.new)) false
         (view pass.old).seen (view pass.old).mine event result }
     ensures spent { IfErr result (TellsSpent (λ ticket. (ticket ≡ last_ticket)
@@ -73,8 +75,8 @@ pub(crate) fn enter_end<R: Wait, K: Keeper, C: Clock>(
     pass: &mut Pass<Held<K, C>>,
     session: u32,
 ) -> Result<Entry, Spent>
-    requires pass { IsOf (held_home C.given) turn.now pass.old × IsIdle pass.old }
-    ensures pass { IsPassOn (held_home C.given) turn.now pass.old pass.new }
+    requires pass { IsOf (held_home K.row.coded C.given) turn.now pass.old × IsIdle pass.old }
+    ensures pass { IsPassOn (held_home K.row.coded C.given) turn.now pass.old pass.new }
     ensures entered { Enters (Shows (view pass.new)) false
         (view pass.old).seen (view pass.old).mine (End session) result }
     ensures spent { IfErr result (λ spent. (spent.ticket ≡ last_ticket)
@@ -92,8 +94,8 @@ pub(crate) fn enter_tick<R: Wait, K: Keeper, C: Clock>(
     turn: &Turn<Held<K, C>>,
     pass: &mut Pass<Held<K, C>>,
 ) -> Result<Entry, Spent>
-    requires pass { IsOf (held_home C.given) turn.now pass.old × IsIdle pass.old }
-    ensures pass { IsPassOn (held_home C.given) turn.now pass.old pass.new }
+    requires pass { IsOf (held_home K.row.coded C.given) turn.now pass.old × IsIdle pass.old }
+    ensures pass { IsPassOn (held_home K.row.coded C.given) turn.now pass.old pass.new }
     ensures entered { Enters (Shows (view pass.new)) false
         (view pass.old).seen (view pass.old).mine Reading result }
     ensures spent { IfErr result (λ spent. (spent.ticket ≡ last_ticket)

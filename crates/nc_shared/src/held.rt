@@ -3,6 +3,7 @@ ghost use Rattle.std.specs.Prelude.{◌≡◌, ◌<◌, MatchResult};
 ghost use Rattle.nc_names.specs.Limits.{most_requests};
 ghost use Rattle.nc_model.specs.declared.event.Event.TheVariants.{End, Reading};
 ghost use Rattle.nc_model.specs.ProperEvents.{IsProperEvent};
+ghost use Rattle.nc_machine.specs.Lasting.{lasting};
 ghost use Rattle.nc_shared.specs.Holding.{Gains, reading_entry};
 
 use crate::ReadAt;
@@ -28,11 +29,12 @@ pub struct Held<K: Keeper, C: Clock> {
 }
 
 impl<K: Keeper, C: Clock> Stands for Held<K, C> {
+    ghost use Rattle.nc_machine.specs.Lasting.{lasting};
     ghost use Rattle.nc_shared.specs.Holding.{held_home, Stood};
 
-    ghost home = { held_home C.given };
+    ghost home = { held_home K.row.coded C.given };
 
-    ghost stands = { Stood C.count C.given };
+    ghost stands = { Stood (lasting K.doubt K.moment K.leaves K.continues) C.count C.given };
 }
 
 impl<K: Keeper, C: Clock> Held<K, C> {
@@ -55,8 +57,10 @@ impl<K: Keeper, C: Clock> Held<K, C> {
         requires proper { IsProperEvent event }
         requires count { self.old.machine.count < most_requests }
         ensures gains { MatchResult result
-            (λ e. (e.event ≡ event) × Gains C.count C.given self.old self.new e)
-            (λ read. Gains C.count C.given self.old self.new (reading_entry read)) }
+            (λ e. (e.event ≡ event) × Gains K.row.coded (lasting K.doubt K.moment K.leaves K.continues)
+            C.count C.given self.old self.new e)
+            (λ read. Gains K.row.coded (lasting K.doubt K.moment K.leaves K.continues)
+            C.count C.given self.old self.new (reading_entry read)) }
     {
         let at = self.clock.now();
         match self.machine.handle(event, at) {
@@ -72,7 +76,8 @@ impl<K: Keeper, C: Clock> Held<K, C> {
     /// Reads the clock and ends a session.
     pub(crate) fn end(&mut self, session: u32) -> Entry
         requires { self.old.machine.count < most_requests }
-        ensures { (result.event ≡ End session) × Gains C.count C.given self.old self.new result }
+        ensures { (result.event ≡ End session) × Gains K.row.coded
+            (lasting K.doubt K.moment K.leaves K.continues) C.count C.given self.old self.new result }
     {
         let at = self.clock.now();
         self.machine.end(session, at)
@@ -81,7 +86,8 @@ impl<K: Keeper, C: Clock> Held<K, C> {
     /// Reads the clock.
     pub(crate) fn tick(&mut self) -> Entry
         requires { self.old.machine.count < most_requests }
-        ensures { (result.event ≡ Reading) × Gains C.count C.given self.old self.new result }
+        ensures { (result.event ≡ Reading) × Gains K.row.coded
+            (lasting K.doubt K.moment K.leaves K.continues) C.count C.given self.old self.new result }
     {
         let at = self.clock.now();
         self.machine.tick(at)

@@ -7,9 +7,9 @@
 //! What its calls promise: what a seat has seen is a beginning of one history that is legal from the
 //! machine's state as it was handed in; each call at a desk that is not spent ends what it has seen with
 //! one entry, which is one of its own unless it is a reading of the clock; two passes that are compared
-//! have seen beginnings of one history and have no entry of their own in common; `close` gives a machine
-//! that stands for all of the history, and a clock that answered once for each of its entries. Nothing is
-//! promised of when a turn comes.
+//! have seen beginnings of one history and have no entry of their own in common; `close` gives the machine,
+//! which went on by all of the history since it was handed in, and the clock, which answered once for each
+//! of its entries. Nothing is promised of when a turn comes.
 #![tactic(auto)]
 
 mod desk;

@@ -8,7 +8,7 @@ returns g c = (
   record {
     home = refl;
     stands = λ history stood.
-        seat_more c.args.self.now.machine c.end.new.self _ _ _ _ _ _ history _ _ c.end.result c.now-at.ensures.count
-        c.now-at.ensures.told c.requires c.end.ensures.entered stood;
+        seat_more _ _ c.args.self.now.machine c.end.new.self _ _ _ _ _ _ history _ c.end.result c.now-at.ensures.count
+        c.now-at.ensures.told c.end.ensures.entered.at_is c.end.ensures.goes_on stood;
   },
 )

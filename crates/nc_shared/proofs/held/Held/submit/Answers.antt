@@ -1,5 +1,5 @@
 use Rattle.std.proofs.Common.{refl}
-use Rattle.nc_shared.proofs.Gaining.{seat_more, reading_is_made}
+use Rattle.nc_shared.proofs.Gaining.{reading_is, seat_more}
 use Rattle.nc_shared.proofs.held.Held.submit.Goals as goal
 
 pub returns-in-Ok : goal.returns-in-Ok
@@ -9,19 +9,21 @@ returns-in-Ok g c = record {
     record {
       home = refl;
       stands = λ history stood.
-          seat_more c.args.self.now.machine c.handle.new.self _ _ _ _ _ _ history _ _ c.in-Ok.entry c.now-at.ensures.count
-          c.now-at.ensures.told c.requires.count c.in-Ok.ensures.entered stood;
+          seat_more _ _ c.args.self.now.machine c.handle.new.self _ _ _ _ _ _ history _ c.in-Ok.entry
+          c.now-at.ensures.count
+          c.now-at.ensures.told c.in-Ok.ensures.entered.at_is c.in-Ok.ensures.goes_on stood;
     },
   );
 }
 
 pub returns-in-Err : goal.returns-in-Err
 returns-in-Err g c =
-    let made = reading_is_made c.args.self.now.machine c.handle.new.self c.now-at.result _ _ c.in-Err.ensures.memory c.count.ensures.count c.faults.ensures.faults in record {
+    let goes = reading_is _ c.args.self.now.machine c.handle.new.self c.now-at.result _ _ c.in-Err.ensures.memory
+    c.count.ensures.count c.faults.ensures.faults c.in-Err.ensures.goes_on in record {
       gains = record {
         home = refl;
         stands = λ history stood.
-            seat_more c.args.self.now.machine c.handle.new.self _ _ _ _ _ _ history _ _ _ c.now-at.ensures.count
-            c.now-at.ensures.told c.requires.count made stood;
+            seat_more _ _ c.args.self.now.machine c.handle.new.self _ _ _ _ _ _ history _ _ c.now-at.ensures.count
+            c.now-at.ensures.told refl goes stood;
       };
     }

@@ -8,7 +8,7 @@ returns g c = (
   record {
     home = refl;
     stands = λ history stood.
-        seat_more c.args.self.now.machine c.tick.new.self _ _ _ _ _ _ history _ _ c.tick.result c.now-at.ensures.count
-        c.now-at.ensures.told c.requires c.tick.ensures.entered stood;
+        seat_more _ _ c.args.self.now.machine c.tick.new.self _ _ _ _ _ _ history _ c.tick.result c.now-at.ensures.count
+        c.now-at.ensures.told c.tick.ensures.entered.at_is c.tick.ensures.goes_on stood;
   },
 )

@@ -1,7 +1,8 @@
 -- A session that hears what its client sends.
 use Rattle.std.proofs.Common.{◌≡◌, ◌≢◌, ◌⊎◌, ℕ, List, [], ◌∷◌, ◌++◌, Option, None, Some, Result, Ok, Err, refl, sym, ap, subst, ◌∙◌, inl, inr, append-nil, arith}
 use Rattle.std.proofs.lemmas.List.Elements.{All-cons, All-nil}
-use Rattle.nc_machine.specs.Serving.{Serving}
+use Rattle.nc_machine.specs.Serving.{GoesOn, Serving}
+use Rattle.nc_machine.specs.Lasting.{Lasting}
 use Rattle.nc_model.specs.declared.entry.Entry.{Entry}
 use Rattle.nc_model.specs.declared.event.Event.{Event}
 use Rattle.nc_model.specs.declared.event.Event.TheVariants.{Request as Requested, End}
@@ -22,7 +23,7 @@ use Rattle.nc_session.specs.inner.Unseen.{Unseen}
 use Rattle.nc_script.proofs.Lefts.{dead_request, end_comes}
 use Rattle.nc_script.proofs.Made.{made_none, made_same}
 use Rattle.nc_script.specs.Leaving.{StaysLive}
-use Rattle.nc_script.specs.Runs.{HasMade, HasRead, NotRead}
+use Rattle.nc_script.specs.Runs.{HasRead, NotRead}
 use Rattle.nc_script.specs.Steps.{AsksEnd, AsksMore, AsksOne}
 use Rattle.nc_script.specs.inner.Entering.{Breaks, Comes as EntersBy, IsEntered}
 use Rattle.nc_script.specs.inner.Hearing.{Answers, BreaksOff, IsDueBy, IsLive, Part, Settles, Stopping, Turns, over_of, turn_of}
@@ -80,8 +81,8 @@ more_due course base Memory more = tt
 more_due course base Bad more = tt
 
 -- ---- an entry that was not made
-pub comes_broken : {K : Type 0} (old new : Serving K) (event : Event) (at : ℕ) (fault : StepFault)
-    → EntersBy old new event at (Err fault) → Breaks at old new fault []
+pub comes_broken : {K : Type 0} {words : Lasting K} (old new : Serving K) (event : Event) (at : ℕ) (fault : StepFault)
+    → EntersBy words old new event at (Err fault) → Breaks words at old new fault []
 comes_broken old new event at Spent (same, count) = record {
   last = [];
   made = made_same old new same;
@@ -96,17 +97,19 @@ comes_broken old new event at Memory (e, entered) = record {
 }
 comes_broken old new event at Bad none = absurd none
 
-memory_broken : {K : Type 0} (at : ℕ) (old new : Serving K) (part : List Entry) → HasMade old new part
-    → Breaks at old new Memory part
-memory_broken at old new part made = record {
+memory_broken : {K : Type 0} {words : Lasting K} (at : ℕ) (old new : Serving K) (part : List Entry)
+    → GoesOn words old new part
+    → Breaks words at old new Memory part
+memory_broken {K} {words} at old new part made = record {
   last = [];
-  made = subst (λ p. HasMade old new p) (sym (append-nil part)) made;
+  made = subst (λ p. GoesOn words old new p) (sym (append-nil part)) made;
   read = NotRead;
   tells = tt;
 }
 
-pub next_broken : {K : Type 0} (session at : ℕ) (course : Course) (core : Core) (base : Base) (machine : Serving K)
-    → IsAt core base course.bytes course.requests → BreaksOff session at course machine machine Memory
+pub next_broken : {K : Type 0} {words : Lasting K} (session at : ℕ) (course : Course) (core : Core) (base : Base)
+    (machine : Serving K)
+    → IsAt core base course.bytes course.requests → BreaksOff words session at course machine machine Memory
 next_broken session at course core base machine is = record {
   asked = [];
   part = [];
@@ -117,11 +120,12 @@ next_broken session at course core base machine is = record {
   breaks = memory_broken at machine machine [] (made_none machine);
 }
 
-pub stop_broken : {K : Type 0} (session at : ℕ) (course : Course) (core : Core) (base : Base) (stop : SessionEnd)
+pub stop_broken : {K : Type 0} {words : Lasting K} (session at : ℕ) (course : Course) (core : Core) (base : Base)
+    (stop : SessionEnd)
     (old new : Serving K) (fault : StepFault) → IsAt core base course.bytes course.requests
-    → AsksAll base course.bytes course.requests (Some stop) → Breaks at old new fault []
-    → BreaksOff session at course old new fault
-stop_broken session at course core base stop old new fault is all breaks = record {
+    → AsksAll base course.bytes course.requests (Some stop) → Breaks words at old new fault []
+    → BreaksOff words session at course old new fault
+stop_broken {K} {words} session at course core base stop old new fault is all breaks = record {
   asked = [];
   part = [];
   is = no_part session at course base []
@@ -132,12 +136,13 @@ stop_broken session at course core base stop old new fault is all breaks = recor
 }
 
 -- ---- a request is entered
-module _ {K : Type 0} (schema : Tables) (peer : Peer) (session at : ℕ) (course : Course) (base : Base) (request : Request)
+module _ {K : Type 0} {words : Lasting K} (schema : Tables) (peer : Peer) (session at : ℕ) (course : Course)
+    (base : Base) (request : Request)
     (old new : Serving K) (core : Core) (before text : List ℕ) (told tells : Tally)
     (todo : IsTodo core base course.bytes course.requests (Ask request))
     (has : HasEntered peer session course.requests course.entries) where
-  pub not_asked : (fault : StepFault) → EntersBy old new (Requested session request) at (Err fault)
-      → BreaksOff session at course old new fault
+  pub not_asked : (fault : StepFault) → EntersBy words old new (Requested session request) at (Err fault)
+      → BreaksOff words session at course old new fault
   not_asked fault comes = record {
     asked = [];
     part = [];
@@ -146,14 +151,14 @@ module _ {K : Type 0} (schema : Tables) (peer : Peer) (session at : ℕ) (course
     breaks = comes_broken old new (Requested session request) at fault comes;
   }
 
-  module _ (e : Entry) (entered : IsEntered old new (Requested session request) at e)
+  module _ (e : Entry) (entered : IsEntered words old new (Requested session request) at e)
       (was : before ≡ session_text schema base course.entries) where
     text_one : (now : List ℕ) → now ≡ before ++ entry_text schema base e.outcome → now ≡ session_text schema base (course.entries ++ e ∷ [])
     text_one now is =
         is ∙ (ap (λ t. t ++ entry_text schema base e.outcome) was ∙ sym (text_more schema base course.entries e))
 
     pub answered_live : Settles schema base e before text (Ok None) → Tallied told tells (e ∷ [])
-        → Answers schema session at course base request old new core text told tells (Ok None)
+        → Answers words schema session at course base request old new core text told tells (Ok None)
     answered_live (live, is) tallied = (
       e,
       entered,
@@ -173,7 +178,7 @@ module _ {K : Type 0} (schema : Tables) (peer : Peer) (session at : ℕ) (course
         (sym (append-nil before) ∙ ap (λ t. before ++ t) (ap (λ o. entry_text schema base o) (sym dead)))
 
     pub answered_over : (end : SessionEnd) → Settles schema base e before text (Ok (Some end)) → Tallied told tells (e ∷ [])
-        → Answers schema session at course base request old new core text told tells (Ok (Some end))
+        → Answers words schema session at course base request old new core text told tells (Ok (Some end))
     answered_over Closed (closes, is) tallied =
         (e, entered, closes, text_one text is, first_at core base course.bytes course.requests request todo.1, tallied)
     answered_over Killed (not, is) tallied =
@@ -190,7 +195,8 @@ module _ {K : Type 0} (schema : Tables) (peer : Peer) (session at : ℕ) (course
     answered_over (EndSpent ticket) none tallied = absurd none
     answered_over EndMemory none tallied = absurd none
 
-    unwritten : (fault : StepFault) → Settles schema base e before text (Err fault) → BreaksOff session at course old new fault
+    unwritten : (fault : StepFault) → Settles schema base e before text (Err fault)
+        → BreaksOff words session at course old new fault
     unwritten fault is = record {
       asked = request ∷ [];
       part = e ∷ [];
@@ -203,45 +209,54 @@ module _ {K : Type 0} (schema : Tables) (peer : Peer) (session at : ℕ) (course
             (inr (first_at core base course.bytes course.requests request todo.1));
       };
       due = subst (λ f. IsDueBy f course (request ∷ []) (e ∷ [])) (sym is) tt;
-      breaks = subst (λ f. Breaks at old new f (e ∷ [])) (sym is) (memory_broken at old new (e ∷ []) entered.made);
+      breaks = subst (λ f. Breaks words at old new f (e ∷ [])) (sym is)
+          (memory_broken at old new (e ∷ []) entered.made);
     }
 
     -- what an entry comes to, however it was written
     pub answered_as : (result : Result (Option SessionEnd) StepFault) → Settles schema base e before text result
-        → Tallied told tells (e ∷ []) → Answers schema session at course base request old new core text told tells result
+        → Tallied told tells (e ∷ []) → Answers words schema session at course base request old new core text told
+        tells result
     answered_as (Ok None) settles tallied = answered_live settles tallied
     answered_as (Ok (Some end)) settles tallied = answered_over end settles tallied
     answered_as (Err fault) settles tallied = unwritten fault settles
 
 -- ---- a turn
-pub turn_is : {K : Type 0} (schema : Tables) (session at : ℕ) (course : Course) (old new : Serving K) (core : Core) (text : List ℕ)
+pub turn_is : {K : Type 0} (words : Lasting K) (schema : Tables) (session at : ℕ) (course : Course)
+    (old new : Serving K) (core : Core) (text : List ℕ)
     (told tells : Tally) (found turn : Turn) → found ≡ turn
-    → Turns schema session at course old new core text told tells (Ok found)
-    → Turns schema session at course old new core text told tells (Ok turn)
-turn_is schema session at course old new core text told tells found turn is turns =
-    subst (λ t. Turns schema session at course old new core text told tells (Ok t)) is turns
+    → Turns words schema session at course old new core text told tells (Ok found)
+    → Turns words schema session at course old new core text told tells (Ok turn)
+turn_is words schema session at course old new core text told tells found turn is turns =
+    subst (λ t. Turns words schema session at course old new core text told tells (Ok t)) is turns
 
-pub turn_asks : {K : Type 0} (schema : Tables) (session at : ℕ) (course : Course) (base : Base) (request : Request) (old new : Serving K)
+pub turn_asks : {K : Type 0} (words : Lasting K) (schema : Tables) (session at : ℕ) (course : Course) (base : Base)
+    (request : Request) (old new : Serving K)
     (core : Core) (text : List ℕ) (told tells : Tally) (result : Result (Option SessionEnd) StepFault)
-    → Answers schema session at course base request old new core text told tells result
-    → Turns schema session at course old new core text told tells (turn_of result)
-turn_asks schema session at course base request old new core text told tells (Ok None) answers = (base, request, answers)
-turn_asks schema session at course base request old new core text told tells (Ok (Some end)) answers = inl (base, request, answers)
-turn_asks schema session at course base request old new core text told tells (Err fault) breaks = breaks
+    → Answers words schema session at course base request old new core text told tells result
+    → Turns words schema session at course old new core text told tells (turn_of result)
+turn_asks words schema session at course base request old new core text told tells (Ok None) answers =
+    (base, request, answers)
+turn_asks words schema session at course base request old new core text told tells (Ok (Some end)) answers =
+    inl (base, request, answers)
+turn_asks words schema session at course base request old new core text told tells (Err fault) breaks = breaks
 
-pub turn_stops : {K : Type 0} (schema : Tables) (session at : ℕ) (course : Course) (base : Base) (old new : Serving K)
+pub turn_stops : {K : Type 0} (words : Lasting K) (schema : Tables) (session at : ℕ) (course : Course) (base : Base)
+    (old new : Serving K)
     (core : Core) (text : List ℕ) (tally : Tally) (stop : SessionEnd) (result : Result SessionEnd StepFault)
     → IsAt core base course.bytes course.requests → AsksAll base course.bytes course.requests (Some stop)
-    → text ≡ session_text schema base course.entries → Stopping session at stop old new result
-    → Turns schema session at course old new core text tally tally (over_of result)
-turn_stops schema session at course base old new core text tally stop (Ok end) here all is stopping =
+    → text ≡ session_text schema base course.entries → Stopping words session at stop old new result
+    → Turns words schema session at course old new core text tally tally (over_of result)
+turn_stops words schema session at course base old new core text tally stop (Ok end) here all is stopping =
     inr (base, stop, stopping, refl, all, is)
-turn_stops schema session at course base old new core text tally stop (Err fault) here all is breaks =
+turn_stops words schema session at course base old new core text tally stop (Err fault) here all is breaks =
     stop_broken session at course core base stop old new fault here all breaks
 
 -- the End of a session was entered
-pub stopped_as : {K : Type 0} (session at : ℕ) (stop end : SessionEnd) (old new : Serving K) (e : Entry)
-    → IsEntered old new (End session) at e → EndsAs stop e.outcome end → Stopping session at stop old new (Ok end)
+pub stopped_as : {K : Type 0} {words : Lasting K} (session at : ℕ) (stop end : SessionEnd) (old new : Serving K)
+    (e : Entry)
+    → IsEntered words old new (End session) at e → EndsAs stop e.outcome end
+    → Stopping words session at stop old new (Ok end)
 stopped_as session at stop end old new e entered ends = (e, entered, by (end_comes old.state e session entered.fits entered.event_is))
   where
     by : ((e.outcome ≡ Ended) ⊎ (e.outcome ≡ NotLive)) → (((e.outcome ≡ Ended) × (end ≡ stop)) ⊎ ((e.outcome ≡ NotLive) × (end ≡ Killed)))

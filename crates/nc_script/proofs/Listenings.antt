@@ -3,7 +3,8 @@ use Rattle.std.proofs.Common.{◌≡◌, ◌⊎◌, ◌<◌, ◌≤◌, ◌+◌,
 use Rattle.std.proofs.lemmas.List.{map-append}
 use Rattle.std.proofs.lemmas.List.Elements.{All-append, All-nil, All-push}
 use Rattle.nc_names.specs.Limits.{most_requests}
-use Rattle.nc_machine.specs.Serving.{Serving}
+use Rattle.nc_machine.specs.Serving.{GoesOn, Serving}
+use Rattle.nc_machine.specs.Lasting.{Lasting}
 use Rattle.nc_model.specs.declared.entry.Entry.{Entry}
 use Rattle.nc_model.specs.declared.event.Event.{Event}
 use Rattle.nc_model.specs.declared.event.Event.TheVariants.{Request as Requested, End}
@@ -21,7 +22,7 @@ use Rattle.nc_session.specs.Sessions.{entry_text, session_text}
 use Rattle.nc_script.proofs.Made.{made_more, made_none}
 use Rattle.nc_script.proofs.Tallying.{tally_more, tally_none, tally_silent}
 use Rattle.nc_script.specs.Leaving.{StaysLive}
-use Rattle.nc_script.specs.Runs.{HasMade, is_error, is_reply}
+use Rattle.nc_script.specs.Runs.{is_error, is_reply}
 use Rattle.nc_script.specs.Steps.{AreOf, AsksMore, Comes, Stops, StopsDead, Waits as ItWaits, WasClosed, WasDead}
 use Rattle.nc_script.specs.inner.Entering.{IsEntered}
 use Rattle.nc_script.specs.inner.Hearing.{Answers, BreaksOff, EndsBy, Goes, Heard, IsDueBy, IsLive, Listening, LivesIf, Stopping, Turns, further}
@@ -63,10 +64,11 @@ are_more session asked more xs ys first second =
     map-append (λ (e : Entry). e.event) xs ys
     ∙ ((λ i. first i ++ second i) ∙ sym (map-append (λ (request : Request). Requested session request) asked more))
 
-pub listening_none : {K : Type 0} (schema : Tables) (session at : ℕ) (course : Course) (machine : Serving K) (core : Core) (text : List ℕ)
+pub listening_none : {K : Type 0} {words : Lasting K} (schema : Tables) (session at : ℕ) (course : Course)
+    (machine : Serving K) (core : Core) (text : List ℕ)
     (tally : Tally) → IsLive schema session core text course
-    → Listening schema session at course machine machine core text tally tally 0
-listening_none schema session at course machine core text tally live = record {
+    → Listening words schema session at course machine machine core text tally tally 0
+listening_none {K} {words} schema session at course machine core text tally live = record {
   base = course.base;
   asked = [];
   answers = [];
@@ -83,9 +85,10 @@ listening_none schema session at course machine core text tally live = record {
   few = inl refl;
 }
 
-module _ {K : Type 0} (schema : Tables) (session at : ℕ) (course : Course) (old middle new : Serving K) (core later : Core)
+module _ {K : Type 0} {words : Lasting K} (schema : Tables) (session at : ℕ) (course : Course)
+    (old middle new : Serving K) (core later : Core)
     (text now : List ℕ) (told mid tells : Tally) (count : ℕ)
-    (l : Listening schema session at course old middle core text told mid count) where
+    (l : Listening words schema session at course old middle core text told mid count) where
   abbrev here : Course
   here = further course l.base l.asked l.answers
 
@@ -93,9 +96,9 @@ module _ {K : Type 0} (schema : Tables) (session at : ℕ) (course : Course) (ol
       → now ≡ session_text schema base (course.entries ++ (l.answers ++ e ∷ []))
   joined base e is = is ∙ ap (λ es. session_text schema base es) (append_assoc course.entries l.answers (e ∷ []))
 
-  goes_one : (base : Base) (asked : List Request) (event : Event) (e : Entry) → IsEntered middle new event at e
+  goes_one : (base : Base) (asked : List Request) (event : Event) (e : Entry) → IsEntered words middle new event at e
       → now ≡ session_text schema base (here.entries ++ e ∷ []) → Tallied mid tells (e ∷ [])
-      → Goes schema session at course base asked (l.answers ++ e ∷ []) old new now told tells
+      → Goes words schema session at course base asked (l.answers ++ e ∷ []) old new now told tells
   goes_one base asked event e entered is tallied = record {
     made = made_more old middle new l.answers (e ∷ []) l.goes.made entered.made;
     at_is = All-push (λ x. x.at ≡ at) l.answers e l.goes.at_is entered.at_is;
@@ -103,8 +106,8 @@ module _ {K : Type 0} (schema : Tables) (session at : ℕ) (course : Course) (ol
     tallied = tally_more told mid tells l.answers (e ∷ []) l.goes.tallied tallied;
   }
 
-  pub listening_more : Turns schema session at here middle new later now mid tells (Ok Answered)
-      → Listening schema session at course old new later now told tells (count + 1)
+  pub listening_more : Turns words schema session at here middle new later now mid tells (Ok Answered)
+      → Listening words schema session at course old new later now told tells (count + 1)
   listening_more (base, request, (e, entered, live, lives, tallied)) = record {
     base = base;
     asked = l.asked ++ request ∷ [];
@@ -120,12 +123,12 @@ module _ {K : Type 0} (schema : Tables) (session at : ℕ) (course : Course) (ol
 
   abbrev Ending : Base → List Request → List Entry → List Entry → Option SessionEnd → List Entry → Type 0
   Ending base asked answers ended end group =
-      Goes schema session at course base asked group old new now told tells
+      Goes words schema session at course base asked group old new now told tells
       × Comes session (further course base asked group) answers ended end
       × LivesIf end schema session later now (further course base asked group)
 
   heard_of : (base : Base) (asked : List Request) (answers : List Entry) (end : Option SessionEnd) → AreOf session asked answers
-      → Ending base asked answers [] end answers → Heard schema session at course old new later now told tells end
+      → Ending base asked answers [] end answers → Heard words schema session at course old new later now told tells end
   heard_of base asked answers end are is =
       let all = subst (λ g. Ending base asked answers [] end g) (sym (append-nil answers)) is in
       record {
@@ -139,12 +142,12 @@ module _ {K : Type 0} (schema : Tables) (session at : ℕ) (course : Course) (ol
         lives = all.2;
       }
 
-  pub heard_waits : Turns schema session at here middle new later now mid tells (Ok Waits)
-      → Heard schema session at course old new later now told tells None
+  pub heard_waits : Turns words schema session at here middle new later now mid tells (Ok Waits)
+      → Heard words schema session at course old new later now told tells None
   heard_waits (base, same, unchanged, lives, all) =
       heard_of base l.asked l.answers None l.are (
         record {
-          made = subst (λ m. HasMade old m l.answers) (sym same) l.goes.made;
+          made = subst (λ m. GoesOn words old m l.answers) (sym same) l.goes.made;
           at_is = l.goes.at_is;
           text_is = lives.text_is;
           tallied = subst (λ t. Tallied told t l.answers) (sym unchanged) l.goes.tallied;
@@ -159,8 +162,8 @@ module _ {K : Type 0} (schema : Tables) (session at : ℕ) (course : Course) (ol
       subst (λ r. AsksFirst base course.bytes r) (append_assoc course.requests l.asked (request ∷ [])) first
 
   pub heard_request : (end : SessionEnd) (base : Base) (request : Request)
-      → Answers schema session at here base request middle new later now mid tells (Ok (Some end))
-      → Heard schema session at course old new later now told tells (Some end)
+      → Answers words schema session at here base request middle new later now mid tells (Ok (Some end))
+      → Heard words schema session at course old new later now told tells (Some end)
   heard_request end base request (e, entered, ends, is, first, tallied) =
       heard_of base (l.asked ++ request ∷ []) (l.answers ++ e ∷ []) (Some end)
       (are_more session l.asked (request ∷ []) l.answers (e ∷ []) l.are (ap (λ v. v ∷ []) entered.event_is))
@@ -189,20 +192,21 @@ module _ {K : Type 0} (schema : Tables) (session at : ℕ) (course : Course) (ol
       is ∙ (sym (append-nil (session_text schema base here.entries))
       ∙ (ap (λ t. session_text schema base here.entries ++ t) (sym silent) ∙ sym (text_more schema base here.entries e)))
 
-  pub heard_stop : (end stop : SessionEnd) (base : Base) → Stopping session at stop middle new (Ok end) → tells ≡ mid
+  pub heard_stop : (end stop : SessionEnd) (base : Base) → Stopping words session at stop middle new (Ok end)
+      → tells ≡ mid
       → AsksAll base here.bytes here.requests (Some stop) → now ≡ session_text schema base here.entries
-      → Heard schema session at course old new later now told tells (Some end)
+      → Heard words schema session at course old new later now told tells (Some end)
   heard_stop end stop base (e, entered, comes) same all is = by comes
     where
       goes : (silent : entry_text schema base e.outcome ≡ []) → is_reply e.outcome ≡ false → is_error e.outcome ≡ false
-          → Goes schema session at course base l.asked (l.answers ++ e ∷ []) old new now told tells
+          → Goes words schema session at course base l.asked (l.answers ++ e ∷ []) old new now told tells
       goes silent no_reply no_error =
           goes_one base l.asked (End session) e entered (silent_text base e silent is)
           (subst (λ t. Tallied mid t (e ∷ [])) (sym same) (tally_silent mid e no_reply no_error))
 
-      heard : Goes schema session at course base l.asked (l.answers ++ e ∷ []) old new now told tells
+      heard : Goes words schema session at course base l.asked (l.answers ++ e ∷ []) old new now told tells
           → Comes session (further course base l.asked (l.answers ++ e ∷ [])) l.answers (e ∷ []) (Some end)
-          → Heard schema session at course old new later now told tells (Some end)
+          → Heard words schema session at course old new later now told tells (Some end)
       heard goes comes = record {
         base = base;
         asked = l.asked;
@@ -215,7 +219,7 @@ module _ {K : Type 0} (schema : Tables) (session at : ℕ) (course : Course) (ol
       }
 
       by : (((e.outcome ≡ Ended) × (end ≡ stop)) ⊎ ((e.outcome ≡ NotLive) × (end ≡ Killed)))
-          → Heard schema session at course old new later now told tells (Some end)
+          → Heard words schema session at course old new later now told tells (Some end)
       by (inl (out, end_is)) =
           heard (goes (ap (λ o. entry_text schema base o) out) (ap is_reply out) (ap is_error out))
           (subst (λ x. Comes session (further course base l.asked (l.answers ++ e ∷ [])) l.answers (e ∷ []) (Some x)) (sym end_is)
@@ -225,8 +229,9 @@ module _ {K : Type 0} (schema : Tables) (session at : ℕ) (course : Course) (ol
           (subst (λ x. Comes session (further course base l.asked (l.answers ++ e ∷ [])) l.answers (e ∷ []) (Some x)) (sym end_is)
           (StopsDead stop e l.live all entered.event_is out))
 
-  pub heard_over : (end : SessionEnd) → Turns schema session at here middle new later now mid tells (Ok (Over end))
-      → Heard schema session at course old new later now told tells (Some end)
+  pub heard_over : (end : SessionEnd) → Turns words schema session at here middle new later now mid tells
+      (Ok (Over end))
+      → Heard words schema session at course old new later now told tells (Some end)
   heard_over end (inl (base, request, answers)) = heard_request end base request answers
   heard_over end (inr (base, stop, stopping, same, all, is)) = heard_stop end stop base stopping same all is
 
@@ -241,7 +246,8 @@ module _ {K : Type 0} (schema : Tables) (session at : ℕ) (course : Course) (ol
   due_after asked part Bad due = tt
 
   -- a turn that ends early
-  pub broken_off : (fault : StepFault) → BreaksOff session at here middle new fault → BreaksOff session at course old new fault
+  pub broken_off : (fault : StepFault) → BreaksOff words session at here middle new fault
+      → BreaksOff words session at course old new fault
   broken_off fault b = record {
     asked = l.asked ++ b.asked;
     part = l.answers ++ b.part;
@@ -266,7 +272,7 @@ module _ {K : Type 0} (schema : Tables) (session at : ℕ) (course : Course) (ol
     due = due_after b.asked b.part fault b.due;
     breaks = record {
       last = b.breaks.last;
-      made = subst (λ es. HasMade old new es) (sym (append_assoc l.answers b.part b.breaks.last))
+      made = subst (λ es. GoesOn words old new es) (sym (append_assoc l.answers b.part b.breaks.last))
           (made_more old middle new l.answers (b.part ++ b.breaks.last) l.goes.made b.breaks.made);
       read = b.breaks.read;
       tells = b.breaks.tells;
@@ -274,8 +280,9 @@ module _ {K : Type 0} (schema : Tables) (session at : ℕ) (course : Course) (ol
   }
 
 -- no history has so many entries
-pub never_so_many : {K : Type 0} (schema : Tables) (session at : ℕ) (course : Course) (old new : Serving K) (core : Core) (text : List ℕ)
-    (told tells : Tally) (count : ℕ) → Listening schema session at course old new core text told tells count
+pub never_so_many : {K : Type 0} {words : Lasting K} (schema : Tables) (session at : ℕ) (course : Course)
+    (old new : Serving K) (core : Core) (text : List ℕ)
+    (told tells : Tally) (count : ℕ) → Listening words schema session at course old new core text told tells count
     → most_requests < count → ⊥
 never_so_many schema session at course old new core text told tells count l many = by l.few
   where

@@ -6,7 +6,8 @@ use Rattle.nc_names.specs.declared.memory.Memory.{Memory as NamesMemory}
 use Rattle.std.proofs.Math.Seq.{drop-cons}
 use Rattle.std.proofs.lemmas.List.{take_more}
 use Rattle.nc_names.specs.Limits.{most_requests}
-use Rattle.nc_machine.specs.Serving.{Serving}
+use Rattle.nc_machine.specs.Serving.{GoesOn, Serving}
+use Rattle.nc_machine.specs.Lasting.{Lasting}
 use Rattle.nc_model.specs.declared.entry.Entry.{Entry}
 use Rattle.nc_model.specs.declared.event.Outcome.{Outcome}
 use Rattle.nc_schema.specs.Tables.{Tables}
@@ -14,7 +15,7 @@ use Rattle.nc_script.proofs.Made.{made_more, made_none}
 use Rattle.nc_script.proofs.SameSchema.{same_schema}
 use Rattle.nc_script.proofs.Tallying.{tally_more, tally_none}
 use Rattle.nc_script.specs.Connections.{Board, Connection, no_connections}
-use Rattle.nc_script.specs.Runs.{AllDone, DoesAll, HadNoMemory, HadNoRoom, HasMade, Reaches, Runs, WasBad, WasSpent, count_so, is_error, is_reply, output_of}
+use Rattle.nc_script.specs.Runs.{AllDone, DoesAll, HadNoMemory, HadNoRoom, Reaches, Runs, WasBad, WasSpent, count_so, is_error, is_reply, output_of}
 use Rattle.nc_script.specs.Steps.{Does}
 use Rattle.nc_script.specs.inner.Boards.{Faults, HadNoMemory as NoMemory, HadNoNumber, HasDone, IsDone, StandFor, StepsTo, WasBadStep, WasDone, nothing}
 use Rattle.nc_script.specs.inner.Talking.{IsIn, Stands, ends_with, told_of}
@@ -45,8 +46,9 @@ does_more (first ∷ steps) step board next last entries group (middle, front, m
   does_more steps step middle next last more group rest does,
 )
 
-pub done_none : {K : Type 0} (schema : Tables) (machine : Serving K) (talks : Talks) → StandFor schema talks no_connections
-    → talks.tally ≡ nothing → HasDone schema [] machine machine talks
+pub done_none : {K : Type 0} {words : Lasting K} (schema : Tables) (machine : Serving K) (talks : Talks)
+    → StandFor schema talks no_connections
+    → talks.tally ≡ nothing → HasDone words schema [] machine machine talks
 done_none schema machine talks stand tally = record {
   entries = [];
   board = no_connections;
@@ -56,13 +58,17 @@ done_none schema machine talks stand tally = record {
   tallied = subst (λ t. Tallied nothing t []) (sym tally) (tally_none nothing);
 }
 
-pub step_done : {K : Type 0} (schema : Tables) (step : ScriptStep) (board : Board) (old new : Serving K) (talks : Talks) (told : Tally)
-    (u : Unit {0}) → StepsTo schema step board old new talks told (Ok u) → IsDone schema step board old new talks told
+pub step_done : {K : Type 0} {words : Lasting K} (schema : Tables) (step : ScriptStep) (board : Board)
+    (old new : Serving K) (talks : Talks) (told : Tally)
+    (u : Unit {0}) → StepsTo words schema step board old new talks told (Ok u)
+    → IsDone words schema step board old new talks told
 step_done schema step board old new talks told u (WasDone v is) = is
 
-pub done_more : {K : Type 0} (schema : Tables) (script : List ScriptStep) (step : ScriptStep) (old middle new : Serving K)
-    (before after : Talks) (h : HasDone schema script old middle before) → IsDone schema step h.board middle new after before.tally
-    → HasDone schema (script ++ step ∷ []) old new after
+pub done_more : {K : Type 0} {words : Lasting K} (schema : Tables) (script : List ScriptStep) (step : ScriptStep)
+    (old middle new : Serving K)
+    (before after : Talks) (h : HasDone words schema script old middle before)
+    → IsDone words schema step h.board middle new after before.tally
+    → HasDone words schema (script ++ step ∷ []) old new after
 done_more schema script step old middle new before after h d = record {
   entries = h.entries ++ d.group;
   board = d.next;
@@ -82,61 +88,69 @@ reaches script i n d entries board there n_is does = record {
   does = does;
 }
 
-pub fault_met : {K : Type 0} (script : List ScriptStep) (i n : ℕ) (d : ScriptStep) (old middle new : Serving K) (before after : Talks)
-    (told : Tally) (fault : StepFault) (result : ScriptFault) (h : HasDone old.state.schema (take i script) old middle before)
+pub fault_met : {K : Type 0} {words : Lasting K} (script : List ScriptStep) (i n : ℕ) (d : ScriptStep)
+    (old middle new : Serving K) (before after : Talks)
+    (told : Tally) (fault : StepFault) (result : ScriptFault)
+    (h : HasDone words old.state.schema (take i script) old middle before)
     → i < length script → n ≡ i + 1
-    → StepsTo old.state.schema (get_or script i d) h.board middle new after told (Err fault) → Faults fault n result
-    → Runs script old new (Err result)
-fault_met script i n d old middle new before after told Bad result h there n_is (WasBadStep bad same) is =
-    subst (λ f. Runs script old new (Err f)) (sym is)
+    → StepsTo words old.state.schema (get_or script i d) h.board middle new after told (Err fault)
+    → Faults fault n result
+    → Runs words script old new (Err result)
+fault_met {K} {words} script i n d old middle new before after told Bad result h there n_is (WasBadStep bad same) is =
+    subst (λ f. Runs words script old new (Err f)) (sym is)
     (WasBad h.entries (get_or script i d) h.board n (reaches script i n d h.entries h.board there n_is h.does) bad
-    (subst (λ m. HasMade old m h.entries) (sym same) h.made))
-fault_met script i n d old middle new before after told Spent result h there n_is (HadNoNumber b) is =
-    subst (λ f. Runs script old new (Err f)) (sym is)
+    (subst (λ m. GoesOn words old m h.entries) (sym same) h.made))
+fault_met {K} {words} script i n d old middle new before after told Spent result h there n_is (HadNoNumber b) is =
+    subst (λ f. Runs words script old new (Err f)) (sym is)
     (WasSpent h.entries b.part (get_or script i d) h.board n (reaches script i n d h.entries h.board there n_is h.does) b.early
     (made_more old middle new h.entries b.part h.made
-    (subst (λ es. HasMade middle new es) (ap (λ l. b.part ++ l) b.breaks.tells.0 ∙ append-nil b.part) b.breaks.made))
+    (subst (λ es. GoesOn words middle new es) (ap (λ l. b.part ++ l) b.breaks.tells.0 ∙ append-nil b.part)
+    b.breaks.made))
     b.breaks.tells.1)
-fault_met script i n d old middle new before after told Memory result h there n_is (NoMemory b) is =
-    subst (λ f. Runs script old new (Err f)) (sym is)
+fault_met {K} {words} script i n d old middle new before after told Memory result h there n_is (NoMemory b) is =
+    subst (λ f. Runs words script old new (Err f)) (sym is)
     (HadNoMemory h.entries b.part b.breaks.last (get_or script i d) h.board n
     (reaches script i n d h.entries h.board there n_is h.does) b.early b.breaks.read
     (made_more old middle new h.entries (b.part ++ b.breaks.last) h.made b.breaks.made))
 
 -- a step is done with the schema of the first machine
-steps_from : {K : Type 0} (script : List ScriptStep) (step : ScriptStep) (old middle new : Serving K) (before after : Talks) (told : Tally)
-    (result : Result (Unit {0}) StepFault) (h : HasDone old.state.schema script old middle before)
+steps_from : {K : Type 0} {words : Lasting K} (script : List ScriptStep) (step : ScriptStep)
+    (old middle new : Serving K) (before after : Talks) (told : Tally)
+    (result : Result (Unit {0}) StepFault) (h : HasDone words old.state.schema script old middle before)
     → ((board : Board) → StandFor middle.state.schema before board
-    → StepsTo middle.state.schema step board middle new after told result)
-    → StepsTo old.state.schema step h.board middle new after told result
-steps_from script step old middle new before after told result h steps =
+    → StepsTo words middle.state.schema step board middle new after told result)
+    → StepsTo words old.state.schema step h.board middle new after told result
+steps_from {K} {words} script step old middle new before after told result h steps =
     let same = same_schema old middle h.entries h.made in
-    subst (λ schema. StepsTo schema step h.board middle new after told result) same
+    subst (λ schema. StepsTo words schema step h.board middle new after told result) same
     (steps h.board (subst (λ schema. StandFor schema before h.board) (sym same) h.stand))
 
-pub fault_reached : {K : Type 0} (script : List ScriptStep) (i n : ℕ) (d step : ScriptStep) (old middle new : Serving K)
-    (before after : Talks) (fault : StepFault) (result : ScriptFault) → HasDone old.state.schema (take i script) old middle before
+pub fault_reached : {K : Type 0} {words : Lasting K} (script : List ScriptStep) (i n : ℕ) (d step : ScriptStep)
+    (old middle new : Serving K)
+    (before after : Talks) (fault : StepFault) (result : ScriptFault)
+    → HasDone words old.state.schema (take i script) old middle before
     → i < length script → n ≡ i + 1 → step ≡ get_or script i d
     → ((board : Board) → StandFor middle.state.schema before board
-    → StepsTo middle.state.schema step board middle new after before.tally (Err fault))
-    → Faults fault n result → Runs script old new (Err result)
-fault_reached script i n d step old middle new before after fault result h there n_is is steps faults =
+    → StepsTo words middle.state.schema step board middle new after before.tally (Err fault))
+    → Faults fault n result → Runs words script old new (Err result)
+fault_reached {K} {words} script i n d step old middle new before after fault result h there n_is is steps faults =
     fault_met script i n d old middle new before after before.tally fault result h there n_is
-    (subst (λ s. StepsTo old.state.schema s h.board middle new after before.tally (Err fault)) is
+    (subst (λ s. StepsTo words old.state.schema s h.board middle new after before.tally (Err fault)) is
     (steps_from (take i script) step old middle new before after before.tally (Err fault) h steps))
     faults
 
-pub done_step : {K : Type 0} (script : List ScriptStep) (i : ℕ) (d step : ScriptStep) (old middle new : Serving K)
-    (before after : Talks) (u : Unit {0}) → HasDone old.state.schema (take i script) old middle before
+pub done_step : {K : Type 0} {words : Lasting K} (script : List ScriptStep) (i : ℕ) (d step : ScriptStep)
+    (old middle new : Serving K)
+    (before after : Talks) (u : Unit {0}) → HasDone words old.state.schema (take i script) old middle before
     → i < length script → step ≡ get_or script i d
     → ((board : Board) → StandFor middle.state.schema before board
-    → StepsTo middle.state.schema step board middle new after before.tally (Ok u))
-    → HasDone old.state.schema (take (i + 1) script) old new after
-done_step script i d step old middle new before after u h there is steps =
+    → StepsTo words middle.state.schema step board middle new after before.tally (Ok u))
+    → HasDone words old.state.schema (take (i + 1) script) old new after
+done_step {K} {words} script i d step old middle new before after u h there is steps =
     let one = get_or script i d in
-    let done = subst (λ s. StepsTo old.state.schema s h.board middle new after before.tally (Ok u)) is
+    let done = subst (λ s. StepsTo words old.state.schema s h.board middle new after before.tally (Ok u)) is
     (steps_from (take i script) step old middle new before after before.tally (Ok u) h steps) in
-    subst (λ xs. HasDone old.state.schema xs old new after) (sym (take_more script i d there))
+    subst (λ xs. HasDone words old.state.schema xs old new after) (sym (take_more script i d there))
     (done_more old.state.schema (take i script) one old middle new before after h
     (step_done old.state.schema one h.board middle new after before.tally u done))
 
@@ -150,11 +164,18 @@ count_few test (e ∷ entries) =
     let few = count_by (test e.outcome) e (filter (λ x. test x.outcome) entries) (length entries) (count_few test entries) in
     omega (arith, few)
 
-pub all_done : {K : Type 0} (script : List ScriptStep) (old new : Serving K) (talks : Talks) (outputs : List Output) (entries rows : ℕ)
-    (h : HasDone old.state.schema script old new talks) → new.count ≤ most_requests
+pub all_done : {K : Type 0} {words : Lasting K} (script : List ScriptStep) (old new : Serving K) (talks : Talks)
+    (outputs : List Output) (entries rows : ℕ)
+    (h : HasDone words old.state.schema script old new talks) → new.count ≤ most_requests
     → outputs ≡ map (output_of old.state.schema) h.board.connections → entries ≡ new.count - old.count
     → rows ≡ length new.state.running
-    → Runs script old new (Ok (record { outputs = outputs; entries = entries; ok = talks.tally.ok; errors = talks.tally.errors; rows = rows }))
+    → Runs words script old new (Ok (record {
+      outputs = outputs;
+      entries = entries;
+      ok = talks.tally.ok;
+      errors = talks.tally.errors;
+      rows = rows;
+    }))
 all_done script old new talks outputs entries rows h few told many last =
     let long = h.made.count_is in
     let replies = count_few is_reply h.entries in
@@ -169,13 +190,16 @@ all_done script old new talks outputs entries rows h few told many last =
       rows = last;
     })
 
-pub no_room : {K : Type 0} (script : List ScriptStep) (old new : Serving K) (talks : Talks) (fault : ScriptFault)
-    → HasDone old.state.schema script old new talks → fault ≡ ScriptMemory → Runs script old new (Err fault)
-no_room script old new talks fault h is =
-    subst (λ f. Runs script old new (Err f)) (sym is) (HadNoRoom h.entries h.board h.does h.made)
+pub no_room : {K : Type 0} {words : Lasting K} (script : List ScriptStep) (old new : Serving K) (talks : Talks)
+    (fault : ScriptFault)
+    → HasDone words old.state.schema script old new talks → fault ≡ ScriptMemory → Runs words script old new (Err fault)
+no_room {K} {words} script old new talks fault h is =
+    subst (λ f. Runs words script old new (Err f)) (sym is) (HadNoRoom h.entries h.board h.does h.made)
 
-pub no_room_in : {K : Type 0} (script : List ScriptStep) (old new : Serving K) (talks : Talks) (result : Result ScriptRun ScriptFault)
-    → HasDone old.state.schema script old new talks → IsErrAnd result (λ fault. fault ≡ ScriptMemory) → Runs script old new result
+pub no_room_in : {K : Type 0} {words : Lasting K} (script : List ScriptStep) (old new : Serving K) (talks : Talks)
+    (result : Result ScriptRun ScriptFault)
+    → HasDone words old.state.schema script old new talks → IsErrAnd result (λ fault. fault ≡ ScriptMemory)
+    → Runs words script old new result
 no_room_in script old new talks (Ok run) h none = absurd none
 no_room_in script old new talks (Err fault) h is = no_room script old new talks fault h is
 

@@ -3,7 +3,8 @@ use Rattle.std.proofs.Common.{◌≡◌, ◌==◌, ℕ, Bool, not, true, false, 
 use Rattle.std.specs.Prelude.{if◌then◌else◌, is_some}
 use Rattle.nc_names.specs.Same.{is_same_rows}
 use Rattle.nc_names.specs.declared.path.Row.{Row}
-use Rattle.nc_machine.specs.Serving.{Serving}
+use Rattle.nc_machine.specs.Serving.{GoesOn, Serving}
+use Rattle.nc_machine.specs.Lasting.{Lasting}
 use Rattle.nc_protocol.specs.declared.asked.Asked.{Asked}
 use Rattle.nc_protocol.specs.declared.asked.Asked.TheVariants.{EditConfig, CopyConfig, Lock, Unlock, CloseSession, KillSession, Commit, DiscardChanges, CancelCommit, PartialLock, PartialUnlock}
 use Rattle.nc_protocol.specs.declared.request.Cause.{Cause}
@@ -18,7 +19,6 @@ use Rattle.nc_model.specs.History.{after}
 use Rattle.nc_model.specs.State.{Pending, State, candidate_in_force, expired, is_due, left_by_end, read_at, reverted, session_ended}
 use Rattle.nc_model.specs.Step.{answered, answered_unless, changed, changed_by, next, rows_of_ok, with_candidate}
 use Rattle.nc_model.specs.Verdict.{copied, edits_made, operation_refused, rows_set}
-use Rattle.nc_script.specs.Runs.{HasMade}
 
 -- ---- the clock
 reverted_same : (s : State) (due : Bool) → (if due then reverted s else s).schema ≡ s.schema
@@ -97,6 +97,7 @@ after_schema : (s : State) (entries : List Entry) → (after s entries).schema �
 after_schema s [] = refl
 after_schema s (e ∷ entries) = after_schema (next s e) entries ∙ next_schema s e
 
-pub same_schema : {K : Type 0} (old new : Serving K) (entries : List Entry) → HasMade old new entries
+pub same_schema : {K : Type 0} {words : Lasting K} (old new : Serving K) (entries : List Entry)
+    → GoesOn words old new entries
     → new.state.schema ≡ old.state.schema
 same_schema old new entries made = ap (λ s. s.schema) made.state_is ∙ after_schema old.state entries

@@ -8,7 +8,8 @@ use Rattle.std.specs.BTreeMap as tree
 use Rattle.std.specs.List.{All, AllZip, Contains}
 use Rattle.std.specs.Ordering.{is_eq, nat_cmp}
 use Rattle.std.proofs.lemmas.List.Elements.{All-cons, All-head, All-nil, All-tail, Contains-append_right}
-use Rattle.nc_machine.specs.Serving.{Serving}
+use Rattle.nc_machine.specs.Serving.{GoesOn as MachineGoesOn, Serving}
+use Rattle.nc_machine.specs.Lasting.{Lasting}
 use Rattle.nc_model.specs.declared.entry.Entry.{Entry}
 use Rattle.nc_model.specs.declared.event.Event.TheVariants.{Reading as ClockRead}
 use Rattle.nc_outside.specs.Clocks.{last_reading}
@@ -21,7 +22,7 @@ use Rattle.nc_script.proofs.Lefts.{read_comes}
 use Rattle.nc_script.proofs.SameSchema.{same_schema}
 use Rattle.nc_script.proofs.Tallying.{tally_more, tally_none, tally_silent}
 use Rattle.nc_script.specs.Connections.{Board, Connection, GoesOn, HasBegun, IsNew, no_connections}
-use Rattle.nc_script.specs.Runs.{HasMade, NotRead, is_error, is_reply}
+use Rattle.nc_script.specs.Runs.{NotRead, is_error, is_reply}
 use Rattle.nc_script.specs.Steps.{Begins, Begun, DueEnd, DueMore, DueReading, DueStart, Ends, Greeted, HasHeard as BegunHeard, HasStarted, HearsBy, IsDue, IsOpen, NotYet, Unplaced}
 use Rattle.nc_script.specs.inner.Boards.{EndsEarly, HadNoMemory, HadNoNumber, IsBroken, IsDone, IsOpenAt, IsPlace, Puts, StandFor, StandsAt, StepsTo, WasBadStep, WasDone, numbers}
 use Rattle.nc_script.specs.inner.Entering.{Breaks, Comes as EntersBy, IsEntered}
@@ -93,11 +94,13 @@ hears_number None piece group c next hears = ap (λ x. x.number) hears.same
 hears_number (Some end) piece group c next (none, same) = ap (λ x. x.number) same
 
 -- ---- bytes come
-pub heard_done : {K : Type 0} (schema : Tables) (old new : Talks) (board : Board) (number place : ℕ) (piece : List ℕ) (talk : Talk)
+pub heard_done : {K : Type 0} {words : Lasting K} (schema : Tables) (old new : Talks) (board : Board)
+    (number place : ℕ) (piece : List ℕ) (talk : Talk)
     (before now : Serving K) → StandFor schema old board → (at : IsOpenAt number place board.connections)
     → new.talks.items ≡ set old.talks.items place talk → new.places ≡ old.places → new.clock ≡ old.clock
-    → HasHeardAs schema piece old.clock at.connection before now old.tally new.tally (λ next. Stands schema talk next)
-    → IsDone schema (Piece number piece) board before now new old.tally
+    → HasHeardAs words schema piece old.clock at.connection before now old.tally new.tally
+    (λ next. Stands schema talk next)
+    → IsDone words schema (Piece number piece) board before now new old.tally
 heard_done schema old new board number place piece talk before now stand at items places same h = record {
   next = board_with board (at.front ++ h.next ∷ at.behind);
   group = h.group;
@@ -122,9 +125,10 @@ open_is number place connections at none = record {
   goes_on = none;
 }
 
-heard_early : {K : Type 0} (talks : Talks) (board : Board) (number place : ℕ) (piece : List ℕ) (before now : Serving K)
+heard_early : {K : Type 0} {words : Lasting K} (talks : Talks) (board : Board) (number place : ℕ) (piece : List ℕ)
+    (before now : Serving K)
     (fault : StepFault) → board.now ≡ talks.clock → (at : IsOpenAt number place board.connections)
-    → (h : HeardPart piece talks.clock at.connection before now fault)
+    → (h : HeardPart words piece talks.clock at.connection before now fault)
     → EndsEarly fault board (Piece number piece) h.part
 heard_early talks board number place piece before now fault same at h = by fault h.due
   where
@@ -139,35 +143,42 @@ heard_early talks board number place piece before now fault same at h = by fault
     by Memory lacks = BegunHeard number piece h.part at.connection open_here h.is at_now
     by Bad lacks = BegunHeard number piece h.part at.connection open_here h.is at_now
 
-pub heard_broken : {K : Type 0} (schema : Tables) (talks : Talks) (board : Board) (number place : ℕ) (piece : List ℕ)
+pub heard_broken : {K : Type 0} {words : Lasting K} (schema : Tables) (talks : Talks) (board : Board)
+    (number place : ℕ) (piece : List ℕ)
     (before now : Serving K) (fault : StepFault) → StandFor schema talks board → (at : IsOpenAt number place board.connections)
-    → HeardPart piece talks.clock at.connection before now fault → IsBroken (Piece number piece) board before now fault
-heard_broken schema talks board number place piece before now fault stand at h = record {
+    → HeardPart words piece talks.clock at.connection before now fault
+    → IsBroken words (Piece number piece) board before now fault
+heard_broken {K} {words} schema talks board number place piece before now fault stand at h = record {
   part = h.part;
   early = heard_early talks board number place piece before now fault stand.now_is at h;
-  breaks = subst (λ n. Breaks n before now fault h.part) (sym stand.now_is) h.breaks;
+  breaks = subst (λ n. Breaks words n before now fault h.part) (sym stand.now_is) h.breaks;
 }
 
 -- what breaks a step is no bad step
-breaks_to : {K : Type 0} (schema : Tables) (step : ScriptStep) (board : Board) (old new : Serving K) (talks : Talks) (told : Tally)
-    (fault : StepFault) → IsBroken step board old new fault → StepsTo schema step board old new talks told (Err fault)
+breaks_to : {K : Type 0} {words : Lasting K} (schema : Tables) (step : ScriptStep) (board : Board)
+    (old new : Serving K) (talks : Talks) (told : Tally)
+    (fault : StepFault) → IsBroken words step board old new fault
+    → StepsTo words schema step board old new talks told (Err fault)
 breaks_to schema step board old new talks told Bad b = absurd b.breaks.tells
 breaks_to schema step board old new talks told Spent b = HadNoNumber b
 breaks_to schema step board old new talks told Memory b = HadNoMemory b
 
-pub heard_fault : {K : Type 0} (schema : Tables) (old new : Talks) (board : Board) (number place : ℕ) (piece : List ℕ)
+pub heard_fault : {K : Type 0} {words : Lasting K} (schema : Tables) (old new : Talks) (board : Board)
+    (number place : ℕ) (piece : List ℕ)
     (before now : Serving K) (fault : StepFault) → StandFor schema old board → (at : IsOpenAt number place board.connections)
-    → HeardPart piece old.clock at.connection before now fault
-    → StepsTo schema (Piece number piece) board before now new old.tally (Err fault)
+    → HeardPart words piece old.clock at.connection before now fault
+    → StepsTo words schema (Piece number piece) board before now new old.tally (Err fault)
 heard_fault schema old new board number place piece before now fault stand at h =
     breaks_to schema (Piece number piece) board before now new old.tally fault
     (heard_broken schema old board number place piece before now fault stand at h)
 
-pub heard_step : {K : Type 0} (schema : Tables) (old new : Talks) (board : Board) (number place : ℕ) (piece : List ℕ) (talk : Talk)
+pub heard_step : {K : Type 0} {words : Lasting K} (schema : Tables) (old new : Talks) (board : Board)
+    (number place : ℕ) (piece : List ℕ) (talk : Talk)
     (before now : Serving K) (result : Result (Unit {0}) StepFault) → StandFor schema old board
     → (at : IsOpenAt number place board.connections) → new.talks.items ≡ set old.talks.items place talk → new.places ≡ old.places
-    → new.clock ≡ old.clock → HasHeard schema piece old.clock at.connection before now talk old.tally new.tally result
-    → StepsTo schema (Piece number piece) board before now new old.tally result
+    → new.clock ≡ old.clock → HasHeard words schema piece old.clock at.connection before now talk old.tally new.tally
+    result
+    → StepsTo words schema (Piece number piece) board before now new old.tally result
 heard_step schema old new board number place piece talk before now (Ok u) stand at items places same h =
     WasDone u (heard_done schema old new board number place piece talk before now stand at items places same h)
 heard_step schema old new board number place piece talk before now (Err fault) stand at items places same h =
@@ -182,11 +193,12 @@ silent_all t (e ∷ group) all =
     tally_more t t t (e ∷ []) group (tally_silent t e is.0 is.1)
     (silent_all t group (All-tail (λ x. (is_reply x.outcome ≡ false) × (is_error x.outcome ≡ false)) e group all))
 
-pub left_done : {K : Type 0} (schema : Tables) (old new : Talks) (board : Board) (number place : ℕ) (talk : Talk)
+pub left_done : {K : Type 0} {words : Lasting K} (schema : Tables) (old new : Talks) (board : Board)
+    (number place : ℕ) (talk : Talk)
     (before now : Serving K) → StandFor schema old board → (at : IsOpenAt number place board.connections)
     → new.talks.items ≡ set old.talks.items place talk → new.places ≡ old.places → new.clock ≡ old.clock → new.tally ≡ old.tally
-    → HasLeftAs schema old.clock at.connection before now talk
-    → IsDone schema (End number) board before now new old.tally
+    → HasLeftAs words schema old.clock at.connection before now talk
+    → IsDone words schema (End number) board before now new old.tally
 left_done schema old new board number place talk before now stand at items places same tally h = record {
   next = board_with board (at.front ++ h.next ∷ at.behind);
   group = h.group;
@@ -206,31 +218,36 @@ left_early board number place Spent at none =
 left_early board number place Memory at none = NotYet (End number)
 left_early board number place Bad at none = NotYet (End number)
 
-pub left_fault : {K : Type 0} (schema : Tables) (old new : Talks) (board : Board) (number place : ℕ) (told : Tally)
+pub left_fault : {K : Type 0} {words : Lasting K} (schema : Tables) (old new : Talks) (board : Board)
+    (number place : ℕ) (told : Tally)
     (before now : Serving K) (fault : StepFault) → StandFor schema old board → (at : IsOpenAt number place board.connections)
-    → (at.connection.end ≡ None) × Breaks old.clock before now fault []
-    → StepsTo schema (End number) board before now new told (Err fault)
-left_fault schema old new board number place told before now fault stand at (none, breaks) =
+    → (at.connection.end ≡ None) × Breaks words old.clock before now fault []
+    → StepsTo words schema (End number) board before now new told (Err fault)
+left_fault {K} {words} schema old new board number place told before now fault stand at (none, breaks) =
     breaks_to schema (End number) board before now new told fault (record {
       part = [];
       early = left_early board number place fault at none;
-      breaks = subst (λ n. Breaks n before now fault []) (sym stand.now_is) breaks;
+      breaks = subst (λ n. Breaks words n before now fault []) (sym stand.now_is) breaks;
     })
 
-pub left_step : {K : Type 0} (schema : Tables) (old new : Talks) (board : Board) (number place : ℕ) (talk : Talk)
+pub left_step : {K : Type 0} {words : Lasting K} (schema : Tables) (old new : Talks) (board : Board)
+    (number place : ℕ) (talk : Talk)
     (before now : Serving K) (result : Result (Unit {0}) StepFault) → StandFor schema old board
     → (at : IsOpenAt number place board.connections) → new.talks.items ≡ set old.talks.items place talk → new.places ≡ old.places
-    → new.clock ≡ old.clock → new.tally ≡ old.tally → HasLeft schema old.clock at.connection before now talk result
-    → StepsTo schema (End number) board before now new old.tally result
+    → new.clock ≡ old.clock → new.tally ≡ old.tally → HasLeft words schema old.clock at.connection before now talk
+    result
+    → StepsTo words schema (End number) board before now new old.tally result
 left_step schema old new board number place talk before now (Ok u) stand at items places same tally h =
     WasDone u (left_done schema old new board number place talk before now stand at items places same tally h)
 left_step schema old new board number place talk before now (Err fault) stand at items places same tally h =
     left_fault schema old new board number place old.tally before now fault stand at h
 
 -- ---- the clock is read
-pub read_done : {K : Type 0} (schema : Tables) (old new : Talks) (board : Board) (at : ℕ) (before now : Serving K) (e : Entry)
+pub read_done : {K : Type 0} {words : Lasting K} (schema : Tables) (old new : Talks) (board : Board) (at : ℕ)
+    (before now : Serving K) (e : Entry)
     → StandFor schema old board → new.talks ≡ old.talks → new.places ≡ old.places → new.clock ≡ max old.clock at → new.tally ≡ old.tally
-    → at ≤ last_reading → IsEntered before now ClockRead new.clock e → IsDone schema (Reading at) board before now new old.tally
+    → at ≤ last_reading → IsEntered words before now ClockRead new.clock e
+    → IsDone words schema (Reading at) board before now new old.tally
 read_done schema old new board at before now e stand talks places is tally low entered =
     let out = read_comes before.state e entered.fits entered.event_is in
     let now_is : max board.now at ≡ new.clock = ap (λ n. max n at) stand.now_is ∙ sym is in
@@ -257,16 +274,18 @@ read_early board at Spent = DueReading at
 read_early board at Memory = NotYet (Reading at)
 read_early board at Bad = NotYet (Reading at)
 
-pub read_fault : {K : Type 0} (schema : Tables) (old new : Talks) (board : Board) (at now_at : ℕ) (told : Tally)
+pub read_fault : {K : Type 0} {words : Lasting K} (schema : Tables) (old new : Talks) (board : Board) (at now_at : ℕ)
+    (told : Tally)
     (before now : Serving K) (fault : StepFault) → StandFor schema old board → now_at ≡ max old.clock at
-    → EntersBy before now ClockRead now_at (Err fault)
-    → StepsTo schema (Reading at) board before now new told (Err fault)
-read_fault schema old new board at now_at told before now fault stand is comes =
+    → EntersBy words before now ClockRead now_at (Err fault)
+    → StepsTo words schema (Reading at) board before now new told (Err fault)
+read_fault {K} {words} schema old new board at now_at told before now fault stand is comes =
     let clock : now_at ≡ max board.now at = is ∙ ap (λ n. max n at) (sym stand.now_is) in
     breaks_to schema (Reading at) board before now new told fault (record {
       part = [];
       early = read_early board at fault;
-      breaks = subst (λ n. Breaks n before now fault []) clock (comes_broken before now ClockRead now_at fault comes);
+      breaks = subst (λ n. Breaks words n before now fault []) clock
+          (comes_broken before now ClockRead now_at fault comes);
     })
 
 -- ---- a connection begins
@@ -320,14 +339,15 @@ begun_at connections number place at =
       number_is = s.number_is;
     }
 
-pub begun_before : {K : Type 0} (schema : Tables) (talks : Talks) (board : Board) (number : ℕ) (peer : Peer) (machine : Serving K)
+pub begun_before : {K : Type 0} {words : Lasting K} (schema : Tables) (talks : Talks) (board : Board) (number : ℕ)
+    (peer : Peer) (machine : Serving K)
     (told : Tally) (after : Talks) → StandFor schema talks board → is_some (tree.get nat_cmp talks.places number) ≡ true
-    → StepsTo schema (Begin number peer) board machine machine after told (Err Bad)
-begun_before schema talks board number peer machine told after stand some =
+    → StepsTo words schema (Begin number peer) board machine machine after told (Err Bad)
+begun_before {K} {words} schema talks board number peer machine told after stand some =
     by (tree.get nat_cmp talks.places number) some (stand.places number)
   where
     by : (found : Option ℕ) → is_some found ≡ true → IsPlace (numbers board.connections) number found
-        → StepsTo schema (Begin number peer) board machine machine after told (Err Bad)
+        → StepsTo words schema (Begin number peer) board machine machine after told (Err Bad)
     by None some at = absurd (cc some)
     by (Some place) some at = WasBadStep (begun_at board.connections number place at) refl
 
@@ -352,12 +372,13 @@ begins_number : (number : ℕ) (peer : Peer) (group : List Entry) (c : Connectio
 begins_number number peer group c (Greeted e session event out) = refl
 begins_number number peer group c (Unplaced e live last event out) = refl
 
-pub begin_done : {K : Type 0} (old new : Talks) (board : Board) (number : ℕ) (peer : Peer) (before now : Serving K)
+pub begin_done : {K : Type 0} {words : Lasting K} (old new : Talks) (board : Board) (number : ℕ) (peer : Peer)
+    (before now : Serving K)
     (talk : Talk) → StandFor before.state.schema old board → IsNew number board.connections
-    → (b : TalkBegun number peer old.clock before now talk)
+    → (b : TalkBegun words number peer old.clock before now talk)
     → ((c : Connection) → Stands before.state.schema talk c → IsNew talk.number board.connections
     → Puts before.state.schema old new board c)
-    → StepsTo before.state.schema (Begin number peer) board before now new old.tally (Ok tt)
+    → StepsTo words before.state.schema (Begin number peer) board before now new old.tally (Ok tt)
 begin_done old new board number peer before now talk stand fresh b puts =
     let same : number ≡ talk.number =
     sym (begins_number number peer b.group b.connection b.begins) ∙ b.stands.number_is in
@@ -390,15 +411,16 @@ begin_early board number peer now part Spent fresh same start none =
 begin_early board number peer now part Memory fresh same start none = start_begun board number peer now part fresh same start
 begin_early board number peer now part Bad fresh same start none = start_begun board number peer now part fresh same start
 
-pub begin_fault : {K : Type 0} (schema : Tables) (old new : Talks) (board : Board) (number : ℕ) (peer : Peer) (before now : Serving K)
+pub begin_fault : {K : Type 0} {words : Lasting K} (schema : Tables) (old new : Talks) (board : Board) (number : ℕ)
+    (peer : Peer) (before now : Serving K)
     (fault : StepFault) → StandFor schema old board → IsNew number board.connections
-    → BeginsAt number peer old.clock before now (Err fault)
-    → StepsTo schema (Begin number peer) board before now new old.tally (Err fault)
-begin_fault schema old new board number peer before now fault stand fresh (part, start, none, breaks) =
+    → BeginsAt words number peer old.clock before now (Err fault)
+    → StepsTo words schema (Begin number peer) board before now new old.tally (Err fault)
+begin_fault {K} {words} schema old new board number peer before now fault stand fresh (part, start, none, breaks) =
     breaks_to schema (Begin number peer) board before now new old.tally fault (record {
       part = part;
       early = begin_early board number peer old.clock part fault fresh stand.now_is start none;
-      breaks = subst (λ n. Breaks n before now fault part) (sym stand.now_is) breaks;
+      breaks = subst (λ n. Breaks words n before now fault part) (sym stand.now_is) breaks;
     })
 
 -- the connection has begun, and there is no memory to keep it
@@ -409,16 +431,18 @@ one_start number peer at before now group c (Greeted e session event out) all =
 one_start number peer at before now group c (Unplaced e live last event out) all =
     inr (e, refl, event, All-head (λ x. x.at ≡ at) e [] all)
 
-pub begin_unkept : {K : Type 0} (schema : Tables) (old new : Talks) (board : Board) (number : ℕ) (peer : Peer) (before now : Serving K)
-    (talk : Talk) → StandFor schema old board → IsNew number board.connections → TalkBegun number peer old.clock before now talk
-    → StepsTo schema (Begin number peer) board before now new old.tally (Err Memory)
-begin_unkept schema old new board number peer before now talk stand fresh b = HadNoMemory (record {
+pub begin_unkept : {K : Type 0} {words : Lasting K} (schema : Tables) (old new : Talks) (board : Board) (number : ℕ)
+    (peer : Peer) (before now : Serving K)
+    (talk : Talk) → StandFor schema old board → IsNew number board.connections
+    → TalkBegun words number peer old.clock before now talk
+    → StepsTo words schema (Begin number peer) board before now new old.tally (Err Memory)
+begin_unkept {K} {words} schema old new board number peer before now talk stand fresh b = HadNoMemory (record {
   part = b.group;
   early = start_begun board number peer old.clock b.group fresh stand.now_is
       (one_start number peer old.clock before now b.group b.connection b.begins b.at_is);
   breaks = record {
     last = [];
-    made = subst (λ es. HasMade before now es) (sym (append-nil b.group)) b.made;
+    made = subst (λ es. MachineGoesOn words before now es) (sym (append-nil b.group)) b.made;
     read = NotRead;
     tells = tt;
   };

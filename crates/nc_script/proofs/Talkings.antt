@@ -3,7 +3,8 @@ use Rattle.std.proofs.Common.{◌≡◌, ◌⊎◌, ℕ, Bool, true, false, List
 use Rattle.std.specs.Prelude.{is_err}
 use Rattle.nc_names.specs.declared.memory.Memory.{Memory as NamesMemory}
 use Rattle.std.proofs.lemmas.List.Elements.{All-cons, All-nil}
-use Rattle.nc_machine.specs.Serving.{Serving}
+use Rattle.nc_machine.specs.Serving.{GoesOn, Serving}
+use Rattle.nc_machine.specs.Lasting.{Lasting}
 use Rattle.nc_model.specs.declared.entry.Entry.{Entry}
 use Rattle.nc_model.specs.declared.event.Event.TheVariants.{Start, End}
 use Rattle.nc_model.specs.declared.event.Outcome.TheVariants.{Started, Full as IsFull, Ended, NotLive}
@@ -25,7 +26,7 @@ use Rattle.nc_script.proofs.Made.{made_none, made_same}
 use Rattle.nc_script.proofs.Tallying.{tally_none}
 use Rattle.nc_script.specs.Connections.{Connection, begun}
 use Rattle.nc_script.specs.Leaving.{StaysLive}
-use Rattle.nc_script.specs.Runs.{HasMade, NotRead, is_error, is_reply}
+use Rattle.nc_script.specs.Runs.{NotRead, is_error, is_reply}
 use Rattle.nc_script.specs.Steps.{AreOf, Comes, Greeted, HasEnded, HearsBy, Leaves, Unplaced, WasKilled, WasOver}
 use Rattle.nc_script.specs.inner.Entering.{Breaks, Comes as EntersBy, IsEntered}
 use Rattle.nc_script.specs.inner.Hearing.{BreaksOff, Heard, IsDueBy, IsLive, further}
@@ -39,14 +40,20 @@ use Rattle.nc_script.specs.declared.talk.Talk.{Talk}
 use Rattle.nc_script.specs.declared.tally.Tally.{Tally}
 
 -- ---- a connection begins
-module _ {K : Type 0} (number : ℕ) (peer : Peer) (at : ℕ) (old new : Serving K) (e : Entry) (text : List ℕ)
-    (entered : IsEntered old new (Start peer) at e) where
+module _ {K : Type 0} {words : Lasting K} (number : ℕ) (peer : Peer) (at : ℕ) (old new : Serving K) (e : Entry)
+    (text : List ℕ)
+    (entered : IsEntered words old new (Start peer) at e) where
   abbrev schema : Tables
   schema = new.state.schema
 
   started : (session n : ℕ) (core : Core) → e.outcome ≡ Started n → session ≡ n → ((base : Base) → IsAt core base [] [])
       → Greets schema (Live session core) (Ok text)
-      → HasBegun number peer at old new (record { number = number; text = text; state = Live session core; is_over = false })
+      → HasBegun words number peer at old new (record {
+        number = number;
+        text = text;
+        state = Live session core;
+        is_over = false;
+      })
   started session n core out same at_start greets =
       let out_is : e.outcome ≡ Started session = out ∙ ap Started (sym same) in
       record {
@@ -81,7 +88,12 @@ module _ {K : Type 0} (number : ℕ) (peer : Peer) (at : ℕ) (old new : Serving
 
   unplaced : (live last : ℕ) (end : SessionEnd) → e.outcome ≡ IsFull live last → end ≡ Full live last
       → Greets schema (Over end) (Ok text)
-      → HasBegun number peer at old new (record { number = number; text = text; state = Over end; is_over = false })
+      → HasBegun words number peer at old new (record {
+        number = number;
+        text = text;
+        state = Over end;
+        is_over = false;
+      })
   unplaced live last end out same greets = record {
     connection = begun number 0 e (Some (Full live last));
     group = e ∷ [];
@@ -96,12 +108,17 @@ module _ {K : Type 0} (number : ℕ) (peer : Peer) (at : ℕ) (old new : Serving
   }
 
   pub has_begun : (state : State) → Placed e.outcome state → Greets schema state (Ok text)
-      → HasBegun number peer at old new (record { number = number; text = text; state = state; is_over = false })
+      → HasBegun words number peer at old new (record { number = number; text = text; state = state; is_over = false })
   has_begun state placed greets = by (start_comes old.state e peer entered.fits entered.event_is) state placed greets
     where
       by : ((n : ℕ) × (e.outcome ≡ Started n)) ⊎ ((live : ℕ) × (last : ℕ) × (e.outcome ≡ IsFull live last)) → (state : State)
           → Placed e.outcome state → Greets schema state (Ok text)
-          → HasBegun number peer at old new (record { number = number; text = text; state = state; is_over = false })
+          → HasBegun words number peer at old new (record {
+            number = number;
+            text = text;
+            state = state;
+            is_over = false;
+          })
       by (inl (n, out)) (Live session core) placed greets =
           let is = subst (λ o. Placed o (Live session core)) out placed in started session n core out is.0 is.1 greets
       by (inl (n, out)) (Over end) placed greets = absurd (subst (λ o. Placed o (Over end)) out placed)
@@ -115,12 +132,12 @@ module _ {K : Type 0} (number : ℕ) (peer : Peer) (at : ℕ) (old new : Serving
   ungreeted_by (Over end) fault is = is
 
   pub ungreeted : (state : State) (fault : StepFault) → Greets schema state (Err fault)
-      → BeginsAt number peer at old new (Err fault)
+      → BeginsAt words number peer at old new (Err fault)
   ungreeted state fault is = (
     e ∷ [],
     inr (e, refl, entered.event_is, entered.at_is),
     subst (λ f. IsNoneIf f (e ∷ [])) (sym (ungreeted_by state fault is)) tt,
-    subst (λ f. Breaks at old new f (e ∷ [])) (sym (ungreeted_by state fault is))
+    subst (λ f. Breaks words at old new f (e ∷ [])) (sym (ungreeted_by state fault is))
         (record { last = []; made = entered.made; read = NotRead; tells = tt }),
   )
 
@@ -130,8 +147,9 @@ none_if Spent = refl
 none_if Memory = tt
 none_if Bad = tt
 
-pub unstarted : {K : Type 0} (number : ℕ) (peer : Peer) (at : ℕ) (old new : Serving K) (fault : StepFault)
-    → EntersBy old new (Start peer) at (Err fault) → BeginsAt number peer at old new (Err fault)
+pub unstarted : {K : Type 0} {words : Lasting K} (number : ℕ) (peer : Peer) (at : ℕ) (old new : Serving K)
+    (fault : StepFault)
+    → EntersBy words old new (Start peer) at (Err fault) → BeginsAt words number peer at old new (Err fault)
 unstarted number peer at old new fault comes =
     ([], inl refl, none_if fault, comes_broken old new (Start peer) at fault comes)
 
@@ -141,55 +159,15 @@ pub taken : (At : List ℕ → Type 0) (bytes piece : List ℕ) (result : Result
 taken At bytes piece (Ok u) ok is = is
 taken At bytes piece (Err memory) ok is = absurd (cc ok)
 
-module _ {K : Type 0} (schema : Tables) (piece : List ℕ) (at : ℕ) (c : Connection) (old new : Serving K) (told tells : Tally) where
+-- a connection's course, with the bytes that came
+module _ (piece : List ℕ) (c : Connection) where
   abbrev fed : Course
   fed = record c.course { bytes = c.course.bytes ++ piece }
 
-  heard_all : (session : ℕ) (core : Core) (text : List ℕ) (end : Option SessionEnd) (P : Connection → Type 0)
-      → c.end ≡ None → c.session ≡ session → (h : Heard schema session at fed old new core text told tells end)
-      → P (record c { course = further fed h.base h.asked (h.answers ++ h.ended); end = end })
-      → HasHeardAs schema piece at c old new told tells P
-  heard_all session core text end P none same h kept =
-      let group = h.answers ++ h.ended in
-      let next = record c { course = further fed h.base h.asked group; end = end } in
-      record {
-        next = next;
-        group = group;
-        hears = subst (λ x. HearsBy x piece group c next) (sym none) (record {
-          asked = h.asked;
-          answers = h.answers;
-          ended = h.ended;
-          group_is = refl;
-          are = subst (λ s. AreOf s h.asked h.answers) (sym same) h.are;
-          comes = subst (λ s. Comes s (further fed h.base h.asked group) h.answers h.ended end) (sym same) h.comes;
-          bytes_are = refl;
-          requests_are = refl;
-          entries_are = refl;
-          same = refl;
-        });
-        made = h.goes.made;
-        at_is = h.goes.at_is;
-        tallied = h.goes.tallied;
-        kept = kept;
-      }
-
-  -- the session goes on
-  pub heard_on : (session : ℕ) (core later : Core) (before text : List ℕ) → IsIn schema (Live session core) before c
-      → Heard schema session at fed old new later text told tells None
-      → HasHeardAs schema piece at c old new told tells (λ next. IsIn schema (Live session later) text next)
-  heard_on session core later before text (none, same, live) h =
-      heard_all session later text None (λ next. IsIn schema (Live session later) text next) none same h (refl, same, h.lives)
-
-  -- it ended
-  pub heard_out : (session : ℕ) (core later : Core) (before text : List ℕ) (end : SessionEnd)
-      → IsIn schema (Live session core) before c → Heard schema session at fed old new later text told tells (Some end)
-      → HasHeardAs schema piece at c old new told tells (λ next. IsIn schema (Over end) text next)
-  heard_out session core later before text end (none, same, live) h =
-      heard_all session later text (Some end) (λ next. IsIn schema (Over end) text next) none same h (refl, h.goes.text_is)
-
-  pub live_fed : (session : ℕ) (core later : Core) (text : List ℕ) → IsIn schema (Live session core) text c
+  pub live_fed : (schema : Tables) (session : ℕ) (core later : Core) (text : List ℕ)
+      → IsIn schema (Live session core) text c
       → IsAt later c.course.base (c.course.bytes ++ piece) c.course.requests → IsLive schema session later text fed
-  live_fed session core later text (none, same, live) is = record {
+  live_fed schema session core later text (none, same, live) is = record {
     peer = live.peer;
     at = is;
     entered = live.entered;
@@ -203,12 +181,59 @@ module _ {K : Type 0} (schema : Tables) (piece : List ℕ) (at : ℕ) (c : Conne
   lacks_if session asked part Memory are due = tt
   lacks_if session asked part Bad are due = tt
 
+module _ {K : Type 0} {words : Lasting K} (schema : Tables) (piece : List ℕ) (at : ℕ) (c : Connection)
+    (old new : Serving K) (told tells : Tally) where
+  heard_all : (session : ℕ) (core : Core) (text : List ℕ) (end : Option SessionEnd) (P : Connection → Type 0)
+      → c.end ≡ None → c.session ≡ session → (h : Heard words schema session at
+      (fed piece c) old new core text told tells end)
+      → P (record c { course = further (fed piece c) h.base h.asked (h.answers ++ h.ended); end = end })
+      → HasHeardAs words schema piece at c old new told tells P
+  heard_all session core text end P none same h kept =
+      let group = h.answers ++ h.ended in
+      let next = record c { course = further (fed piece c) h.base h.asked group; end = end } in
+      record {
+        next = next;
+        group = group;
+        hears = subst (λ x. HearsBy x piece group c next) (sym none) (record {
+          asked = h.asked;
+          answers = h.answers;
+          ended = h.ended;
+          group_is = refl;
+          are = subst (λ s. AreOf s h.asked h.answers) (sym same) h.are;
+          comes = subst (λ s. Comes s (further (fed piece c) h.base h.asked group) h.answers h.ended end)
+              (sym same) h.comes;
+          bytes_are = refl;
+          requests_are = refl;
+          entries_are = refl;
+          same = refl;
+        });
+        made = h.goes.made;
+        at_is = h.goes.at_is;
+        tallied = h.goes.tallied;
+        kept = kept;
+      }
+
+  -- the session goes on
+  pub heard_on : (session : ℕ) (core later : Core) (before text : List ℕ) → IsIn schema (Live session core) before c
+      → Heard words schema session at (fed piece c) old new later text told tells None
+      → HasHeardAs words schema piece at c old new told tells (λ next. IsIn schema (Live session later) text next)
+  heard_on session core later before text (none, same, live) h =
+      heard_all session later text None (λ next. IsIn schema (Live session later) text next) none same h (refl, same, h.lives)
+
+  -- it ended
+  pub heard_out : (session : ℕ) (core later : Core) (before text : List ℕ) (end : SessionEnd)
+      → IsIn schema (Live session core) before c → Heard words schema session at
+      (fed piece c) old new later text told tells (Some end)
+      → HasHeardAs words schema piece at c old new told tells (λ next. IsIn schema (Over end) text next)
+  heard_out session core later before text end (none, same, live) h =
+      heard_all session later text (Some end) (λ next. IsIn schema (Over end) text next) none same h (refl, h.goes.text_is)
+
   pub heard_part : (session : ℕ) (core : Core) (text : List ℕ) (fault : StepFault) → IsIn schema (Live session core) text c
-      → BreaksOff session at fed old new fault → HeardPart piece at c old new fault
+      → BreaksOff words session at (fed piece c) old new fault → HeardPart words piece at c old new fault
   heard_part session core text fault (none, same, live) b = record {
     part = b.part;
     goes_on = none;
-    due = lacks_if session b.asked b.part fault (subst (λ s. AreOf s b.asked b.part) (sym same) b.is.are) b.due;
+    due = lacks_if piece c session b.asked b.part fault (subst (λ s. AreOf s b.asked b.part) (sym same) b.is.are) b.due;
     is = record {
       asked = b.asked;
       base = b.is.base;
@@ -221,9 +246,10 @@ module _ {K : Type 0} (schema : Tables) (piece : List ℕ) (at : ℕ) (c : Conne
   }
 
 -- bytes are dropped
-pub heard_dropped : {K : Type 0} (schema : Tables) (piece : List ℕ) (at : ℕ) (c : Connection) (machine : Serving K) (tally : Tally)
+pub heard_dropped : {K : Type 0} {words : Lasting K} (schema : Tables) (piece : List ℕ) (at : ℕ) (c : Connection)
+    (machine : Serving K) (tally : Tally)
     (text : List ℕ) (end : SessionEnd) → IsIn schema (Over end) text c
-    → HasHeardAs schema piece at c machine machine tally tally (λ next. IsIn schema (Over end) text next)
+    → HasHeardAs words schema piece at c machine machine tally tally (λ next. IsIn schema (Over end) text next)
 heard_dropped tables piece at c machine tally text end (ended, is) = record {
   next = c;
   group = [];
@@ -235,8 +261,10 @@ heard_dropped tables piece at c machine tally text end (ended, is) = record {
 }
 
 -- no memory for the bytes
-pub heard_nothing : {K : Type 0} (schema : Tables) (piece : List ℕ) (at : ℕ) (c : Connection) (machine : Serving K) (session : ℕ)
-    (core : Core) (text : List ℕ) → IsIn schema (Live session core) text c → HeardPart piece at c machine machine Memory
+pub heard_nothing : {K : Type 0} {words : Lasting K} (schema : Tables) (piece : List ℕ) (at : ℕ) (c : Connection)
+    (machine : Serving K) (session : ℕ)
+    (core : Core) (text : List ℕ) → IsIn schema (Live session core) text c
+    → HeardPart words piece at c machine machine Memory
 heard_nothing schema piece at c machine session core text (none, same, live) = record {
   part = [];
   goes_on = none;
@@ -264,8 +292,10 @@ heard_nothing schema piece at c machine session core text (none, same, live) = r
 }
 
 -- ---- a connection ends
-pub leaves_live : {K : Type 0} (session at : ℕ) (core : Core) (end : SessionEnd) (old new : Serving K) (e : Entry)
-    → IsEntered old new (End session) at e → EndsAs InputEnded e.outcome end → LeavesIn at old new (Live session core) (Ok end)
+pub leaves_live : {K : Type 0} {words : Lasting K} (session at : ℕ) (core : Core) (end : SessionEnd)
+    (old new : Serving K) (e : Entry)
+    → IsEntered words old new (End session) at e → EndsAs InputEnded e.outcome end
+    → LeavesIn words at old new (Live session core) (Ok end)
 leaves_live session at core end old new e entered ends =
     (e, entered.made, entered.at_is, entered.event_is, by (end_comes old.state e session entered.fits entered.event_is))
   where
@@ -274,34 +304,37 @@ leaves_live session at core end old new e entered ends =
     by (inr out) = inr (out, subst (λ o. EndsAs InputEnded o end) out ends)
 
 -- its End was not entered
-pub unended : {K : Type 0} (session at : ℕ) (core : Core) (old new : Serving K) (fault : StepFault) (state : State)
-    → state ≡ Live session core → EntersBy old new (End session) at (Err fault) → LeavesIn at old new state (Err fault)
-unended session at core old new fault state is comes =
-    subst (λ s. LeavesIn at old new s (Err fault)) (sym is) (comes_broken old new (End session) at fault comes)
+pub unended : {K : Type 0} (words : Lasting K) (session at : ℕ) (core : Core) (old new : Serving K)
+    (fault : StepFault) (state : State)
+    → state ≡ Live session core → EntersBy words old new (End session) at (Err fault)
+    → LeavesIn words at old new state (Err fault)
+unended words session at core old new fault state is comes =
+    subst (λ s. LeavesIn words at old new s (Err fault)) (sym is) (comes_broken old new (End session) at fault comes)
 
-module _ {K : Type 0} (schema : Tables) (at : ℕ) (c : Connection) (old new : Serving K) (number : ℕ) (text : List ℕ) (over : Bool) where
+abbrev left : Connection → List Entry → SessionEnd → Connection
+left c group end = record c {
+  course = record c.course { entries = c.course.entries ++ group };
+  end = Some end;
+  is_over = true;
+}
+
+abbrev gone : ℕ → List ℕ → SessionEnd → Talk
+gone number text end = record { number = number; text = text; state = Over end; is_over = true }
+
+module _ {K : Type 0} {words : Lasting K} (schema : Tables) (at : ℕ) (c : Connection) (old new : Serving K)
+    (number : ℕ) (text : List ℕ) (over : Bool) where
   pub not_left : (state : State) (fault : StepFault)
       → Stands schema (record { number = number; text = text; state = state; is_over = over }) c
-      → LeavesIn at old new state (Err fault) → (c.end ≡ None) × Breaks at old new fault []
+      → LeavesIn words at old new state (Err fault) → (c.end ≡ None) × Breaks words at old new fault []
   not_left (Live session core) fault stands breaks = (stands.state_is.0, breaks)
   not_left (Over end) fault stands none = absurd none
 
-  abbrev left : List Entry → SessionEnd → Connection
-  left group end = record c {
-    course = record c.course { entries = c.course.entries ++ group };
-    end = Some end;
-    is_over = true;
-  }
-
-  abbrev gone : SessionEnd → Talk
-  gone end = record { number = number; text = text; state = Over end; is_over = true }
-
   left_one : (e : Entry) (end : SessionEnd) → c.number ≡ number → text ≡ session_text schema c.course.base c.course.entries
       → entry_text schema c.course.base e.outcome ≡ [] → is_reply e.outcome ≡ false → is_error e.outcome ≡ false
-      → Leaves c.session c.end (e ∷ []) (Some end) → HasMade old new (e ∷ []) → e.at ≡ at
-      → HasLeftAs schema at c old new (gone end)
+      → Leaves c.session c.end (e ∷ []) (Some end) → GoesOn words old new (e ∷ []) → e.at ≡ at
+      → HasLeftAs words schema at c old new (gone number text end)
   left_one e end number_is is silent no_reply no_error leaves made at_is = record {
-    next = left (e ∷ []) end;
+    next = left c (e ∷ []) end;
     group = e ∷ [];
     ends = record { leaves = leaves; new_is = refl };
     made = made;
@@ -321,7 +354,7 @@ module _ {K : Type 0} (schema : Tables) (at : ℕ) (c : Connection) (old new : S
   }
 
   pub has_left : (state : State) (end : SessionEnd) → Stands schema (record { number = number; text = text; state = state; is_over = over }) c
-      → LeavesIn at old new state (Ok end) → HasLeftAs schema at c old new (gone end)
+      → LeavesIn words at old new state (Ok end) → HasLeftAs words schema at c old new (gone number text end)
   has_left (Live session core) end stands (e, made, at_is, event, comes) = by comes
     where
       none : c.end ≡ None
@@ -330,7 +363,8 @@ module _ {K : Type 0} (schema : Tables) (at : ℕ) (c : Connection) (old new : S
       same : c.session ≡ session
       same = stands.state_is.1
 
-      by : (((e.outcome ≡ Ended) × (end ≡ InputEnded)) ⊎ ((e.outcome ≡ NotLive) × (end ≡ Killed))) → HasLeftAs schema at c old new (gone end)
+      by : (((e.outcome ≡ Ended) × (end ≡ InputEnded)) ⊎ ((e.outcome ≡ NotLive) × (end ≡ Killed)))
+          → HasLeftAs words schema at c old new (gone number text end)
       by (inl (out, end_is)) =
           left_one e end stands.number_is stands.state_is.2.text_is (ap (λ o. entry_text schema c.course.base o) out) (ap is_reply out) (ap is_error out)
           (subst (λ x. Leaves c.session x (e ∷ []) (Some end)) (sym none)
@@ -344,7 +378,7 @@ module _ {K : Type 0} (schema : Tables) (at : ℕ) (c : Connection) (old new : S
           (WasKilled e (subst (λ s. e.event ≡ End s) (sym same) event) out)))
           made at_is
   has_left (Over was) end stands (end_is, unchanged) = record {
-    next = left [] end;
+    next = left c [] end;
     group = [];
     ends = record {
       leaves = subst (λ x. Leaves c.session x [] (Some end)) (ap Some end_is ∙ sym stands.state_is.0) (WasOver end);

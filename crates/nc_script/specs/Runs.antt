@@ -2,6 +2,7 @@
 use Rattle.std.specs.Prelude.{◌≡◌, ◌+◌, ℕ, Bool, true, false, not, List, [], ◌∷◌, ◌++◌, length, map, Result, Ok, Err}
 use Rattle.std.specs.List.{filter}
 use Rattle.nc_names.specs.Limits.{most_requests}
+use Rattle.nc_machine.specs.Lasting.{Lasting}
 use Rattle.nc_schema.specs.Tables.{Tables}
 use Rattle.nc_protocol.specs.declared.verdict.Verdict.{Verdict}
 use Rattle.nc_protocol.specs.declared.verdict.Verdict.TheVariants.{Refused}
@@ -9,8 +10,7 @@ use Rattle.nc_model.specs.declared.entry.Entry.{Entry}
 use Rattle.nc_model.specs.declared.event.Event.TheVariants.{Reading}
 use Rattle.nc_model.specs.declared.event.Outcome.{Outcome}
 use Rattle.nc_model.specs.declared.event.Outcome.TheVariants.{Answered}
-use Rattle.nc_model.specs.History.{IsLegal, after}
-use Rattle.nc_machine.specs.Serving.{Serving}
+use Rattle.nc_machine.specs.Serving.{GoesOn, Serving}
 use Rattle.nc_session.specs.Sessions.{session_text}
 use Rattle.nc_script.specs.Connections.{Board, Connection, no_connections}
 use Rattle.nc_script.specs.Steps.{Begun, Does, IsBad, IsDue, clock_at}
@@ -26,12 +26,6 @@ DoesAll [] board entries last = (entries ≡ []) × (last ≡ board)
 DoesAll (step ∷ steps) board entries last =
     (next : Board) × (group : List Entry) × (more : List Entry) × (entries ≡ group ++ more)
     × Does step board group next × DoesAll steps next more last
-
--- a machine went on by these entries: they are legal from its state, and numbered from its count on
-pub record HasMade {K : Type 0} (old new : Serving K) (entries : List Entry) : Type 0 where
-  pub legal : IsLegal old.count old.state entries
-  pub state_is : new.state ≡ after old.state entries
-  pub count_is : new.count ≡ old.count + length entries
 
 -- a reply without an `rpc-error`, or one with an `rpc-error` for each cause (RFC 6241 4.3)
 abbrev pub is_refusal : Verdict → Bool
@@ -82,24 +76,25 @@ pub data MayRead (at : ℕ) : List Entry → Type 0 where
   NotRead : MayRead at []
   HasRead : (e : Entry) → e.event ≡ Reading → e.at ≡ at → MayRead at (e ∷ [])
 
--- What a script comes to, and what a machine has made of it.
-pub data Runs {K : Type 0} (script : List ScriptStep) (old new : Serving K) :
+-- What a script comes to, and by which entries the machine went on: it stands for whatever history it stood for before,
+-- with these, and so a crash at any moment leaves what may come back of them.
+pub data Runs {K : Type 0} (words : Lasting K) (script : List ScriptStep) (old new : Serving K) :
     Result ScriptRun ScriptFault → Type 0 where
   -- each step is done
   AllDone : (entries : List Entry) (board : Board) (run : ScriptRun) → DoesAll script no_connections entries board
-      → HasMade old new entries → Gives new board entries run → Runs script old new (Ok run)
+      → GoesOn words old new entries → Gives new board entries run → Runs words script old new (Ok run)
   -- a step cannot be done: those before it are
   WasBad : (entries : List Entry) (step : ScriptStep) (board : Board) (n : ℕ) → Reaches script n entries step board
-      → IsBad step board → HasMade old new entries → Runs script old new (Err (BadStep n))
+      → IsBad step board → GoesOn words old new entries → Runs words script old new (Err (BadStep n))
   -- the machine has no number for an entry that is due in a step, after a beginning of its entries
   WasSpent : (entries part : List Entry) (step : ScriptStep) (board : Board) (n : ℕ)
-      → Reaches script n entries step board → IsDue board step part → HasMade old new (entries ++ part)
+      → Reaches script n entries step board → IsDue board step part → GoesOn words old new (entries ++ part)
       → new.count ≡ most_requests
-      → Runs script old new (Err (Spent n))
+      → Runs words script old new (Err (Spent n))
   -- no memory was found within a step
   HadNoMemory : (entries part last : List Entry) (step : ScriptStep) (board : Board) (n : ℕ)
       → Reaches script n entries step board → Begun board step part → MayRead (clock_at step board) last
-      → HasMade old new (entries ++ (part ++ last)) → Runs script old new (Err Memory)
+      → GoesOn words old new (entries ++ (part ++ last)) → Runs words script old new (Err Memory)
   -- or for the outputs
   HadNoRoom : (entries : List Entry) (board : Board) → DoesAll script no_connections entries board
-      → HasMade old new entries → Runs script old new (Err Memory)
+      → GoesOn words old new entries → Runs words script old new (Err Memory)

@@ -1,5 +1,6 @@
 //! The entries of a script's steps.
 ghost use Rattle.std.specs.Prelude.{◌≤◌};
+ghost use Rattle.nc_machine.specs.Lasting.{lasting};
 ghost use Rattle.nc_model.specs.ProperEvents.{IsProperEvent};
 ghost use Rattle.nc_model.specs.declared.event.Event.TheVariants.{End, Reading};
 ghost use Rattle.nc_outside.specs.Clocks.{last_reading};
@@ -19,7 +20,7 @@ pub(crate) fn submit<K: Keeper>(
 ) -> Result<Entry, StepFault>
     requires proper { IsProperEvent event }
     requires at { at ≤ last_reading }
-    ensures { Comes machine.old machine.new event at result }
+    ensures { Comes (lasting K.doubt K.moment K.leaves K.continues) machine.old machine.new event at result }
 {
     if machine.count() == MOST_REQUESTS {
         return Err(StepFault::Spent);
@@ -37,7 +38,8 @@ pub(crate) fn end<K: Keeper>(
     at: u64,
 ) -> Result<Entry, StepFault>
     requires { at ≤ last_reading }
-    ensures { Comes machine.old machine.new (End session) at result }
+    ensures { Comes (lasting K.doubt K.moment K.leaves K.continues)
+        machine.old machine.new (End session) at result }
 {
     if machine.count() == MOST_REQUESTS {
         return Err(StepFault::Spent);
@@ -48,7 +50,8 @@ pub(crate) fn end<K: Keeper>(
 /// Enters a reading of the clock.
 pub(crate) fn tick<K: Keeper>(machine: &mut Machine<K>, at: u64) -> Result<Entry, StepFault>
     requires { at ≤ last_reading }
-    ensures { Comes machine.old machine.new Reading at result }
+    ensures { Comes (lasting K.doubt K.moment K.leaves K.continues)
+        machine.old machine.new Reading at result }
 {
     if machine.count() == MOST_REQUESTS {
         return Err(StepFault::Spent);

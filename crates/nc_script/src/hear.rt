@@ -1,5 +1,6 @@
 //! What a session does with the bytes that came.
 ghost use Rattle.std.specs.Prelude.{◌≡◌, ◌≤◌, ◌∷◌, [], ℕ, List};
+ghost use Rattle.nc_machine.specs.Lasting.{lasting};
 ghost use Rattle.nc_outside.specs.Clocks.{last_reading};
 ghost use Rattle.nc_protocol.specs.Proper.{IsProper};
 ghost use Rattle.nc_protocol.specs.declared.request.Request.{Request as SpecRequest};
@@ -93,7 +94,8 @@ fn ask<K: Keeper>(
         → IsTodo core.now base course.bytes course.requests (Ask request)
         → HasEntered peer session course.requests course.entries
         → text.old ≡ session_text schema base course.entries
-        → Answers schema session at course base request machine.old machine.new core.now text.new
+        → Answers (lasting K.doubt K.moment K.leaves K.continues)
+        schema session at course base request machine.old machine.new core.now text.new
         tally.old tally.new result }
 {
     match submit(machine, Event::Request { session, request }, at) {
@@ -110,7 +112,8 @@ fn stop<K: Keeper>(
     at: u64,
 ) -> Result<SessionEnd, StepFault>
     requires { at ≤ last_reading }
-    ensures { Stopping session at stop machine.old machine.new result }
+    ensures { Stopping (lasting K.doubt K.moment K.leaves K.continues)
+        session at stop machine.old machine.new result }
 {
     match end(machine, session, at) {
         Ok(entry) => Ok(ended_as(stop, entry.into_outcome())),
@@ -150,7 +153,8 @@ fn take_turn<K: Keeper>(
 ) -> Result<Turn, StepFault>
     requires { at ≤ last_reading }
     ensures { (schema : Tables) (course : Course) → IsLive schema session core.old text.old course
-        → Turns schema session at course machine.old machine.new core.new text.new
+        → Turns (lasting K.doubt K.moment K.leaves K.continues)
+        schema session at course machine.old machine.new core.new text.new
         tally.old tally.new result }
 {
     match core.next() {
@@ -175,7 +179,8 @@ pub(crate) fn listen<K: Keeper>(
 ) -> Result<Option<SessionEnd>, StepFault>
     requires { at ≤ last_reading }
     ensures { (schema : Tables) (course : Course) → IsLive schema session core.old text.old course
-        → Listens schema session at course machine.old machine.new core.new text.new
+        → Listens (lasting K.doubt K.moment K.leaves K.continues)
+        schema session at course machine.old machine.new core.new text.new
         tally.old tally.new result }
 {
     for _request in 0..REQUESTS {

@@ -1,6 +1,7 @@
 //! A script, from its first step to its last.
 ghost use Rattle.std.specs.Prelude.{◌≡◌, ◌≤◌};
 ghost use Rattle.std.specs.List.{All};
+ghost use Rattle.nc_machine.specs.Lasting.{lasting};
 ghost use Rattle.nc_outside.specs.Clocks.{last_reading};
 ghost use Rattle.nc_script.specs.Connections.{Board};
 ghost use Rattle.nc_script.specs.Runs.{Runs};
@@ -25,7 +26,8 @@ fn take_step<K: Keeper>(
     requires timed { IsTimed step.now }
     requires low { talks.old.clock ≤ last_reading }
     ensures { (board : Board) → StandFor machine.old.state.schema talks.old board
-        → StepsTo machine.old.state.schema step.now board machine.old machine.new talks.new
+        → StepsTo (lasting K.doubt K.moment K.leaves K.continues)
+        machine.old.state.schema step.now board machine.old machine.new talks.new
         talks.old.tally result }
 {
     match step {
@@ -56,7 +58,8 @@ fn take_steps<K: Keeper>(
     script: &[ScriptStep],
 ) -> Result<Talks, ScriptFault>
     requires { All IsTimed script.now }
-    ensures { Returns script.now machine.old machine.new result }
+    ensures { Returns (lasting K.doubt K.moment K.leaves K.continues)
+        script.now machine.old machine.new result }
 {
     let mut talks = Talks::new(alloc);
     let mut n: u64 = 0;
@@ -86,7 +89,7 @@ pub fn run_script<K: Keeper>(
     script: &[ScriptStep],
 ) -> Result<ScriptRun, ScriptFault>
     requires { All IsTimed script.now }
-    ensures { Runs script.now machine.old machine.new result }
+    ensures { Runs (lasting K.doubt K.moment K.leaves K.continues) script.now machine.old machine.new result }
 {
     let first = machine.count();
     let talks = take_steps(alloc, machine, script)?;

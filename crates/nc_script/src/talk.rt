@@ -1,5 +1,6 @@
 //! One connection of a script.
 ghost use Rattle.std.specs.Prelude.{◌≡◌, ◌≤◌};
+ghost use Rattle.nc_machine.specs.Lasting.{lasting};
 ghost use Rattle.nc_outside.specs.Clocks.{last_reading};
 ghost use Rattle.nc_schema.specs.Tables.{Tables};
 ghost use Rattle.nc_script.specs.Connections.{Connection};
@@ -84,7 +85,8 @@ pub(crate) fn begin<K: Keeper>(
     at: u64,
 ) -> Result<Talk, StepFault>
     requires { at ≤ last_reading }
-    ensures { BeginsAt number peer.now at machine.old machine.new result }
+    ensures { BeginsAt (lasting K.doubt K.moment K.leaves K.continues)
+        number peer.now at machine.old machine.new result }
 {
     let Ok(peer) = peer.copy() else {
         return Err(StepFault::Memory);
@@ -116,7 +118,8 @@ fn hear_in<K: Keeper>(
 ) -> Result<State, StepFault>
     requires { at ≤ last_reading }
     ensures { (schema : Tables) (c : Connection) → IsIn schema state text.old c
-        → HearsIn schema piece.now at c machine.old machine.new text.new tally.old tally.new result }
+        → HearsIn (lasting K.doubt K.moment K.leaves K.continues)
+        schema piece.now at c machine.old machine.new text.new tally.old tally.new result }
 {
     match state {
         State::Live { session, mut core } => {
@@ -140,7 +143,8 @@ fn leave_in<K: Keeper>(
     at: u64,
 ) -> Result<SessionEnd, StepFault>
     requires { at ≤ last_reading }
-    ensures { LeavesIn at machine.old machine.new state.now result }
+    ensures { LeavesIn (lasting K.doubt K.moment K.leaves K.continues)
+        at machine.old machine.new state.now result }
 {
     match state {
         State::Live { session, .. } => {
@@ -164,7 +168,8 @@ impl Talk {
     ) -> Result<(), StepFault>
         requires { at ≤ last_reading }
         ensures { (schema : Tables) (c : Connection) → Stands schema self.old c
-            → HasHeard schema piece.now at c machine.old machine.new self.new tally.old tally.new result }
+            → HasHeard (lasting K.doubt K.moment K.leaves K.continues)
+            schema piece.now at c machine.old machine.new self.new tally.old tally.new result }
     {
         let none = State::Over {
             end: SessionEnd::Memory,
@@ -187,7 +192,8 @@ impl Talk {
     ) -> Result<(), StepFault>
         requires { at ≤ last_reading }
         ensures { (schema : Tables) (c : Connection) → Stands schema self.old c
-            → HasLeft schema at c machine.old machine.new self.new result }
+            → HasLeft (lasting K.doubt K.moment K.leaves K.continues)
+            schema at c machine.old machine.new self.new result }
     {
         match leave_in(machine, &self.state, at) {
             Ok(end) => {

@@ -2,6 +2,7 @@
 ghost use Rattle.std.specs.Prelude.{◌≡◌, ◌≤◌, ◌<◌, length, map, slice_index_or, IfOk, IfSome, OnOk};
 ghost use Rattle.std.specs.BTreeMap as tree;
 ghost use Rattle.std.specs.Ordering.{nat_cmp};
+ghost use Rattle.nc_machine.specs.Lasting.{lasting};
 ghost use Rattle.nc_outside.specs.Clocks.{last_reading};
 ghost use Rattle.nc_schema.specs.Tables.{Tables};
 ghost use Rattle.nc_script.specs.Connections.{Board, Connection, IsNew, no_connections};
@@ -104,7 +105,8 @@ impl Talks {
     ) -> Result<(), StepFault>
         requires low { self.old.clock ≤ last_reading }
         ensures { (board : Board) → StandFor machine.old.state.schema self.old board
-            → StepsTo machine.old.state.schema (StepBegin number peer.now) board machine.old machine.new
+            → StepsTo (lasting K.doubt K.moment K.leaves K.continues)
+            machine.old.state.schema (StepBegin number peer.now) board machine.old machine.new
             self.new self.old.tally result }
     {
         if place_of(&self.places, number).is_some() {
@@ -129,7 +131,8 @@ impl Talks {
     ) -> Result<(), StepFault>
         requires low { self.old.clock ≤ last_reading }
         ensures { (schema : Tables) (board : Board) → StandFor schema self.old board
-            → StepsTo schema (StepPiece number piece.now) board machine.old machine.new
+            → StepsTo (lasting K.doubt K.moment K.leaves K.continues)
+            schema (StepPiece number piece.now) board machine.old machine.new
             self.new self.old.tally result }
     {
         let Some(place) = open_place(self, number) else {
@@ -146,7 +149,8 @@ impl Talks {
     ) -> Result<(), StepFault>
         requires low { self.old.clock ≤ last_reading }
         ensures { (schema : Tables) (board : Board) → StandFor schema self.old board
-            → StepsTo schema (StepEnd number) board machine.old machine.new self.new self.old.tally result }
+            → StepsTo (lasting K.doubt K.moment K.leaves K.continues)
+            schema (StepEnd number) board machine.old machine.new self.new self.old.tally result }
     {
         let Some(place) = open_place(self, number) else {
             return Err(StepFault::Bad);
@@ -163,7 +167,8 @@ impl Talks {
         requires low { self.old.clock ≤ last_reading }
         requires at { at ≤ last_reading }
         ensures { (schema : Tables) (board : Board) → StandFor schema self.old board
-            → StepsTo schema (StepReading at) board machine.old machine.new self.new self.old.tally result }
+            → StepsTo (lasting K.doubt K.moment K.leaves K.continues)
+            schema (StepReading at) board machine.old machine.new self.new self.old.tally result }
     {
         self.clock = self.clock.max(at);
         match tick(machine, self.clock) {

@@ -4,11 +4,12 @@ use Rattle.std.specs.BTreeMap as tree
 use Rattle.std.specs.List.{All, AllZip}
 use Rattle.std.specs.Ordering.{nat_cmp}
 use Rattle.nc_outside.specs.Clocks.{last_reading}
-use Rattle.nc_machine.specs.Serving.{Serving}
+use Rattle.nc_machine.specs.Serving.{GoesOn, Serving}
+use Rattle.nc_machine.specs.Lasting.{Lasting}
 use Rattle.nc_model.specs.declared.entry.Entry.{Entry}
 use Rattle.nc_schema.specs.Tables.{Tables}
 use Rattle.nc_script.specs.Connections.{Board, Connection, IsClosed, no_connections}
-use Rattle.nc_script.specs.Runs.{DoesAll, HasMade, Runs}
+use Rattle.nc_script.specs.Runs.{DoesAll, Runs}
 use Rattle.nc_script.specs.Steps.{Begun, Does, IsBad, IsDue, clock_at}
 use Rattle.nc_script.specs.inner.Entering.{Breaks}
 use Rattle.nc_script.specs.inner.Talking.{Stands}
@@ -64,12 +65,12 @@ pub record Puts (schema : Tables) (old new : Talks) (board : Board) (c : Connect
   pub tally : new.tally ≡ old.tally
 
 -- a step was done
-pub record IsDone {K : Type 0} (schema : Tables) (step : ScriptStep) (board : Board) (old new : Serving K)
-    (talks : Talks) (told : Tally) : Type 0 where
+pub record IsDone {K : Type 0} (words : Lasting K) (schema : Tables) (step : ScriptStep) (board : Board)
+    (old new : Serving K) (talks : Talks) (told : Tally) : Type 0 where
   pub next : Board
   pub group : List Entry
   pub does : Does step board group next
-  pub made : HasMade old new group
+  pub made : GoesOn words old new group
   pub stand : StandFor schema talks next
   pub tallied : Tallied told talks.tally group
 
@@ -79,32 +80,33 @@ EndsEarly Spent board step part = IsDue board step part
 EndsEarly fault board step part = Begun board step part
 
 -- a step ended early
-pub record IsBroken {K : Type 0} (step : ScriptStep) (board : Board) (old new : Serving K) (fault : StepFault) :
-    Type 0 where
+pub record IsBroken {K : Type 0} (words : Lasting K) (step : ScriptStep) (board : Board) (old new : Serving K)
+    (fault : StepFault) : Type 0 where
   pub part : List Entry
   pub early : EndsEarly fault board step part
-  pub breaks : Breaks (clock_at step board) old new fault part
+  pub breaks : Breaks words (clock_at step board) old new fault part
 
 -- what a step came to
-pub data StepsTo {K : Type 0} (schema : Tables) (step : ScriptStep) (board : Board) (old new : Serving K)
-    (talks : Talks) (told : Tally) : Result (Unit {0}) StepFault → Type 0 where
-  WasDone : (u : Unit {0}) → IsDone schema step board old new talks told
-      → StepsTo schema step board old new talks told (Ok u)
-  WasBadStep : IsBad step board → new ≡ old → StepsTo schema step board old new talks told (Err Bad)
-  HadNoNumber : IsBroken step board old new Spent → StepsTo schema step board old new talks told (Err Spent)
-  HadNoMemory : IsBroken step board old new Memory → StepsTo schema step board old new talks told (Err Memory)
+pub data StepsTo {K : Type 0} (words : Lasting K) (schema : Tables) (step : ScriptStep) (board : Board)
+    (old new : Serving K) (talks : Talks) (told : Tally) : Result (Unit {0}) StepFault → Type 0 where
+  WasDone : (u : Unit {0}) → IsDone words schema step board old new talks told
+      → StepsTo words schema step board old new talks told (Ok u)
+  WasBadStep : IsBad step board → new ≡ old → StepsTo words schema step board old new talks told (Err Bad)
+  HadNoNumber : IsBroken words step board old new Spent → StepsTo words schema step board old new talks told (Err Spent)
+  HadNoMemory : IsBroken words step board old new Memory
+      → StepsTo words schema step board old new talks told (Err Memory)
 
 -- no reply was counted
 abbrev pub nothing : Tally
 nothing = record { ok = 0; errors = 0 }
 
 -- the steps were done
-pub record HasDone {K : Type 0} (schema : Tables) (script : List ScriptStep) (old new : Serving K) (talks : Talks) :
-    Type 0 where
+pub record HasDone {K : Type 0} (words : Lasting K) (schema : Tables) (script : List ScriptStep)
+    (old new : Serving K) (talks : Talks) : Type 0 where
   pub entries : List Entry
   pub board : Board
   pub does : DoesAll script no_connections entries board
-  pub made : HasMade old new entries
+  pub made : GoesOn words old new entries
   pub stand : StandFor schema talks board
   pub tallied : Tallied nothing talks.tally entries
 
@@ -114,6 +116,7 @@ Faults Spent n fault = fault ≡ ScriptSpent n
 Faults Memory n fault = fault ≡ ScriptMemory
 
 -- all steps were done, or a script ended early
-abbrev pub Returns : {K : Type 0} → List ScriptStep → Serving K → Serving K → Result Talks ScriptFault → Type 0
-Returns script old new (Ok talks) = HasDone old.state.schema script old new talks
-Returns script old new (Err fault) = Runs script old new (Err fault)
+abbrev pub Returns : {K : Type 0} → Lasting K → List ScriptStep → Serving K → Serving K → Result Talks ScriptFault
+    → Type 0
+Returns words script old new (Ok talks) = HasDone words old.state.schema script old new talks
+Returns words script old new (Err fault) = Runs words script old new (Err fault)

@@ -2,7 +2,8 @@
 use Rattle.std.specs.Prelude.{◌≡◌, ◌⊎◌, ◌≤◌, ℕ, List, [], ◌∷◌, ◌++◌, length, Option, Some, None, Result, Ok, Err}
 use Rattle.std.specs.List.{All}
 use Rattle.nc_names.specs.Limits.{most_requests}
-use Rattle.nc_machine.specs.Serving.{Serving}
+use Rattle.nc_machine.specs.Serving.{GoesOn, Serving}
+use Rattle.nc_machine.specs.Lasting.{Lasting}
 use Rattle.nc_model.specs.declared.entry.Entry.{Entry}
 use Rattle.nc_model.specs.declared.event.Event.TheVariants.{Request as Requested, End}
 use Rattle.nc_model.specs.declared.event.Outcome.TheVariants.{Ended, NotLive}
@@ -17,7 +18,6 @@ use Rattle.nc_session.specs.Cores.{Core, IsAt}
 use Rattle.nc_session.specs.Serves.{AsksThese, Course}
 use Rattle.nc_session.specs.Sessions.{HasEntered, IsAnswered, entry_text, session_text}
 use Rattle.nc_script.specs.Leaving.{Closes, IsDead, StaysLive}
-use Rattle.nc_script.specs.Runs.{HasMade}
 use Rattle.nc_script.specs.Steps.{AreOf, AsksMore, Comes, LiveButLast}
 use Rattle.nc_script.specs.inner.Entering.{Breaks, IsEntered}
 use Rattle.nc_script.specs.inner.Tallies.{Tallied}
@@ -77,42 +77,44 @@ IsDueBy Spent course asked part =
 IsDueBy fault course asked part = Unit {0}
 
 -- a step of the session ends early
-pub record BreaksOff {K : Type 0} (session at : ℕ) (course : Course) (old new : Serving K) (fault : StepFault) :
-    Type 0 where
+pub record BreaksOff {K : Type 0} (words : Lasting K) (session at : ℕ) (course : Course) (old new : Serving K)
+    (fault : StepFault) : Type 0 where
   pub asked : List Request
   pub part : List Entry
   pub is : Part session at course asked part
   pub due : IsDueBy fault course asked part
-  pub breaks : Breaks at old new fault part
+  pub breaks : Breaks words at old new fault part
 
 -- these entries of a session were made
-pub record Goes {K : Type 0} (schema : Tables) (session at : ℕ) (course : Course) (base : Base) (asked : List Request)
+pub record Goes {K : Type 0} (words : Lasting K) (schema : Tables) (session at : ℕ) (course : Course) (base : Base)
+    (asked : List Request)
     (group : List Entry) (old new : Serving K) (text : List ℕ) (told tells : Tally) : Type 0 where
-  pub made : HasMade old new group
+  pub made : GoesOn words old new group
   pub at_is : All (λ e. e.at ≡ at) group
   pub text_is : text ≡ session_text schema base (course.entries ++ group)
   pub tallied : Tallied told tells group
 
 -- a request is answered, and how its session ended by it
-abbrev pub Answers : {K : Type 0} → Tables → ℕ → ℕ → Course → Base → Request → Serving K → Serving K → Core → List ℕ
-    → Tally → Tally → Result (Option SessionEnd) StepFault → Type 0
-Answers schema session at course base request old new core text told tells (Ok None) =
-    (e : Entry) × IsEntered old new (Requested session request) at e × StaysLive e
+abbrev pub Answers : {K : Type 0} → Lasting K → Tables → ℕ → ℕ → Course → Base → Request → Serving K → Serving K
+    → Core → List ℕ → Tally → Tally → Result (Option SessionEnd) StepFault → Type 0
+Answers words schema session at course base request old new core text told tells (Ok None) =
+    (e : Entry) × IsEntered words old new (Requested session request) at e × StaysLive e
     × IsLive schema session core text (further course base (request ∷ []) (e ∷ []))
     × Tallied told tells (e ∷ [])
-Answers schema session at course base request old new core text told tells (Ok (Some end)) =
-    (e : Entry) × IsEntered old new (Requested session request) at e × EndsBy e end
+Answers words schema session at course base request old new core text told tells (Ok (Some end)) =
+    (e : Entry) × IsEntered words old new (Requested session request) at e × EndsBy e end
     × (text ≡ session_text schema base (course.entries ++ e ∷ []))
     × AsksFirst base course.bytes (course.requests ++ request ∷ []) × Tallied told tells (e ∷ [])
-Answers schema session at course base request old new core text told tells (Err fault) =
-    BreaksOff session at course old new fault
+Answers words schema session at course base request old new core text told tells (Err fault) =
+    BreaksOff words session at course old new fault
 
 -- the End of a session whose bytes stop is entered
-abbrev pub Stopping : {K : Type 0} → ℕ → ℕ → SessionEnd → Serving K → Serving K → Result SessionEnd StepFault → Type 0
-Stopping session at stop old new (Ok end) =
-    (e : Entry) × IsEntered old new (End session) at e
+abbrev pub Stopping : {K : Type 0} → Lasting K → ℕ → ℕ → SessionEnd → Serving K → Serving K
+    → Result SessionEnd StepFault → Type 0
+Stopping words session at stop old new (Ok end) =
+    (e : Entry) × IsEntered words old new (End session) at e
     × (((e.outcome ≡ Ended) × (end ≡ stop)) ⊎ ((e.outcome ≡ NotLive) × (end ≡ Killed)))
-Stopping session at stop old new (Err fault) = Breaks at old new fault []
+Stopping words session at stop old new (Err fault) = Breaks words at old new fault []
 
 abbrev pub turn_of : Result (Option SessionEnd) StepFault → Result Turn StepFault
 turn_of (Ok None) = Ok Answered
@@ -124,20 +126,21 @@ over_of (Ok end) = Ok (Over end)
 over_of (Err fault) = Err fault
 
 -- one turn of a session
-abbrev pub Turns : {K : Type 0} → Tables → ℕ → ℕ → Course → Serving K → Serving K → Core → List ℕ → Tally → Tally
-    → Result Turn StepFault → Type 0
-Turns schema session at course old new core text told tells (Ok Answered) =
+abbrev pub Turns : {K : Type 0} → Lasting K → Tables → ℕ → ℕ → Course → Serving K → Serving K → Core → List ℕ → Tally
+    → Tally → Result Turn StepFault → Type 0
+Turns words schema session at course old new core text told tells (Ok Answered) =
     (base : Base) × (request : Request)
-    × Answers schema session at course base request old new core text told tells (Ok None)
-Turns schema session at course old new core text told tells (Ok Waits) =
+    × Answers words schema session at course base request old new core text told tells (Ok None)
+Turns words schema session at course old new core text told tells (Ok Waits) =
     (base : Base) × (new ≡ old) × (tells ≡ told) × IsLive schema session core text (record course { base = base })
     × AsksAll base course.bytes course.requests None
-Turns schema session at course old new core text told tells (Ok (Over end)) =
+Turns words schema session at course old new core text told tells (Ok (Over end)) =
     ((base : Base) × (request : Request)
-    × Answers schema session at course base request old new core text told tells (Ok (Some end)))
-    ⊎ ((base : Base) × (stop : SessionEnd) × Stopping session at stop old new (Ok end) × (tells ≡ told)
+    × Answers words schema session at course base request old new core text told tells (Ok (Some end)))
+    ⊎ ((base : Base) × (stop : SessionEnd) × Stopping words session at stop old new (Ok end) × (tells ≡ told)
     × AsksAll base course.bytes course.requests (Some stop) × (text ≡ session_text schema base course.entries))
-Turns schema session at course old new core text told tells (Err fault) = BreaksOff session at course old new fault
+Turns words schema session at course old new core text told tells (Err fault) =
+    BreaksOff words session at course old new fault
 
 -- the session goes on, where it has not ended
 abbrev pub LivesIf : Option SessionEnd → Tables → ℕ → Core → List ℕ → Course → Type 0
@@ -145,32 +148,33 @@ LivesIf None schema session core text course = IsLive schema session core text c
 LivesIf (Some end) schema session core text course = Unit {0}
 
 -- a session has heard
-pub record Heard {K : Type 0} (schema : Tables) (session at : ℕ) (course : Course) (old new : Serving K) (core : Core)
-    (text : List ℕ) (told tells : Tally) (end : Option SessionEnd) : Type 0 where
+pub record Heard {K : Type 0} (words : Lasting K) (schema : Tables) (session at : ℕ) (course : Course)
+    (old new : Serving K) (core : Core) (text : List ℕ) (told tells : Tally) (end : Option SessionEnd) : Type 0 where
   pub base : Base
   pub asked : List Request
   pub answers : List Entry
   pub ended : List Entry
   pub are : AreOf session asked answers
-  pub goes : Goes schema session at course base asked (answers ++ ended) old new text told tells
+  pub goes : Goes words schema session at course base asked (answers ++ ended) old new text told tells
   pub comes : Comes session (further course base asked (answers ++ ended)) answers ended end
   pub lives : LivesIf end schema session core text (further course base asked (answers ++ ended))
 
-abbrev pub Listens : {K : Type 0} → Tables → ℕ → ℕ → Course → Serving K → Serving K → Core → List ℕ → Tally → Tally
-    → Result (Option SessionEnd) StepFault → Type 0
-Listens schema session at course old new core text told tells (Ok end) =
-    Heard schema session at course old new core text told tells end
-Listens schema session at course old new core text told tells (Err fault) = BreaksOff session at course old new fault
+abbrev pub Listens : {K : Type 0} → Lasting K → Tables → ℕ → ℕ → Course → Serving K → Serving K → Core → List ℕ
+    → Tally → Tally → Result (Option SessionEnd) StepFault → Type 0
+Listens words schema session at course old new core text told tells (Ok end) =
+    Heard words schema session at course old new core text told tells end
+Listens words schema session at course old new core text told tells (Err fault) =
+    BreaksOff words session at course old new fault
 
 -- a session that listens has answered so many requests
-pub record Listening {K : Type 0} (schema : Tables) (session at : ℕ) (course : Course) (old new : Serving K)
-    (core : Core) (text : List ℕ) (told tells : Tally) (count : ℕ) : Type 0 where
+pub record Listening {K : Type 0} (words : Lasting K) (schema : Tables) (session at : ℕ) (course : Course)
+    (old new : Serving K) (core : Core) (text : List ℕ) (told tells : Tally) (count : ℕ) : Type 0 where
   pub base : Base
   pub asked : List Request
   pub answers : List Entry
   pub are : AreOf session asked answers
   pub live : All StaysLive answers
-  pub goes : Goes schema session at course base asked answers old new text told tells
+  pub goes : Goes words schema session at course base asked answers old new text told tells
   pub lives : IsLive schema session core text (further course base asked answers)
   pub count_is : length answers ≡ count
   pub few : (count ≡ 0) ⊎ (new.count ≤ most_requests)

@@ -1,7 +1,8 @@
 -- One connection of a script, as it is kept.
 use Rattle.std.specs.Prelude.{◌≡◌, ◌⊎◌, ℕ, false, List, [], ◌∷◌, Option, Some, None, Result, Ok, Err}
 use Rattle.std.specs.List.{All}
-use Rattle.nc_machine.specs.Serving.{Serving}
+use Rattle.nc_machine.specs.Serving.{GoesOn, Serving}
+use Rattle.nc_machine.specs.Lasting.{Lasting}
 use Rattle.nc_model.specs.declared.entry.Entry.{Entry}
 use Rattle.nc_model.specs.declared.event.Event.TheVariants.{Start, End}
 use Rattle.nc_model.specs.declared.event.Outcome.{Outcome}
@@ -15,7 +16,7 @@ use Rattle.nc_session.specs.Cores.{IsAt}
 use Rattle.nc_session.specs.ServerHello.{hello_text}
 use Rattle.nc_session.specs.Sessions.{session_text}
 use Rattle.nc_script.specs.Connections.{Connection}
-use Rattle.nc_script.specs.Runs.{HasMade, is_error, is_reply}
+use Rattle.nc_script.specs.Runs.{is_error, is_reply}
 use Rattle.nc_script.specs.Steps.{Begins, Ends, HearsBy, IsPart, Lacks}
 use Rattle.nc_script.specs.inner.Entering.{Breaks}
 use Rattle.nc_script.specs.inner.Hearing.{IsLive}
@@ -57,11 +58,12 @@ Greets schema (Over end) (Ok text) = text ≡ []
 Greets schema state (Err fault) = fault ≡ Memory
 
 -- a connection began, and nothing was told before
-pub record HasBegun {K : Type 0} (number : ℕ) (peer : Peer) (at : ℕ) (old new : Serving K) (talk : Talk) : Type 0 where
+pub record HasBegun {K : Type 0} (words : Lasting K) (number : ℕ) (peer : Peer) (at : ℕ) (old new : Serving K)
+    (talk : Talk) : Type 0 where
   pub connection : Connection
   pub group : List Entry
   pub begins : Begins number peer group connection
-  pub made : HasMade old new group
+  pub made : GoesOn words old new group
   pub at_is : All (λ e. e.at ≡ at) group
   pub stands : Stands new.state.schema talk connection
 
@@ -74,20 +76,20 @@ abbrev pub IsNoneIf : StepFault → List Entry → Type 0
 IsNoneIf Spent part = part ≡ []
 IsNoneIf fault part = Unit {0}
 
-abbrev pub BeginsAt : {K : Type 0} → ℕ → Peer → ℕ → Serving K → Serving K → Result Talk StepFault → Type 0
-BeginsAt number peer at old new (Ok talk) = HasBegun number peer at old new talk
-BeginsAt number peer at old new (Err fault) =
-    (part : List Entry) × IsStart peer at part × IsNoneIf fault part × Breaks at old new fault part
+abbrev pub BeginsAt : {K : Type 0} → Lasting K → ℕ → Peer → ℕ → Serving K → Serving K → Result Talk StepFault → Type 0
+BeginsAt words number peer at old new (Ok talk) = HasBegun words number peer at old new talk
+BeginsAt words number peer at old new (Err fault) =
+    (part : List Entry) × IsStart peer at part × IsNoneIf fault part × Breaks words at old new fault part
 
 -- ---- bytes come
 
 -- a connection has heard, and is kept
-pub record HasHeardAs {K : Type 0} (schema : Tables) (piece : List ℕ) (at : ℕ) (c : Connection) (old new : Serving K)
-    (told tells : Tally) (Kept : Connection → Type 0) : Type 0 where
+pub record HasHeardAs {K : Type 0} (words : Lasting K) (schema : Tables) (piece : List ℕ) (at : ℕ) (c : Connection)
+    (old new : Serving K) (told tells : Tally) (Kept : Connection → Type 0) : Type 0 where
   pub next : Connection
   pub group : List Entry
   pub hears : HearsBy c.end piece group c next
-  pub made : HasMade old new group
+  pub made : GoesOn words old new group
   pub at_is : All (λ e. e.at ≡ at) group
   pub tallied : Tallied told tells group
   pub kept : Kept next
@@ -98,52 +100,53 @@ LacksIf Spent piece part c = Lacks piece part c
 LacksIf fault piece part c = Unit {0}
 
 -- a connection heard a part
-pub record HeardPart {K : Type 0} (piece : List ℕ) (at : ℕ) (c : Connection) (old new : Serving K) (fault : StepFault) :
-    Type 0 where
+pub record HeardPart {K : Type 0} (words : Lasting K) (piece : List ℕ) (at : ℕ) (c : Connection)
+    (old new : Serving K) (fault : StepFault) : Type 0 where
   pub part : List Entry
   pub goes_on : c.end ≡ None
   pub is : IsPart piece part c
   pub due : LacksIf fault piece part c
   pub at_is : All (λ e. e.at ≡ at) part
-  pub breaks : Breaks at old new fault part
+  pub breaks : Breaks words at old new fault part
 
-abbrev pub HearsIn : {K : Type 0} → Tables → List ℕ → ℕ → Connection → Serving K → Serving K → List ℕ → Tally → Tally
-    → Result State StepFault → Type 0
-HearsIn schema piece at c old new text told tells (Ok state) =
-    HasHeardAs schema piece at c old new told tells (λ next. IsIn schema state text next)
-HearsIn schema piece at c old new text told tells (Err fault) = HeardPart piece at c old new fault
+abbrev pub HearsIn : {K : Type 0} → Lasting K → Tables → List ℕ → ℕ → Connection → Serving K → Serving K → List ℕ
+    → Tally → Tally → Result State StepFault → Type 0
+HearsIn words schema piece at c old new text told tells (Ok state) =
+    HasHeardAs words schema piece at c old new told tells (λ next. IsIn schema state text next)
+HearsIn words schema piece at c old new text told tells (Err fault) = HeardPart words piece at c old new fault
 
-abbrev pub HasHeard : {K : Type 0} → Tables → List ℕ → ℕ → Connection → Serving K → Serving K → Talk → Tally → Tally
-    → Result (Unit {0}) StepFault → Type 0
-HasHeard schema piece at c old new talk told tells (Ok u) =
-    HasHeardAs schema piece at c old new told tells (λ next. Stands schema talk next)
-HasHeard schema piece at c old new talk told tells (Err fault) = HeardPart piece at c old new fault
+abbrev pub HasHeard : {K : Type 0} → Lasting K → Tables → List ℕ → ℕ → Connection → Serving K → Serving K → Talk
+    → Tally → Tally → Result (Unit {0}) StepFault → Type 0
+HasHeard words schema piece at c old new talk told tells (Ok u) =
+    HasHeardAs words schema piece at c old new told tells (λ next. Stands schema talk next)
+HasHeard words schema piece at c old new talk told tells (Err fault) = HeardPart words piece at c old new fault
 
 -- ---- a connection ends
 
 -- how a session ends, that was in this state
-abbrev pub LeavesIn : {K : Type 0} → ℕ → Serving K → Serving K → State → Result SessionEnd StepFault → Type 0
-LeavesIn at old new (Live session core) (Ok end) =
-    (e : Entry) × HasMade old new (e ∷ []) × (e.at ≡ at) × (e.event ≡ End session)
+abbrev pub LeavesIn : {K : Type 0} → Lasting K → ℕ → Serving K → Serving K → State → Result SessionEnd StepFault
+    → Type 0
+LeavesIn words at old new (Live session core) (Ok end) =
+    (e : Entry) × GoesOn words old new (e ∷ []) × (e.at ≡ at) × (e.event ≡ End session)
     × (((e.outcome ≡ Ended) × (end ≡ InputEnded)) ⊎ ((e.outcome ≡ NotLive) × (end ≡ Killed)))
-LeavesIn at old new (Over end) (Ok other) = (other ≡ end) × (new ≡ old)
-LeavesIn at old new (Live session core) (Err fault) = Breaks at old new fault []
-LeavesIn at old new (Over end) (Err fault) = ⊥
+LeavesIn words at old new (Over end) (Ok other) = (other ≡ end) × (new ≡ old)
+LeavesIn words at old new (Live session core) (Err fault) = Breaks words at old new fault []
+LeavesIn words at old new (Over end) (Err fault) = ⊥
 
-pub record HasLeftAs {K : Type 0} (schema : Tables) (at : ℕ) (c : Connection) (old new : Serving K) (talk : Talk) :
-    Type 0 where
+pub record HasLeftAs {K : Type 0} (words : Lasting K) (schema : Tables) (at : ℕ) (c : Connection)
+    (old new : Serving K) (talk : Talk) : Type 0 where
   pub next : Connection
   pub group : List Entry
   pub ends : Ends group c next
-  pub made : HasMade old new group
+  pub made : GoesOn words old new group
   pub at_is : All (λ e. e.at ≡ at) group
   pub unanswered : All (λ e. (is_reply e.outcome ≡ false) × (is_error e.outcome ≡ false)) group
   pub kept : Stands schema talk next
 
-abbrev pub HasLeft : {K : Type 0} → Tables → ℕ → Connection → Serving K → Serving K → Talk → Result (Unit {0}) StepFault
-    → Type 0
-HasLeft schema at c old new talk (Ok u) = HasLeftAs schema at c old new talk
-HasLeft schema at c old new talk (Err fault) = (c.end ≡ None) × Breaks at old new fault []
+abbrev pub HasLeft : {K : Type 0} → Lasting K → Tables → ℕ → Connection → Serving K → Serving K → Talk
+    → Result (Unit {0}) StepFault → Type 0
+HasLeft words schema at c old new talk (Ok u) = HasLeftAs words schema at c old new talk
+HasLeft words schema at c old new talk (Err fault) = (c.end ≡ None) × Breaks words at old new fault []
 
 -- how a session ended, where it has
 abbrev pub ends_with : State → Option SessionEnd

@@ -4,4 +4,5 @@ use Rattle.nc_script.proofs.enter.tick.Goals as goal
 
 pub returns : goal.returns
 returns g c =
-    entered_one c.args.machine.now c.tick.new.self Reading c.args.at c.tick.result c.tick.ensures.entered c.tick.ensures.sound.few
+    entered_one c.args.machine.now c.tick.new.self Reading c.args.at c.tick.result c.tick.ensures.entered
+    c.tick.ensures.goes_on c.tick.ensures.sound.few

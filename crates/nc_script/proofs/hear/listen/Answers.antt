@@ -1,4 +1,5 @@
 use Rattle.std.proofs.Common.{arith}
+use Rattle.nc_script.proofs.Made.{words_by}
 use Rattle.nc_script.proofs.Hearings.{turn_is}
 use Rattle.nc_script.proofs.Listenings.{broken_off, heard_over, heard_waits, listening_more, listening_none, never_so_many}
 use Rattle.nc_script.specs.inner.Hearing.{further}
@@ -16,7 +17,8 @@ returns-in-Ok-Waits g c = λ schema course live.
     heard_waits schema c.args.session c.args.at course c.args.machine.now c.loop-request.machine c.take_turn.new.machine c.loop-request.core
     c.take_turn.new.core c.loop-request.text c.take_turn.new.text c.args.tally.now c.loop-request.tally c.take_turn.new.tally
     c.loop-request._request l
-    (turn_is schema c.args.session c.args.at here c.loop-request.machine c.take_turn.new.machine c.take_turn.new.core
+    (turn_is (words_by g.K.Keeper) schema c.args.session c.args.at here c.loop-request.machine
+    c.take_turn.new.machine c.take_turn.new.core
     c.take_turn.new.text c.loop-request.tally c.take_turn.new.tally c.in-Ok-Waits.field-0 Waits c.in-Ok-Waits.field-0-is
     (c.in-Ok-Waits.ensures schema here l.lives))
 
@@ -28,7 +30,8 @@ returns-in-Ok-Over g c = λ schema course live.
     c.take_turn.new.core c.loop-request.text c.take_turn.new.text c.args.tally.now c.loop-request.tally c.take_turn.new.tally
     c.loop-request._request l
     c.in-Ok-Over.end
-    (turn_is schema c.args.session c.args.at here c.loop-request.machine c.take_turn.new.machine c.take_turn.new.core
+    (turn_is (words_by g.K.Keeper) schema c.args.session c.args.at here c.loop-request.machine
+    c.take_turn.new.machine c.take_turn.new.core
     c.take_turn.new.text c.loop-request.tally c.take_turn.new.tally c.in-Ok-Over.field-0 (Over c.in-Ok-Over.end) c.in-Ok-Over.field-0-is
     (c.in-Ok-Over.ensures schema here l.lives))
 
@@ -48,7 +51,8 @@ loop-request-preserved g c = λ schema course live.
     listening_more schema c.args.session c.args.at course c.args.machine.now c.loop-request.machine c.take_turn.new.machine c.loop-request.core
     c.take_turn.new.core c.loop-request.text c.take_turn.new.text c.args.tally.now c.loop-request.tally c.take_turn.new.tally
     c.loop-request._request l
-    (turn_is schema c.args.session c.args.at here c.loop-request.machine c.take_turn.new.machine c.take_turn.new.core
+    (turn_is (words_by g.K.Keeper) schema c.args.session c.args.at here c.loop-request.machine
+    c.take_turn.new.machine c.take_turn.new.core
     c.take_turn.new.text c.loop-request.tally c.take_turn.new.tally c.in-Ok-Answered.field-0 Answered c.in-Ok-Answered.field-0-is
     (c.in-Ok-Answered.ensures schema here l.lives))
 

@@ -1,6 +1,6 @@
 use Rattle.std.proofs.Common.{[], Err, inl, refl, subst}
 use Rattle.nc_model.specs.declared.event.Event.TheVariants.{Start}
-use Rattle.nc_script.proofs.Made.{made_none}
+use Rattle.nc_script.proofs.Made.{made_none, words_by}
 use Rattle.nc_script.proofs.Talkings.{has_begun, ungreeted, unstarted}
 use Rattle.nc_script.specs.Runs.{NotRead}
 use Rattle.nc_script.specs.inner.Entering.{Comes, IsEntered}
@@ -14,12 +14,14 @@ returns-in_default g c =
 pub returns-in-Err : goal.returns-in-Err
 returns-in-Err g c =
     unstarted c.args.number c.args.peer.now c.args.at c.args.machine.now c.submit.new.machine c.in-Err.fault
-    (subst (λ p. Comes c.args.machine.now c.submit.new.machine (Start p) c.args.at (Err c.in-Err.fault)) c.in-Ok.ensures c.in-Err.ensures)
+    (subst (λ p. Comes (words_by g.K.Keeper) c.args.machine.now c.submit.new.machine (Start p) c.args.at
+    (Err c.in-Err.fault)) c.in-Ok.ensures c.in-Err.ensures)
 
 pub returns-in-Ok-greet : goal.returns-in-Ok-greet
 returns-in-Ok-greet g c =
     let e = c.in-Ok-submit.entry in
-    let entered = subst (λ p. IsEntered c.args.machine.now c.submit.new.machine (Start p) c.args.at e) c.in-Ok.ensures
+    let entered = subst (λ p. IsEntered (words_by g.K.Keeper) c.args.machine.now c.submit.new.machine
+    (Start p) c.args.at e) c.in-Ok.ensures
     c.in-Ok-submit.ensures in
     has_begun c.args.number c.args.peer.now c.args.at c.args.machine.now c.submit.new.machine e c.in-Ok-greet.text entered
     c.placed-state.result (subst (λ o. Placed o c.placed-state.result) c.into_outcome.ensures c.placed-state.ensures)
@@ -28,7 +30,8 @@ returns-in-Ok-greet g c =
 pub returns-in-Err-greet : goal.returns-in-Err-greet
 returns-in-Err-greet g c =
     let e = c.in-Ok-submit.entry in
-    let entered = subst (λ p. IsEntered c.args.machine.now c.submit.new.machine (Start p) c.args.at e) c.in-Ok.ensures
+    let entered = subst (λ p. IsEntered (words_by g.K.Keeper) c.args.machine.now c.submit.new.machine
+    (Start p) c.args.at e) c.in-Ok.ensures
     c.in-Ok-submit.ensures in
     ungreeted c.args.number c.args.peer.now c.args.at c.args.machine.now c.submit.new.machine e [] entered
     c.placed-state.result c.in-Err-greet.fault c.in-Err-greet.ensures

@@ -2,9 +2,12 @@
 use Rattle.std.proofs.Common.{◌≡◌, ◌≢◌, ◌<◌, ◌≤◌, ℕ, Bool, true, false, List, [], ◌∷◌, length, get_or, refl, sym, ap, subst, arith}
 use Rattle.std.specs.Prelude.{codes}
 use Rattle.std.specs.List.{list_any}
+use Rattle.nc_edge.specs.Addresses.{IsAddress, Names, OfTcp, OfUnix}
+use Rattle.nc_edge.specs.declared.address.Address.{Address}
+use Rattle.nc_edge.specs.declared.address.Address.TheVariants.{Tcp, Unix}
 use Rattle.nc_protocol.specs.declared.peer.Peer.{Peer}
 use Rattle.nc_program.specs.Words.{AreArguments, HasNoReading, IsCommand, arguments, begins_with_hyphen, count_recovery, is_unknown_flag, zero_or_one}
-use Rattle.nc_program.specs.Words.{Stdio, Script, Check, Load}
+use Rattle.nc_program.specs.Words.{Stdio, Serve, Script, Check, Load}
 use Rattle.nc_program.specs.inner.Asking.{IsNoFolder, IsNoLoad, IsNoStdio}
 
 at_most_one : (b : Bool) → zero_or_one b ≤ 1
@@ -108,9 +111,19 @@ three_words (x ∷ y ∷ z ∷ []) a b c many few first second third =
     λ i. sym first i ∷ sym second i ∷ sym third i ∷ []
 three_words (x ∷ y ∷ z ∷ w ∷ more) a b c many few first second third = absurd (omega (arith, few))
 
+-- ---- an address
+pub address_named : (word : List ℕ) (address : Address) → Names word address → IsAddress word
+address_named word (Unix path) is = OfUnix path.now is
+address_named word (Tcp port) is = OfTcp port is
+
+pub same_second : (name : List ℕ) (words : List (List ℕ)) (a b c d : List ℕ) → IsCommand name words (a ∷ b ∷ [])
+    → IsCommand name words (c ∷ d ∷ []) → b ≡ d
+same_second name words a b c d one other = cc (one.command, other.command)
+
 -- ---- nothing is asked for
 pub nothing : (words : List (List ℕ)) → IsNoStdio words → IsNoFolder words → IsNoLoad words → HasNoReading words
 nothing words no_stdio no_folder no_load (Stdio folder peer) is = no_stdio folder peer is
+nothing words no_stdio no_folder no_load (Serve folder address) is = no_folder.serve folder address is
 nothing words no_stdio no_folder no_load (Script folder file) is = no_folder.script folder file is
 nothing words no_stdio no_folder no_load (Check folder) is = no_folder.check folder is
 nothing words no_stdio no_folder no_load (Load edits) is = no_load edits is

@@ -1,8 +1,11 @@
 mod Arguments
 mod Doing
+mod Lasting
 mod Noting
 mod Outputting
 mod Preparing
 mod Running
 mod Scripting
+mod Seated
+mod Sent
 mod Serving

@@ -1,25 +1,27 @@
 -- What the folder of a device comes to.
-use Rattle.std.proofs.Common.{◌≡◌, ◌≤◌, ◌<◌, ℕ, Bool, true, false, cond, List, length, Option, Some, None, Result, Ok, Err, refl, sym, subst, ap, ◌∙◌, map, arith}
+use Rattle.std.proofs.Common.{◌≡◌, ◌≤◌, ◌<◌, ℕ, Bool, true, false, cond, List, [], ◌∷◌, length, Option, Some, None, Result, Ok, Err, refl, sym, subst, ap, ◌∙◌, map, arith}
 use Rattle.std.specs.List.{All, find, flat_map, position_or_len}
-use Rattle.std.specs.Prelude.{position, slice_index_or, Contains, IfOk}
+use Rattle.std.specs.Prelude.{position, slice_index_or, is_some, Contains, IfErr, IfOk}
 use Rattle.std.proofs.lemmas.Bool.{lt-ltb}
 use Rattle.std.proofs.lemmas.Bool.Decides.{nat_tests}
 use Rattle.std.proofs.lemmas.List.Folds.{find_at}
 use Rattle.std.proofs.lemmas.Option.{slice_get_past}
 use Rattle.nc_header.specs.Header.{line}
 use Rattle.nc_journal.specs.Header.{IsHeader}
+use Rattle.nc_machine.specs.Serving.{IsHomeOf, Serving, StandsFor}
 use Rattle.nc_model.proofs.GoodLemmas.{opening_is_good}
 use Rattle.nc_model.proofs.SessionLemmas.{none_found}
+use Rattle.nc_model.specs.Desks.{Home}
 use Rattle.nc_model.specs.State.{IsGood, State, opening}
 use Rattle.nc_names.specs.declared.path.Row.{Row}
 use Rattle.nc_outside.specs.declared.files.NamedFile.{NamedFile}
 use Rattle.nc_names.specs.Counts.{Rose}
-use Rattle.nc_outside.specs.Disks.{Told}
+use Rattle.nc_outside.specs.Disks.{LeavesOnly, Told}
 use Rattle.nc_schema.specs.Configuration.{IsConfiguration}
 use Rattle.nc_schema.specs.Proper.{IsProperSchema}
 use Rattle.nc_schema.specs.Tables.{Tables}
 use Rattle.nc_schema.specs.Violations.{IsValid}
-use Rattle.nc_store.specs.Keeping.{Storing}
+use Rattle.nc_store.specs.Keeping.{StoreLeaves, Storing}
 use Rattle.nc_store.specs.Opening.{HasBegun, IsRefused, IsUnread}
 use Rattle.nc_store.specs.Reopening.{Reopens}
 use Rattle.nc_store.specs.declared.fault.StoreFault.{StoreFault}
@@ -30,12 +32,13 @@ use Rattle.nc_yang_texts.specs.Texts.{is_long, module_limit, text_limit}
 use Rattle.nc_yang_texts.specs.declared.text.ModuleText.{ModuleText}
 use Rattle.nc_program.specs.Devices.{Begins, Makes, Refuses}
 use Rattle.nc_program.specs.Outside.{Filing, Making, Stored, filing, ground}
+use Rattle.nc_program.specs.inner.Begun.{IsBegun, IsKept, WasOpened, store_words}
 use Rattle.nc_program.specs.inner.Grounds.{Fails, IsReady}
 use Rattle.nc_program.specs.inner.Opening.{Unopens}
 use Rattle.nc_program.specs.inner.Preparing.{IsRead, MakesOf, Prepares}
 use Rattle.nc_program.specs.declared.device.Device.{Device}
 use Rattle.nc_program.specs.declared.end.RunEnd.{RunEnd}
-use Rattle.nc_program.specs.declared.end.RunEnd.TheVariants.{Words, Files, Setup, Store, Memory, Session, Script, Checked}
+use Rattle.nc_program.specs.declared.end.RunEnd.TheVariants.{Words, Files, Setup, Store, Memory, Session, Served, Script, Checked}
 
 -- ---- what the folder holds
 pub not_read : (files later : Option (List NamedFile)) (folder : List ℕ) (before now : ℕ) (m : Making) (end : RunEnd)
@@ -47,6 +50,7 @@ not_read files later folder before now m Words same none = absurd none
 not_read files later folder before now m (Setup fault) same none = absurd none
 not_read files later folder before now m (Store fault) same none = absurd none
 not_read files later folder before now m (Session end) same none = absurd none
+not_read files later folder before now m (Served end) same none = absurd none
 not_read files later folder before now m (Script end) same none = absurd none
 not_read files later folder before now m (Checked printed) same none = absurd none
 
@@ -62,6 +66,7 @@ was_read files later folder before now m n contents (Err Words) same read none =
 was_read files later folder before now m n contents (Err Files) same read none = absurd none
 was_read files later folder before now m n contents (Err (Store fault)) same read none = absurd none
 was_read files later folder before now m n contents (Err (Session end)) same read none = absurd none
+was_read files later folder before now m n contents (Err (Served end)) same read none = absurd none
 was_read files later folder before now m n contents (Err (Script end)) same read none = absurd none
 was_read files later folder before now m n contents (Err (Checked printed)) same read none = absurd none
 
@@ -100,15 +105,17 @@ has_header files folder device makes =
 
 -- ---- a server, or none
 pub is_ready : (folder : List ℕ) (f g : Filing) (d : Stored) (m n : Making) (device : Device) (first : State) (schema : Tables)
-    (modules : ℕ) → Prepares folder f g m n (Ok device) → Begins device d first → schema ≡ device.schema → modules ≡ device.modules
-    → IsReady folder (ground f d m) (ground g d n) first schema modules
-is_ready folder f g d m n device first schema modules (makes, same) begins schema_is modules_is = record {
+    (modules : ℕ) (S : Device → Type 0) → Prepares folder f g m n (Ok device) → Begins device d first
+    → schema ≡ device.schema → modules ≡ device.modules → S device
+    → IsReady folder (ground f d m) (ground g d n) first schema modules S
+is_ready folder f g d m n device first schema modules S (makes, same) begins schema_is modules_is begun = record {
   device = device;
   makes = makes;
   begins = begins;
   schema_is = schema_is;
   modules_is = modules_is;
   files = same;
+  begun = begun;
 }
 
 pub not_prepared : (folder : List ℕ) (f g : Filing) (d : Stored) (m n : Making) (end : RunEnd) → Prepares folder f g m n (Err end)
@@ -119,6 +126,7 @@ not_prepared folder f g d m n (Setup fault) (none, same) = (none, λ i. ground (
 not_prepared folder f g d m n Words none = absurd none
 not_prepared folder f g d m n (Store fault) none = absurd none
 not_prepared folder f g d m n (Session end) none = absurd none
+not_prepared folder f g d m n (Served end) none = absurd none
 not_prepared folder f g d m n (Script end) none = absurd none
 not_prepared folder f g d m n (Checked printed) none = absurd none
 
@@ -130,6 +138,7 @@ not_opened folder f g d e m n device Words prepared none = absurd none
 not_opened folder f g d e m n device Files prepared none = absurd none
 not_opened folder f g d e m n device (Setup fault) prepared none = absurd none
 not_opened folder f g d e m n device (Session end) prepared none = absurd none
+not_opened folder f g d e m n device (Served end) prepared none = absurd none
 not_opened folder f g d e m n device (Script end) prepared none = absurd none
 not_opened folder f g d e m n device (Checked printed) prepared none = absurd none
 
@@ -147,6 +156,15 @@ begins_so device disk first schema begins same =
 pub ok_so : {A E : Type 0} (P Q : A → Type 0) (result : Result A E) → ((it : A) → P it → Q it) → IfOk result P → IfOk result Q
 ok_so P Q (Ok it) so is = so it is
 ok_so P Q (Err e) so is = tt
+
+pub err_so : {A E : Type 0} (P Q : E → Type 0) (result : Result A E) → ((it : E) → P it → Q it) → IfErr result P → IfErr result Q
+err_so P Q (Ok it) so is = tt
+err_so P Q (Err e) so is = so e is
+
+pub ok_all : {A E : Type 0} (P Q R S : A → Type 0) (result : Result A E) → ((it : A) → P it → Q it → R it → S it)
+    → IfOk result P → IfOk result Q → IfOk result R → IfOk result S
+ok_all P Q R S (Ok it) so p q r = so it p q r
+ok_all P Q R S (Err e) so p q r = tt
 
 pub begins_by : {D : Type 0} (device : Device) (disk : Stored) (failed : ℕ) (tables schema : Tables) (store : Storing D)
     (running : List Row) (first : State) → tables ≡ device.schema → schema ≡ device.schema → IsProperSchema device.schema
@@ -178,3 +196,41 @@ refuses_by device before now tables fault same refused unread cause = record {
       → ¬ Reopens (record { header = device.header; tables = t; initial = device.initial }) among file)) same unread;
   cause = cause;
 }
+
+pub begun_by : {D : Type 0} (seen : D → Option (List ℕ)) (may_leave : D → List ℕ → Type 0) (moment : D → ℕ)
+    (left_since : D → ℕ → List ℕ → Type 0) (disk : D) (device : Device) (tables : Tables) (store : Storing D)
+    (running : List Row) (machine : Serving (Storing D)) → tables ≡ device.schema
+    → HasBegun (record { header = device.header; tables = tables; initial = device.initial }) store running
+    → machine.keeper ≡ store → machine.state.running ≡ running → is_some (seen store.disk) ≡ is_some (seen disk)
+    → StoreLeaves seen left_since store (moment store.disk) (running ∷ [])
+    → Told (seen disk) (λ _. (among : List (List Row))
+    → ((c : List ℕ) → may_leave disk c → Reopens (record { header = device.header; tables = tables; initial = device.initial }) among c)
+    → LeavesOnly moment left_since disk store.disk (Reopens (record { header = device.header; tables = tables; initial = device.initial }) among))
+    → ((home : Home) → IsHomeOf (store_words seen moment left_since) machine home
+    → StandsFor (store_words seen moment left_since) home machine [])
+    → IsBegun seen may_leave moment left_since disk device machine
+begun_by {D} seen may_leave moment left_since disk device tables store running machine same begun keeper is tells now moments stands = record {
+  setup_is = ap (λ (s : Storing D). s.setup) keeper ∙ begun.setup_is
+      ∙ ap (λ (t : Tables). record { header = device.header; tables = t; initial = device.initial }) same;
+  tells = ap (λ (s : Storing D). is_some (seen s.disk)) keeper ∙ tells;
+  now = subst (λ (z : Storing D × List Row). StoreLeaves seen left_since z.0 (moment z.0.disk) (z.1 ∷ []))
+      (λ i. (sym keeper i, sym is i)) now;
+  moments = subst (λ (z : Storing D × Tables). Told (seen disk) (λ _. (among : List (List Row))
+      → ((c : List ℕ) → may_leave disk c → Reopens (record { header = device.header; tables = z.1; initial = device.initial }) among c)
+      → LeavesOnly moment left_since disk z.0.disk (Reopens (record { header = device.header; tables = z.1; initial = device.initial }) among)))
+      (λ i. (sym keeper i, same i)) moments;
+  stands = stands;
+}
+
+-- and the disk of a store that was not opened, or is given back
+pub kept_by : {D : Type 0} (seen : D → Option (List ℕ)) (may_leave : D → List ℕ → Type 0) (moment : D → ℕ)
+    (left_since : D → ℕ → List ℕ → Type 0) (old new now : D) (device : Device) (tables : Tables) → tables ≡ device.schema
+    → now ≡ new → Told (seen old) (λ _. (among : List (List Row))
+    → ((c : List ℕ) → may_leave old c → Reopens (record { header = device.header; tables = tables; initial = device.initial }) among c)
+    → LeavesOnly moment left_since old new (Reopens (record { header = device.header; tables = tables; initial = device.initial }) among))
+    → IsKept seen may_leave moment left_since old now device
+kept_by {D} seen may_leave moment left_since old new now device tables same is moments = WasOpened
+    (subst (λ (z : D × Tables). Told (seen old) (λ _. (among : List (List Row))
+    → ((c : List ℕ) → may_leave old c → Reopens (record { header = device.header; tables = z.1; initial = device.initial }) among c)
+    → LeavesOnly moment left_since old z.0 (Reopens (record { header = device.header; tables = z.1; initial = device.initial }) among)))
+    (λ i. (sym is i, same i)) moments)

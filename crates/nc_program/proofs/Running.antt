@@ -3,8 +3,10 @@ use Rattle.std.proofs.Common.{◌≡◌, ◌↔◌, ℕ, List, [], Option, refl,
 use Rattle.nc_names.specs.Counts.{Rose}
 use Rattle.nc_names.specs.Limits.{most_requests}
 use Rattle.nc_model.specs.State.{State}
+use Rattle.nc_model.specs.declared.entry.Entry.{Entry}
 use Rattle.nc_outside.specs.Streams.{Streams}
 use Rattle.nc_schema.specs.Tables.{Tables}
+use Rattle.nc_server.specs.declared.end.ServeEnd.TheVariants.{NoMore, ListenFault}
 use Rattle.nc_session.specs.Serves.{called}
 use Rattle.nc_session.specs.declared.end.SessionEnd.{SessionEnd}
 use Rattle.nc_session.specs.declared.end.SessionEnd.TheVariants.{Closed, InputEnded, BadHello, BadFrame, Malformed, TooBig, Killed, ReadFault, WriteFault, Full, Spent, Memory as SessionMemory}
@@ -12,43 +14,47 @@ use Rattle.nc_setup.specs.declared.fault.SetupFault.TheVariants.{Module, Feature
 use Rattle.nc_store.specs.declared.fault.StoreFault.TheVariants.{DiskFault, Damaged, OtherModules, Memory as StoreMemory}
 use Rattle.nc_program.proofs.Serving.{read_failed, write_failed}
 use Rattle.nc_program.specs.Counts.{check_line}
+use Rattle.nc_program.specs.Crashes.{Crashing, Lasts, Spares}
 use Rattle.nc_program.specs.Ends.{printed_status, script_status, status_of}
-use Rattle.nc_program.specs.Loads.{Loads}
+use Rattle.nc_program.specs.Loads.{Loads, nothing_lasts}
 use Rattle.nc_program.specs.Notes.{Told}
-use Rattle.nc_program.specs.Outside.{Ground, Making, Outside, Times, outside}
+use Rattle.nc_program.specs.Outside.{Ground, Listening, Making, Outside, Times, outside}
 use Rattle.nc_program.specs.Printing.{IsPrinted}
-use Rattle.nc_program.specs.Run.{AreFaulty, HasFailed, HasNoMemory, IsChecked, IsIn, IsLoaded, IsOpened, IsOver, IsScripted, IsUnopened, MakesNoDevice, Runs, output_of}
+use Rattle.nc_program.specs.Run.{AreFaulty, HasFailed, HasNoMemory, HasServed, IsChecked, IsLoaded, IsOpened, IsOver, IsScripted, IsUnopened, MakesNoDevice, Runs, output_of}
 use Rattle.nc_program.specs.Scripts.{Comes, HadNoMemory, HasBadLine, HasSteps, IsAbsent, Scripts}
-use Rattle.nc_program.specs.Sessions.{HasMadeAlone, home_of}
-use Rattle.nc_program.specs.Words.{Asks, HasNoReading, Task}
-use Rattle.nc_program.specs.Words.{Stdio as ToServe, Script as ToScript, Check as ToCheck, Load as ToLoad}
+use Rattle.nc_program.specs.Sessions.{HasMadeAlone}
+use Rattle.nc_program.specs.Words.{Asks, HasNoReading, IsIn, Task}
+use Rattle.nc_program.specs.Words.{Stdio as ToServe, Serve as ToListen, Script as ToScript, Check as ToCheck, Load as ToLoad}
 use Rattle.nc_program.specs.inner.Grounds.{Fails, IsReady}
+use Rattle.nc_program.specs.declared.device.Device.{Device}
 use Rattle.nc_program.specs.declared.end.Printed.{Printed}
 use Rattle.nc_program.specs.declared.end.Printed.TheVariants.{Part, Whole}
 use Rattle.nc_program.specs.declared.end.RunEnd.{RunEnd}
-use Rattle.nc_program.specs.declared.end.RunEnd.TheVariants.{Words, Files, Setup, Store, Memory, Session, Script, Checked}
+use Rattle.nc_program.specs.declared.end.RunEnd.TheVariants.{Words, Files, Setup, Store, Memory, Session, Served, Script, Checked}
 use Rattle.nc_program.specs.declared.end.ScriptEnd.{ScriptEnd}
 use Rattle.nc_program.specs.declared.end.ScriptEnd.TheVariants.{Absent, BadLine, BadStep, Spent as ScriptSpent, Memory as ScriptMemory, Done}
 
 -- ---- no server was made
-pub no_server : (words : List (List ℕ)) (task : Task) (folder : List ℕ) (g h : Ground) (s : Streams) (t : Times) (end : RunEnd)
-    → Asks words task → IsIn folder task → Fails folder g h end
-    → Runs words (outside g.files g.disk s t g.maker) (outside h.files h.disk s t h.maker) end
-no_server words task folder g h s t Files asks is (rose, same) = HasFailed task asks rose refl
-no_server words task folder g h s t Memory asks is same = HasNoMemory task asks refl
-no_server words task folder g h s t (Setup fault) asks is (none, same) =
-    MakesNoDevice task folder fault asks is none (λ i. outside (same i).files (same i).disk s t h.maker)
-no_server words task folder g h s t (Store fault) asks is (device, makes, refuses, same) =
-    IsUnopened task folder device fault asks is makes refuses (λ i. outside (same i).files h.disk s t h.maker)
-no_server words task folder g h s t Words asks is none = absurd none
-no_server words task folder g h s t (Session end) asks is none = absurd none
-no_server words task folder g h s t (Script end) asks is none = absurd none
-no_server words task folder g h s t (Checked printed) asks is none = absurd none
+pub no_server : (crashes : Crashing) (words : List (List ℕ)) (task : Task) (folder : List ℕ) (g h : Ground) (s : Streams) (t : Times) (l : Listening) (end : RunEnd)
+    → Asks words task → IsIn folder task → Spares crashes g.files folder → Fails folder g h end
+    → Runs crashes words (outside g.files g.disk s t l g.maker) (outside h.files h.disk s t l h.maker) end
+no_server crashes words task folder g h s t l Files asks is spares (rose, same) = HasFailed task folder asks is rose refl spares
+no_server crashes words task folder g h s t l Memory asks is spares same = HasNoMemory task folder asks is refl spares
+no_server crashes words task folder g h s t l (Setup fault) asks is spares (none, same) =
+    MakesNoDevice task folder fault asks is none (λ i. outside (same i).files (same i).disk s t l h.maker) spares
+no_server crashes words task folder g h s t l (Store fault) asks is spares (device, makes, refuses, same) =
+    IsUnopened task folder device fault asks is makes refuses (λ i. outside (same i).files h.disk s t l h.maker) spares
+no_server crashes words task folder g h s t l Words asks is spares none = absurd none
+no_server crashes words task folder g h s t l (Session end) asks is spares none = absurd none
+no_server crashes words task folder g h s t l (Served end) asks is spares none = absurd none
+no_server crashes words task folder g h s t l (Script end) asks is spares none = absurd none
+no_server crashes words task folder g h s t l (Checked printed) asks is spares none = absurd none
 
 -- a server was made
-pub is_opened : (folder : List ℕ) (g h : Ground) (s : Streams) (t : Times) (first : State) (schema : Tables) (modules : ℕ)
-    → (ready : IsReady folder g h first schema modules) → IsOpened (outside g.files g.disk s t g.maker) folder ready.device first
-is_opened folder g h s t first schema modules ready = record { makes = ready.makes; begins = ready.begins }
+pub is_opened : (folder : List ℕ) (g h : Ground) (s : Streams) (t : Times) (l : Listening) (first : State) (schema : Tables) (modules : ℕ)
+    (IsBegunOf : Device → Type 0) (ready : IsReady folder g h first schema modules IsBegunOf)
+    → IsOpened (outside g.files g.disk s t l g.maker) folder ready.device first
+is_opened folder g h s t l first schema modules IsBegunOf ready = record { makes = ready.makes; begins = ready.begins }
 
 -- ---- the statuses
 -- a write to standard output failed
@@ -83,6 +89,8 @@ of_two (Session (BadFrame at)) e = absurd (omega (arith, e))
 of_two (Session (Malformed at why)) e = absurd (omega (arith, e))
 of_two (Session (TooBig at)) e = absurd (omega (arith, e))
 of_two (Session (Spent ticket)) e = absurd (omega (arith, e))
+of_two (Served NoMore) e = absurd (omega (arith, e))
+of_two (Served (ListenFault in_a_row)) e = absurd (omega (arith, e))
 of_two (Script Absent) e = absurd (omega (arith, e))
 of_two (Script (BadLine line)) e = absurd (omega (arith, e))
 of_two (Script (BadStep n)) e = absurd (omega (arith, e))
@@ -118,6 +126,8 @@ of_six (Session (BadFrame at)) e = absurd (omega (arith, e))
 of_six (Session (Malformed at why)) e = absurd (omega (arith, e))
 of_six (Session (TooBig at)) e = absurd (omega (arith, e))
 of_six (Session (Spent ticket)) e = absurd (omega (arith, e))
+of_six (Served NoMore) e = absurd (omega (arith, e))
+of_six (Served (ListenFault in_a_row)) e = absurd (omega (arith, e))
 of_six (Script Absent) e = absurd (omega (arith, e))
 of_six (Script (BadLine line)) e = absurd (omega (arith, e))
 of_six (Script (BadStep n)) e = absurd (omega (arith, e))
@@ -153,6 +163,8 @@ of_seven (Session (BadFrame at)) e = absurd (omega (arith, e))
 of_seven (Session (Malformed at why)) e = absurd (omega (arith, e))
 of_seven (Session (TooBig at)) e = absurd (omega (arith, e))
 of_seven (Session (Spent ticket)) e = absurd (omega (arith, e))
+of_seven (Served NoMore) e = absurd (omega (arith, e))
+of_seven (Served (ListenFault in_a_row)) e = absurd (omega (arith, e))
 of_seven (Script Absent) e = absurd (omega (arith, e))
 of_seven (Script (BadLine line)) e = absurd (omega (arith, e))
 of_seven (Script (BadStep n)) e = absurd (omega (arith, e))
@@ -188,6 +200,8 @@ of_eight (Session (BadFrame at)) e = absurd (omega (arith, e))
 of_eight (Session (Malformed at why)) e = absurd (omega (arith, e))
 of_eight (Session (TooBig at)) e = absurd (omega (arith, e))
 of_eight (Session (Spent ticket)) e = absurd (omega (arith, e))
+of_eight (Served NoMore) e = absurd (omega (arith, e))
+of_eight (Served (ListenFault in_a_row)) e = absurd (omega (arith, e))
 of_eight (Script Absent) e = absurd (omega (arith, e))
 of_eight (Script (BadLine line)) e = absurd (omega (arith, e))
 of_eight (Script (BadStep n)) e = absurd (omega (arith, e))
@@ -223,6 +237,8 @@ of_thirteen (Session (BadFrame at)) e = absurd (omega (arith, e))
 of_thirteen (Session (Malformed at why)) e = absurd (omega (arith, e))
 of_thirteen (Session (TooBig at)) e = absurd (omega (arith, e))
 of_thirteen (Session (Spent ticket)) e = absurd (omega (arith, e))
+of_thirteen (Served NoMore) e = absurd (omega (arith, e))
+of_thirteen (Served (ListenFault in_a_row)) e = absurd (omega (arith, e))
 of_thirteen (Script Absent) e = absurd (omega (arith, e))
 of_thirteen (Script (BadLine line)) e = absurd (omega (arith, e))
 of_thirteen (Script (BadStep n)) e = absurd (omega (arith, e))
@@ -248,42 +264,45 @@ session_seven (TooBig at) none = absurd none
 session_seven (Spent ticket) none = absurd none
 
 -- ---- what each status tells
-pub words_status : (words : List (List ℕ)) (before now : Outside) (end : RunEnd) → Runs words before now end
+pub words_status : (crashes : Crashing) (words : List (List ℕ)) (before now : Outside) (end : RunEnd) → Runs crashes words before now end
     → status_of end ≡ 2 ↔ HasNoReading words
-words_status words before now end (AreFaulty none same) = (λ e. none, λ n. refl)
-words_status words before now end (HasFailed task asks rose same) = (λ e. absurd (omega (arith, e)), λ none. absurd (none task asks))
-words_status words before now end (HasNoMemory task asks same) = (λ e. absurd (omega (arith, e)), λ none. absurd (none task asks))
-words_status words before now end (MakesNoDevice task folder fault asks is none_made same) =
+words_status crashes words before now end (AreFaulty none same) = (λ e. none, λ n. refl)
+words_status crashes words before now end (HasFailed task folder asks is rose same spares) = (λ e. absurd (omega (arith, e)), λ none. absurd (none task asks))
+words_status crashes words before now end (HasNoMemory task folder asks is same spares) = (λ e. absurd (omega (arith, e)), λ none. absurd (none task asks))
+words_status crashes words before now end (MakesNoDevice task folder fault asks is none_made same spares) =
     (λ e. cc (of_two (Setup fault) e), λ none. absurd (none task asks))
-words_status words before now end (IsUnopened task folder device fault asks is makes refuses same) =
+words_status crashes words before now end (IsUnopened task folder device fault asks is makes refuses same spares) =
     (λ e. cc (of_two (Store fault) e), λ none. absurd (none task asks))
-words_status words before now end (IsOver folder peer device first met asks opened files served_so) =
+words_status crashes words before now end (IsOver folder peer device first met asks opened files served_so) =
     (λ e. cc (of_two (Session met) e), λ none. absurd (none (ToServe folder peer) asks))
-words_status words before now end (IsScripted folder file device first found met asks opened found_so came same) =
+words_status crashes words before now end (HasServed folder address device first history met asks opened files made ends same) =
+    (λ e. cc (of_two (Served met) e), λ none. absurd (none (ToListen folder address) asks))
+words_status crashes words before now end (IsScripted folder file device first found met asks opened found_so came same) =
     (λ e. cc (of_two (Script met) e), λ none. absurd (none (ToScript folder file) asks))
-words_status words before now end (IsChecked folder device first found printed asks opened found_so wrote same) =
+words_status crashes words before now end (IsChecked folder device first found printed asks opened found_so lasts wrote same) =
     (λ e. cc (of_two (Checked printed) e), λ none. absurd (none (ToCheck folder) asks))
-words_status words before now end (IsLoaded edits met asks loads same) = (
+words_status crashes words before now end (IsLoaded edits met asks loads same) = (
   λ e. absurd (subst (λ x. Loads edits before.maker now.maker (output_of before.streams) (output_of now.streams) x) (of_two met e) loads),
   λ none. absurd (none (ToLoad edits) asks),
 )
 
-pub read_status : (words : List (List ℕ)) (before now : Outside) (end : RunEnd) → Runs words before now end
+pub read_status : (crashes : Crashing) (words : List (List ℕ)) (before now : Outside) (end : RunEnd) → Runs crashes words before now end
     → status_of end ≡ 6 → Rose before.streams.reads_failed now.streams.reads_failed
-read_status words before now end (AreFaulty none same) e = absurd (omega (arith, e))
-read_status words before now end (HasFailed task asks rose same) e = absurd (omega (arith, e))
-read_status words before now end (HasNoMemory task asks same) e = absurd (omega (arith, e))
-read_status words before now end (MakesNoDevice task folder fault asks is none_made same) e = cc (of_six (Setup fault) e)
-read_status words before now end (IsUnopened task folder device fault asks is makes refuses same) e = cc (of_six (Store fault) e)
-read_status words before now end (IsOver folder peer device first met asks opened files served_so) e =
-    read_failed first.schema (called peer (home_of first before.times) [] [] before.streams)
-    (HasMadeAlone first now.disk.failed before.times now.times) (λ ticket. ticket ≡ most_requests) now.streams met served_so.serves
+read_status crashes words before now end (AreFaulty none same) e = absurd (omega (arith, e))
+read_status crashes words before now end (HasFailed task folder asks is rose same spares) e = absurd (omega (arith, e))
+read_status crashes words before now end (HasNoMemory task folder asks is same spares) e = absurd (omega (arith, e))
+read_status crashes words before now end (MakesNoDevice task folder fault asks is none_made same spares) e = cc (of_six (Setup fault) e)
+read_status crashes words before now end (IsUnopened task folder device fault asks is makes refuses same spares) e = cc (of_six (Store fault) e)
+read_status crashes words before now end (IsOver folder peer device first met asks opened files served_so) e =
+    read_failed first.schema (called peer served_so.home [] [] before.streams)
+    (HasMadeAlone first now.disk.failed (Lasts crashes device first) before.times now.times) (λ ticket. ticket ≡ most_requests) now.streams met served_so.serves
     (cc (of_six (Session met) e))
-read_status words before now end (IsScripted folder file device first found met asks opened found_so came same) e =
+read_status crashes words before now end (HasServed folder address device first history met asks opened files made ends same) e = cc (of_six (Served met) e)
+read_status crashes words before now end (IsScripted folder file device first found met asks opened found_so came same) e =
     cc (of_six (Script met) e)
-read_status words before now end (IsChecked folder device first found printed asks opened found_so wrote same) e =
+read_status crashes words before now end (IsChecked folder device first found printed asks opened found_so lasts wrote same) e =
     cc (of_six (Checked printed) e)
-read_status words before now end (IsLoaded edits met asks loads same) e =
+read_status crashes words before now end (IsLoaded edits met asks loads same) e =
     absurd (subst (λ x. Loads edits before.maker now.maker (output_of before.streams) (output_of now.streams) x) (of_six met e) loads)
 
 -- a text that was not written whole
@@ -292,80 +311,84 @@ part_failed : (text : List ℕ) (before now : Told) (printed : Printed) → IsPr
 part_failed text before now Part (part, rose) e = rose
 part_failed text before now Whole wrote e = absurd (omega (arith, e))
 
-comes_failed : (text_of : _) (first : State) (failed : ℕ) (steps : _) (before now : Told) (end : ScriptEnd)
-    → Comes text_of first failed steps before now end → script_status end ≡ 7 → Rose before.failed now.failed
-comes_failed text_of first failed steps before now (Done printed) (run, at, wrote) e =
+comes_failed : (text_of : _) (first : State) (failed : ℕ) (S : List Entry → Type 0) (steps : _) (before now : Told) (end : ScriptEnd)
+    → Comes text_of first failed S steps before now end → script_status end ≡ 7 → Rose before.failed now.failed
+comes_failed text_of first failed S steps before now (Done printed) (run, at, wrote) e =
     part_failed (text_of run) before now printed wrote e
-comes_failed text_of first failed steps before now Absent none e = absurd none
-comes_failed text_of first failed steps before now (BadLine line) none e = absurd none
-comes_failed text_of first failed steps before now (BadStep n) came e = absurd (omega (arith, e))
-comes_failed text_of first failed steps before now (ScriptSpent n) came e = absurd (omega (arith, e))
-comes_failed text_of first failed steps before now ScriptMemory came e = absurd (omega (arith, e))
+comes_failed text_of first failed S steps before now Absent none e = absurd none
+comes_failed text_of first failed S steps before now (BadLine line) none e = absurd none
+comes_failed text_of first failed S steps before now (BadStep n) came e = absurd (omega (arith, e))
+comes_failed text_of first failed S steps before now (ScriptSpent n) came e = absurd (omega (arith, e))
+comes_failed text_of first failed S steps before now ScriptMemory came e = absurd (omega (arith, e))
 
-script_failed : (first : State) (failed : ℕ) (found : Option (List ℕ)) (before now : Told) (end : ScriptEnd)
-    → Scripts first failed found before now end → script_status end ≡ 7 → Rose before.failed now.failed
-script_failed first failed found before now end (IsAbsent none same) e = absurd (omega (arith, e))
-script_failed first failed found before now end (HasBadLine text line is bad same) e = absurd (omega (arith, e))
-script_failed first failed found before now end (HadNoMemory same) e = absurd (omega (arith, e))
-script_failed first failed found before now end (HasSteps text steps met is script comes) e =
-    comes_failed _ first failed steps before now met comes e
+script_failed : (first : State) (failed : ℕ) (S : List Entry → Type 0) (found : Option (List ℕ)) (before now : Told) (end : ScriptEnd)
+    → Scripts first failed S found before now end → script_status end ≡ 7 → Rose before.failed now.failed
+script_failed first failed S found before now end (IsAbsent none same lasts) e = absurd (omega (arith, e))
+script_failed first failed S found before now end (HasBadLine text line is bad same lasts) e = absurd (omega (arith, e))
+script_failed first failed S found before now end (HadNoMemory same lasts) e = absurd (omega (arith, e))
+script_failed first failed S found before now end (HasSteps text steps met is script comes) e =
+    comes_failed _ first failed S steps before now met comes e
 
 load_failed : (edits : ℕ) (m n : Making) (before now : Told) (end : RunEnd) → Loads edits m n before now end → status_of end ≡ 7
     → Rose before.failed now.failed
-load_failed edits m n before now (Script end) loads e = comes_failed _ _ loads.failed _ before now end loads.comes e
+load_failed edits m n before now (Script end) loads e = comes_failed _ _ loads.failed nothing_lasts _ before now end loads.comes e
 load_failed edits m n before now (Setup fault) loads e = absurd (of_seven (Setup fault) e)
 load_failed edits m n before now Memory loads e = absurd (omega (arith, e))
 load_failed edits m n before now Words none e = absurd none
 load_failed edits m n before now Files none e = absurd none
 load_failed edits m n before now (Store fault) none e = absurd none
 load_failed edits m n before now (Session end) none e = absurd none
+load_failed edits m n before now (Served end) none e = absurd none
 load_failed edits m n before now (Checked printed) none e = absurd none
 
-pub write_status : (words : List (List ℕ)) (before now : Outside) (end : RunEnd) → Runs words before now end
+pub write_status : (crashes : Crashing) (words : List (List ℕ)) (before now : Outside) (end : RunEnd) → Runs crashes words before now end
     → status_of end ≡ 7 → Rose before.streams.writes_failed now.streams.writes_failed
-write_status words before now end (AreFaulty none same) e = absurd (omega (arith, e))
-write_status words before now end (HasFailed task asks rose same) e = absurd (omega (arith, e))
-write_status words before now end (HasNoMemory task asks same) e = absurd (omega (arith, e))
-write_status words before now end (MakesNoDevice task folder fault asks is none_made same) e = absurd (of_seven (Setup fault) e)
-write_status words before now end (IsUnopened task folder device fault asks is makes refuses same) e = absurd (of_seven (Store fault) e)
-write_status words before now end (IsOver folder peer device first met asks opened files served_so) e =
-    write_failed first.schema (called peer (home_of first before.times) [] [] before.streams)
-    (HasMadeAlone first now.disk.failed before.times now.times) (λ ticket. ticket ≡ most_requests) now.streams met served_so.serves
+write_status crashes words before now end (AreFaulty none same) e = absurd (omega (arith, e))
+write_status crashes words before now end (HasFailed task folder asks is rose same spares) e = absurd (omega (arith, e))
+write_status crashes words before now end (HasNoMemory task folder asks is same spares) e = absurd (omega (arith, e))
+write_status crashes words before now end (MakesNoDevice task folder fault asks is none_made same spares) e = absurd (of_seven (Setup fault) e)
+write_status crashes words before now end (IsUnopened task folder device fault asks is makes refuses same spares) e = absurd (of_seven (Store fault) e)
+write_status crashes words before now end (IsOver folder peer device first met asks opened files served_so) e =
+    write_failed first.schema (called peer served_so.home [] [] before.streams)
+    (HasMadeAlone first now.disk.failed (Lasts crashes device first) before.times now.times) (λ ticket. ticket ≡ most_requests) now.streams met served_so.serves
     (session_seven met (of_seven (Session met) e))
-write_status words before now end (IsScripted folder file device first found met asks opened found_so came same) e =
-    script_failed first now.disk.failed found (output_of before.streams) (output_of now.streams) met came e
-write_status words before now end (IsChecked folder device first found printed asks opened found_so wrote same) e =
+write_status crashes words before now end (HasServed folder address device first history met asks opened files made ends same) e = absurd (of_seven (Served met) e)
+write_status crashes words before now end (IsScripted folder file device first found met asks opened found_so came same) e =
+    script_failed first now.disk.failed (Lasts crashes device first) found (output_of before.streams) (output_of now.streams) met came e
+write_status crashes words before now end (IsChecked folder device first found printed asks opened found_so lasts wrote same) e =
     part_failed (check_line found) (output_of before.streams) (output_of now.streams) printed wrote e
-write_status words before now end (IsLoaded edits met asks loads same) e =
+write_status crashes words before now end (IsLoaded edits met asks loads same) e =
     load_failed edits before.maker now.maker (output_of before.streams) (output_of now.streams) met loads e
 
-pub disk_status : (words : List (List ℕ)) (before now : Outside) (end : RunEnd) → Runs words before now end
+pub disk_status : (crashes : Crashing) (words : List (List ℕ)) (before now : Outside) (end : RunEnd) → Runs crashes words before now end
     → status_of end ≡ 8 → Rose before.disk.failed now.disk.failed
-disk_status words before now end (AreFaulty none same) e = absurd (omega (arith, e))
-disk_status words before now end (HasFailed task asks rose same) e = absurd (omega (arith, e))
-disk_status words before now end (HasNoMemory task asks same) e = absurd (omega (arith, e))
-disk_status words before now end (MakesNoDevice task folder fault asks is none_made same) e = cc (of_eight (Setup fault) e)
-disk_status words before now end (IsUnopened task folder device fault asks is makes refuses same) e =
+disk_status crashes words before now end (AreFaulty none same) e = absurd (omega (arith, e))
+disk_status crashes words before now end (HasFailed task folder asks is rose same spares) e = absurd (omega (arith, e))
+disk_status crashes words before now end (HasNoMemory task folder asks is same spares) e = absurd (omega (arith, e))
+disk_status crashes words before now end (MakesNoDevice task folder fault asks is none_made same spares) e = cc (of_eight (Setup fault) e)
+disk_status crashes words before now end (IsUnopened task folder device fault asks is makes refuses same spares) e =
     refuses.cause (cc (of_eight (Store fault) e))
-disk_status words before now end (IsOver folder peer device first met asks opened files served_so) e = cc (of_eight (Session met) e)
-disk_status words before now end (IsScripted folder file device first found met asks opened found_so came same) e =
+disk_status crashes words before now end (IsOver folder peer device first met asks opened files served_so) e = cc (of_eight (Session met) e)
+disk_status crashes words before now end (HasServed folder address device first history met asks opened files made ends same) e = cc (of_eight (Served met) e)
+disk_status crashes words before now end (IsScripted folder file device first found met asks opened found_so came same) e =
     cc (of_eight (Script met) e)
-disk_status words before now end (IsChecked folder device first found printed asks opened found_so wrote same) e =
+disk_status crashes words before now end (IsChecked folder device first found printed asks opened found_so lasts wrote same) e =
     cc (of_eight (Checked printed) e)
-disk_status words before now end (IsLoaded edits met asks loads same) e =
+disk_status crashes words before now end (IsLoaded edits met asks loads same) e =
     absurd (subst (λ x. Loads edits before.maker now.maker (output_of before.streams) (output_of now.streams) x) (of_eight met e) loads)
 
-pub files_status : (words : List (List ℕ)) (before now : Outside) (end : RunEnd) → Runs words before now end
+pub files_status : (crashes : Crashing) (words : List (List ℕ)) (before now : Outside) (end : RunEnd) → Runs crashes words before now end
     → status_of end ≡ 13 → Rose before.files.failed now.files.failed
-files_status words before now end (AreFaulty none same) e = absurd (omega (arith, e))
-files_status words before now end (HasFailed task asks rose same) e = rose
-files_status words before now end (HasNoMemory task asks same) e = absurd (omega (arith, e))
-files_status words before now end (MakesNoDevice task folder fault asks is none_made same) e = cc (of_thirteen (Setup fault) e)
-files_status words before now end (IsUnopened task folder device fault asks is makes refuses same) e = cc (of_thirteen (Store fault) e)
-files_status words before now end (IsOver folder peer device first met asks opened files served_so) e = cc (of_thirteen (Session met) e)
-files_status words before now end (IsScripted folder file device first found met asks opened found_so came same) e =
+files_status crashes words before now end (AreFaulty none same) e = absurd (omega (arith, e))
+files_status crashes words before now end (HasFailed task folder asks is rose same spares) e = rose
+files_status crashes words before now end (HasNoMemory task folder asks is same spares) e = absurd (omega (arith, e))
+files_status crashes words before now end (MakesNoDevice task folder fault asks is none_made same spares) e = cc (of_thirteen (Setup fault) e)
+files_status crashes words before now end (IsUnopened task folder device fault asks is makes refuses same spares) e = cc (of_thirteen (Store fault) e)
+files_status crashes words before now end (IsOver folder peer device first met asks opened files served_so) e = cc (of_thirteen (Session met) e)
+files_status crashes words before now end (HasServed folder address device first history met asks opened files made ends same) e = cc (of_thirteen (Served met) e)
+files_status crashes words before now end (IsScripted folder file device first found met asks opened found_so came same) e =
     cc (of_thirteen (Script met) e)
-files_status words before now end (IsChecked folder device first found printed asks opened found_so wrote same) e =
+files_status crashes words before now end (IsChecked folder device first found printed asks opened found_so lasts wrote same) e =
     cc (of_thirteen (Checked printed) e)
-files_status words before now end (IsLoaded edits met asks loads same) e =
+files_status crashes words before now end (IsLoaded edits met asks loads same) e =
     absurd (subst (λ x. Loads edits before.maker now.maker (output_of before.streams) (output_of now.streams) x) (of_thirteen met e) loads)

@@ -1,7 +1,10 @@
 -- A session at a server of its own.
-use Rattle.std.proofs.Common.{◌≡◌, ◌≢◌, ◌<◌, ◌+◌, ◌-◌, ◌^◌, ℕ, true, List, [], ◌∷◌, ◌++◌, length, Option, None, Some, refl, sym, subst, ap, ◌∙◌, append-nil, arith}
+use Rattle.std.proofs.Common.{◌≡◌, ◌≢◌, ◌<◌, ◌+◌, ◌-◌, ◌^◌, ℕ, true, List, [], ◌∷◌, ◌++◌, length, Option, None, Some, refl, sym, subst, ap, ◌∙◌, arith}
+use Rattle.std.specs.Coded.{Coded}
 use Rattle.std.specs.Prelude.{IfSome, min}
 use Rattle.nc_names.specs.Limits.{most_requests}
+use Rattle.nc_machine.proofs.Standing.{named_continues, solo_begins}
+use Rattle.nc_machine.specs.Lasting.{Lasting, name_of}
 use Rattle.nc_machine.specs.Seats.{IsSpent, Seat, SoloStands, TellsReadings}
 use Rattle.nc_names.specs.Counts.{Rose}
 use Rattle.nc_names.specs.declared.path.Row.{Row}
@@ -24,7 +27,8 @@ use Rattle.nc_session.specs.declared.base.Base.{Base}
 use Rattle.nc_session.specs.declared.end.SessionEnd.{SessionEnd}
 use Rattle.nc_session.specs.declared.end.SessionEnd.TheVariants.{Closed, InputEnded, BadHello, BadFrame, Malformed, TooBig, Killed, ReadFault, WriteFault, Full, Spent, Memory}
 use Rattle.nc_program.specs.Outside.{Times}
-use Rattle.nc_program.specs.Sessions.{HasMadeAlone, IsServed, Sitting, home_of}
+use Rattle.nc_program.specs.Sessions.{HasMade, HasMadeAlone, IsServed, Sitting}
+use Rattle.nc_program.specs.inner.Begun.{IsSeatedAt, Keeps}
 
 -- what a desk stands for, and when it is spent, may be said by wider words
 module _ (schema : Tables) (call : Call) (S T : List Entry → List Entry → Type 0) (P Q : ℕ → Type 0)
@@ -54,7 +58,7 @@ module _ (schema : Tables) (call : Call) (S T : List Entry → List Entry → Ty
   concludes seen session standing met later ended end (IsDead others e alone live fresh event outcome) =
       IsDead others e alone live fresh event outcome
 
-  pub widened : (now : Streams) (end : SessionEnd) → Serves schema call S P now end → Serves schema call T Q now end
+  widened : (now : Streams) (end : SessionEnd) → Serves schema call S P now end → Serves schema call T Q now end
   widened now end (NoStart end2 more is same stood) = NoStart end2 more (unstarted more end2 is) same (stands _ _ stood)
   widened now end (NoPlace live last more start is same stood) = NoPlace live last more start is same (stands _ _ stood)
   widened now end (Served session more later ended course standing met end2 has over killed stood) =
@@ -74,42 +78,34 @@ never_killed : (schema : Tables) (call : Call) (S : List Entry → List Entry �
     → call.home.alone ≡ true → Serves schema call S P now end → end ≢ Killed
 never_killed schema call S P now end alone serves = λ killed. killed_by schema call S P now end alone serves killed
 
-nothing_legal : (opening : State) → IsLegal 0 opening []
-nothing_legal opening [] behind e is = cc is
-nothing_legal opening (x ∷ before) behind e is = cc is
-
-nothing_read : (given : Option (List ℕ)) → IfSome given (TellsReadings given [])
-nothing_read None = tt
-nothing_read (Some all) = ap Some (sym (append-nil all))
-
 -- a good opening state leads to good ones
-good_along : (opening : State) (seen : List Entry) → IsGood opening → IsLegal 0 opening seen → (front rest : List Entry)
+pub good_along : (opening : State) (seen : List Entry) → IsGood opening → IsLegal 0 opening seen → (front rest : List Entry)
     → seen ≡ front ++ rest → IsGood (after opening front)
 good_along opening seen good legal front rest is =
     good_stays 0 opening front good
     ((legal_histories_join 0 opening front rest).0 (subst (λ h. IsLegal 0 opening h) is legal)).0
 
--- a machine before its first event, and its clock
-stands_first : {K : Type 0} (seat : Seat K) (home : Home) → home.alone ≡ true → home.place ≡ [] → home.answers ≡ seat.from
-    → seat.answers ≡ home.answers → seat.given ≡ home.heard → home.answers < 2 ^ 64 → seat.machine.state ≡ home.opening
-    → seat.machine.count ≡ 0 → SoloStands seat home [] []
-stands_first seat home alone place from answers given few state count = record {
-  alone = alone;
-  place_is = place;
-  from_is = from;
-  machine_stands = record { legal = nothing_legal home.opening; state_is = state; count_is = count };
-  mine_is = refl;
-  few = omega arith;
-  answers_is = omega (arith, few, from, answers);
-  readings = subst (λ heard. IfSome seat.given (TellsReadings heard [])) given (nothing_read seat.given);
+-- what lasts of a history may be said by a wider word
+pub made_so : (first : State) (failed : ℕ) (S T : List Entry → Type 0) (before now : Times) (seen : List Entry)
+    → ((history : List Entry) → S history → T history)
+    → HasMade first failed S before now seen → HasMade first failed T before now seen
+made_so first failed S T before now seen less made = record {
+  legal = made.legal;
+  good = made.good;
+  faults = made.faults;
+  few = made.few;
+  answers = made.answers;
+  readings = made.readings;
+  lasts = less seen made.lasts;
 }
 
 -- what a machine and its clock stand for is what the server has made
-has_made : {K : Type 0} (seat : Seat K) (home : Home) (failed : ℕ) (before now : Times) → IsGood home.opening
+has_made : {K : Type 0} (coded : Coded K) (words : Lasting K) (seat : Seat K) (home : Home) (first : K) (failed : ℕ)
+    (before now : Times) → IsGood home.opening → home.place ≡ name_of coded first
     → before.answers ≡ home.answers → before.given ≡ home.heard → now.given ≡ seat.given → now.answers ≡ seat.answers
-    → failed ≡ seat.machine.state.faults
-    → (seen mine : List Entry) → SoloStands seat home seen mine → HasMadeAlone home.opening failed before now seen mine
-has_made seat home failed before now good from heard given answers faults seen mine stood = record {
+    → failed ≡ seat.machine.state.faults → (seen mine : List Entry) → SoloStands coded words seat home seen mine
+    → HasMadeAlone home.opening failed (Keeps words home first seat.machine.keeper) before now seen mine
+has_made coded words seat home first failed before now good named from heard given answers faults seen mine stood = record {
   made = record {
     legal = stood.machine_stands.legal;
     good = good_along home.opening seen good stood.machine_stands.legal;
@@ -118,6 +114,7 @@ has_made seat home failed before now good from heard given answers faults seen m
     answers = answers ∙ stood.answers_is ∙ ap (λ n. min (n + length seen) (2 ^ 64 - 1)) (sym (from ∙ stood.from_is));
     readings = subst (λ g. IfSome g (TellsReadings before.given seen)) (sym given)
         (subst (λ h. IfSome seat.given (TellsReadings h seen)) (sym heard) stood.readings);
+    lasts = record { survives = stood.machine_stands.survives; continues = stood.continues first named };
   };
   own = stood.mine_is;
 }
@@ -186,29 +183,57 @@ never_full schema tables call base failed S P now end alone none first legal (Se
     (subst (λ x. Met schema call course (call.seen ++ more) now standing x) (same ∙ e) has.met).1
 
 -- A session was served at a machine before its first event.
-pub is_served : {K : Type 0} (peer : Peer) (schema : Tables) (base : List Row) (begun failed : ℕ) (first last : Seat K)
-    (before now : Sitting) (end : SessionEnd) → IsGood first.machine.state
-    → first.machine.state ≡ opening schema base begun → first.machine.count ≡ 0
+pub is_served : {K : Type 0} (coded : Coded K) (words : Lasting K) (on : (k : K) → words.continues k k) (peer : Peer)
+    (schema : Tables) (base : List Row) (begun failed : ℕ) (home : Home) (first last : Seat K) (before now : Sitting)
+    (end : SessionEnd) → IsGood first.machine.state → first.machine.state ≡ opening schema base begun
     → first.answers ≡ before.times.answers → first.from ≡ before.times.answers → first.given ≡ before.times.given
     → before.times.answers < 2 ^ 64 → now.times.given ≡ last.given → now.times.answers ≡ last.answers
-    → failed ≡ last.machine.state.faults
-    → ((home : Home) (seen mine : List Entry) → SoloStands first home seen mine
-    → Serves schema (called peer home seen mine before.streams) (SoloStands last home) (IsSpent last.machine) now.streams end)
-    → IsServed first.machine.state failed peer before now end
-is_served peer schema base begun failed first last before now end good opened count answers from heard few given_is answers_is faults serves =
+    → failed ≡ last.machine.state.faults → IsSeatedAt coded words first.machine before.times home
+    → ((home : Home) (seen mine : List Entry) → SoloStands coded words first home seen mine
+    → Serves schema (called peer home seen mine before.streams) (SoloStands coded words last home) (IsSpent last.machine) now.streams end)
+    → IsServed first.machine.state failed (Keeps words home first.machine.keeper last.machine.keeper) peer before now end
+is_served coded words on peer schema base begun failed home first last before now end good opened answers from heard few given_is answers_is faults seated serves =
     let state = first.machine.state in
-    let home = home_of state before.times in
+    let kept = Keeps words home first.machine.keeper last.machine.keeper in
     let call = called peer home [] [] before.streams in
-    let stood = stands_first first home refl refl (sym from) answers heard few refl count in
+    let is = seated.is_home in
+    let begins = solo_begins coded words first.machine first.from first.given home is.alone_is (is.answers_is ∙ sym from)
+    (omega (arith, few, from)) (is.heard_is ∙ sym heard)
+    (named_continues coded words on first.machine.keeper home.place seated.place_is) seated.stands in
+    let stood : SoloStands coded words first home [] [] =
+    subst (λ n. SoloStands coded words (record { machine = first.machine; answers = n; given = first.given; from = first.from }) home [] [])
+    (from ∙ sym answers) begins in
     let same : schema ≡ state.schema = sym (ap (λ s. s.schema) opened) in
-    let narrow = subst (λ s. Serves s call (SoloStands last home) (IsSpent last.machine) now.streams end) same (serves home [] [] stood) in
-    let wide = widened state.schema call (SoloStands last home) (HasMadeAlone state failed before.times now.times) (IsSpent last.machine)
-    (λ ticket. ticket ≡ most_requests) (has_made last home failed before.times now.times good refl refl given_is answers_is faults)
-    (λ ticket is. is.0) now.streams end narrow in
+    let narrow = subst (λ s. Serves s call (SoloStands coded words last home) (IsSpent last.machine) now.streams end) same (serves home [] [] stood) in
+    let good_home = subst IsGood (sym is.opening_is) good in
+    let wide = widened state.schema call (SoloStands coded words last home) (HasMadeAlone state failed kept before.times now.times)
+    (IsSpent last.machine) (λ ticket. ticket ≡ most_requests)
+    (λ seen mine stands. subst (λ s. HasMadeAlone s failed kept before.times now.times seen mine) is.opening_is
+    (has_made coded words last home first.machine.keeper failed before.times now.times good_home seated.place_is
+    (sym is.answers_is) (sym is.heard_is) given_is answers_is faults seen mine stands))
+    (λ ticket it. it.0) now.streams end narrow in
     record {
+      home = home;
+      begins = is;
       serves = wide;
-      lives = never_killed state.schema call (HasMadeAlone state failed before.times now.times) (λ ticket. ticket ≡ most_requests)
-          now.streams end refl wide;
-      has_place = never_full state.schema schema call base begun (HasMadeAlone state failed before.times now.times)
-          (λ ticket. ticket ≡ most_requests) now.streams end refl refl opened (λ seen mine made. made.made.legal) wide;
+      lives = never_killed state.schema call (HasMadeAlone state failed kept before.times now.times) (λ ticket. ticket ≡ most_requests)
+          now.streams end is.alone_is wide;
+      has_place = never_full state.schema schema call base begun (HasMadeAlone state failed kept before.times now.times)
+          (λ ticket. ticket ≡ most_requests) now.streams end is.alone_is refl (is.opening_is ∙ opened)
+          (λ seen mine made. subst (λ s. IsLegal 0 s seen) (sym is.opening_is) made.made.legal) wide;
     }
+
+-- what lasts of a session's history may be said by a wider word
+pub sat_so : (first : State) (failed : ℕ) (S T : List Entry → Type 0) (peer : Peer) (before now : Sitting) (end : SessionEnd)
+    → ((seen : List Entry) → S seen → T seen)
+    → IsServed first failed S peer before now end → IsServed first failed T peer before now end
+sat_so first failed S T peer before now end less served = record {
+  home = served.home;
+  begins = served.begins;
+  serves = widened first.schema (called peer served.home [] [] before.streams) (HasMadeAlone first failed S before.times now.times)
+      (HasMadeAlone first failed T before.times now.times) (λ ticket. ticket ≡ most_requests) (λ ticket. ticket ≡ most_requests)
+      (λ seen mine made. record { made = made_so first failed S T before.times now.times seen less made.made; own = made.own })
+      (λ ticket is. is) now.streams end served.serves;
+  lives = served.lives;
+  has_place = served.has_place;
+}

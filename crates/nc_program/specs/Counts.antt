@@ -33,16 +33,16 @@ errors_word = codes " errors "
 abbrev pub count_part : List ℕ → ℕ → List ℕ
 count_part word number = word ++ decimal number
 
--- of a look at a device: the modules of its folder, all data nodes of its schema, the rows of running, and the records of its
--- store
+-- of a look at a device: the modules of its folder, all data nodes of its schema, the rows of running, and the records
+-- of its store
 abbrev pub check_line : Found → List ℕ
 check_line found =
     count_part modules_word found.modules
     ++ (count_part nodes_word found.nodes
     ++ (count_part rows_word found.rows ++ (count_part records_word found.records ++ line_end)))
 
--- of a load test with so many edits: how many entries it made, how many replies have no error and how many have one, and
--- how many rows running has
+-- of a load test with so many edits: how many entries it made, how many replies have no error and how many have one,
+-- and how many rows running has
 abbrev pub load_line : ℕ → ScriptRun → List ℕ
 load_line edits run =
     count_part load_word edits

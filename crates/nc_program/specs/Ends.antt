@@ -1,5 +1,7 @@
 -- What a run comes to, and its exit status.
 use Rattle.std.specs.Prelude.{ℕ}
+use Rattle.nc_server.specs.declared.end.ServeEnd.{ServeEnd}
+use Rattle.nc_server.specs.declared.end.ServeEnd.TheVariants.{NoMore, ListenFault}
 use Rattle.nc_session.specs.declared.end.SessionEnd.{SessionEnd}
 use Rattle.nc_session.specs.declared.end.SessionEnd.TheVariants.{Closed, InputEnded, BadHello, BadFrame, Malformed, TooBig, Killed, ReadFault, WriteFault, Full, Spent, Memory as SessionMemory}
 use Rattle.nc_setup.specs.declared.fault.SetupFault.{SetupFault}
@@ -9,7 +11,7 @@ use Rattle.nc_store.specs.declared.fault.StoreFault.TheVariants.{DiskFault, Dama
 use Rattle.nc_program.specs.declared.end.Printed.{Printed}
 use Rattle.nc_program.specs.declared.end.Printed.TheVariants.{Part, Whole}
 use Rattle.nc_program.specs.declared.end.RunEnd.{RunEnd}
-use Rattle.nc_program.specs.declared.end.RunEnd.TheVariants.{Words, Files, Setup, Store, Memory, Session, Script, Checked}
+use Rattle.nc_program.specs.declared.end.RunEnd.TheVariants.{Words, Files, Setup, Store, Memory, Session, Served, Script, Checked}
 use Rattle.nc_program.specs.declared.end.ScriptEnd.{ScriptEnd}
 use Rattle.nc_program.specs.declared.end.ScriptEnd.TheVariants.{Absent, BadLine, BadStep, Spent as ScriptSpent, Memory as ScriptMemory, Done}
 
@@ -43,6 +45,11 @@ session_status (Malformed at why) = 10
 session_status (TooBig at) = 10
 session_status (Spent ticket) = 14
 
+-- serving is over
+abbrev pub serve_status : ServeEnd → ℕ
+serve_status NoMore = 0
+serve_status (ListenFault in_a_row) = 11
+
 -- a text was written
 abbrev pub printed_status : Printed → ℕ
 printed_status Part = 7
@@ -64,5 +71,6 @@ status_of Memory = 9
 status_of (Setup fault) = setup_status fault
 status_of (Store fault) = store_status fault
 status_of (Session end) = session_status end
+status_of (Served end) = serve_status end
 status_of (Script end) = script_status end
 status_of (Checked printed) = printed_status printed

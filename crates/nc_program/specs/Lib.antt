@@ -1,4 +1,5 @@
 pub mod Counts
+pub mod Crashes
 pub mod Devices
 pub mod Ends
 pub mod Loads

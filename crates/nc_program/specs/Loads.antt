@@ -1,6 +1,7 @@
 -- A load test: the generated script at a server in memory, over a module of its own.
 use Rattle.std.specs.Prelude.{◌≡◌, ℕ, List, [], ◌∷◌, ◌++◌, codes, None}
 use Rattle.nc_model.specs.State.{opening}
+use Rattle.nc_model.specs.declared.entry.Entry.{Entry}
 use Rattle.nc_script.specs.Load.{load_steps}
 use Rattle.nc_setup.specs.Setup.{IsRefused, IsSetup}
 use Rattle.nc_setup.specs.declared.folder.Contents.{Contents}
@@ -32,14 +33,20 @@ load_contents = record {
   initial = None;
 }
 
+-- of a server in memory nothing is said of crashes
+abbrev pub nothing_lasts : List Entry → Type 0
+nothing_lasts entries = Unit {0}
+
 -- the script came to that, at the server of this device before its first event
 pub record LoadsAt (edits : ℕ) (before now : Told) (end : ScriptEnd) : Type 0 where
   pub server : Server
   pub setup : IsSetup load_contents server
   pub failed : ℕ
-  pub comes : Comes (load_line edits) (opening server.schema server.running 0) failed (load_steps edits) before now end
+  pub comes : Comes (load_line edits) (opening server.schema server.running 0) failed nothing_lasts (load_steps edits)
+      before now end
 
--- What a load test with so many edits came to: the script's end; or its device makes no server; or no memory was found.
+-- What a load test with so many edits came to: the script's end; or its device makes no server; or no memory was found
+-- for them.
 abbrev pub Loads : ℕ → (making later : Making) → (before now : Told) → RunEnd → Type 0
 Loads edits making later before now (Script end) = LoadsAt edits before now end
 Loads edits making later before now (Setup fault) =

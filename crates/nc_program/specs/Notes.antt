@@ -6,6 +6,8 @@ use Rattle.nc_names.specs.declared.cause.CauseKind.{CauseKind}
 use Rattle.nc_protocol.specs.ErrorRows.{error_row}
 use Rattle.nc_names.specs.Counts.{Rose}
 use Rattle.nc_outside.specs.Causes.{TookPart}
+use Rattle.nc_server.specs.declared.end.ServeEnd.{ServeEnd}
+use Rattle.nc_server.specs.declared.end.ServeEnd.TheVariants.{NoMore, ListenFault}
 use Rattle.nc_session.specs.declared.end.SessionEnd.{SessionEnd}
 use Rattle.nc_session.specs.declared.end.SessionEnd.TheVariants.{Closed, InputEnded, BadHello, BadFrame, Malformed, TooBig, Killed, ReadFault, WriteFault, Full, Spent, Memory as SessionMemory}
 use Rattle.nc_setup.specs.declared.fault.SetupFault.{SetupFault}
@@ -15,7 +17,7 @@ use Rattle.nc_store.specs.declared.fault.StoreFault.TheVariants.{DiskFault, Dama
 use Rattle.nc_yang_statements.specs.declared.fault.ModuleWhy.{ModuleWhy}
 use Rattle.nc_yang_statements.specs.declared.fault.ModuleWhy.TheVariants.{NotText, BadWords, UnknownStatement, Unsupported, Missing, Twice, UnknownName, Loop, BadArgument, TooMany, PatternRefused}
 use Rattle.nc_program.specs.declared.end.RunEnd.{RunEnd}
-use Rattle.nc_program.specs.declared.end.RunEnd.TheVariants.{Words, Files, Setup, Store, Memory, Session, Script, Checked}
+use Rattle.nc_program.specs.declared.end.RunEnd.TheVariants.{Words, Files, Setup, Store, Memory, Session, Served, Script, Checked}
 use Rattle.nc_program.specs.declared.end.Printed.{Printed}
 use Rattle.nc_program.specs.declared.end.Printed.TheVariants.{Part as IsPart, Whole as IsWhole}
 use Rattle.nc_program.specs.declared.end.ScriptEnd.{ScriptEnd}
@@ -78,6 +80,9 @@ other_modules_word = codes "netconfd: store: other modules at "
 
 unfoldable pub disk_line : List ℕ
 disk_line = codes "netconfd: disk failed\n"
+
+unfoldable pub listener_line : List ℕ
+listener_line = codes "netconfd: listener failed\n"
 
 unfoldable pub absent_line : List ℕ
 absent_line = codes "netconfd: script: absent\n"
@@ -155,6 +160,10 @@ store_line (OtherModules place) = number_line other_modules_word place
 store_line DiskFault = disk_line
 store_line StoreMemory = memory_line
 
+abbrev pub serve_line : ServeEnd → List ℕ
+serve_line NoMore = []
+serve_line (ListenFault in_a_row) = listener_line
+
 abbrev pub printed_line : Printed → List ℕ
 printed_line IsPart = output_line
 printed_line IsWhole = []
@@ -175,6 +184,7 @@ line_of Memory = memory_line
 line_of (Setup fault) = setup_line fault
 line_of (Store fault) = store_line fault
 line_of (Session end) = session_line end
+line_of (Served end) = serve_line end
 line_of (Script end) = script_line end
 line_of (Checked printed) = printed_line printed
 

@@ -1,5 +1,5 @@
 -- What the outside of the program tells, at one moment.
-use Rattle.std.specs.Prelude.{ℕ, List, Option}
+use Rattle.std.specs.Prelude.{◌≡◌, ℕ, Bool, List, Option}
 use Rattle.nc_outside.specs.Streams.{Streams}
 use Rattle.nc_outside.specs.declared.files.NamedFile.{NamedFile}
 use Rattle.nc_yang_leafs.specs.Patterns.{Refusals, refusing}
@@ -28,6 +28,14 @@ pub record Times : Type 0 where
 abbrev pub times : Option (List ℕ) → ℕ → Times
 times given answers = record { given = given; answers = answers }
 
+-- how often the listener has failed since it last gave a connection, and whether none will come any more
+pub record Listening : Type 0 where
+  pub failed : ℕ
+  pub over : Bool
+
+abbrev pub listening : ℕ → Bool → Listening
+listening failed over = record { failed = failed; over = over }
+
 -- how many patterns the maker of expressions has refused, and the last of their expressions
 pub record Making : Type 0 where
   pub refusals : ℕ
@@ -55,13 +63,15 @@ pub record Outside : Type 0 where
   pub disk : Stored
   pub streams : Streams
   pub times : Times
+  pub listener : Listening
   pub maker : Making
 
-abbrev pub outside : Filing → Stored → Streams → Times → Making → Outside
-outside files disk streams times maker = record {
+abbrev pub outside : Filing → Stored → Streams → Times → Listening → Making → Outside
+outside files disk streams times listener maker = record {
   files = files;
   disk = disk;
   streams = streams;
   times = times;
+  listener = listener;
   maker = maker;
 }

@@ -1,13 +1,17 @@
 -- What the program does, from its words to its exit status.
-use Rattle.std.specs.Prelude.{◌≡◌, ℕ, List, length, Option}
+use Rattle.std.specs.Prelude.{◌≡◌, ℕ, List, [], length, Option}
 use Rattle.nc_names.specs.Counts.{Rose}
 use Rattle.nc_model.specs.State.{State}
+use Rattle.nc_model.specs.declared.entry.Entry.{Entry}
 use Rattle.nc_outside.specs.Streams.{Streams}
 use Rattle.nc_protocol.specs.declared.peer.Peer.{Peer}
+use Rattle.nc_server.specs.Ends.{EndsAs}
+use Rattle.nc_server.specs.declared.end.ServeEnd.{ServeEnd}
 use Rattle.nc_session.specs.declared.end.SessionEnd.{SessionEnd}
 use Rattle.nc_setup.specs.declared.fault.SetupFault.{SetupFault}
 use Rattle.nc_store.specs.declared.fault.StoreFault.{StoreFault}
 use Rattle.nc_program.specs.Counts.{check_line}
+use Rattle.nc_program.specs.Crashes.{Crashing, Lasts, Spares}
 use Rattle.nc_program.specs.Devices.{Begins, Makes, MakesNone, Refuses}
 use Rattle.nc_program.specs.Ends.{status_of}
 use Rattle.nc_program.specs.Loads.{Loads}
@@ -15,25 +19,19 @@ use Rattle.nc_program.specs.Notes.{Noted, Told, line_of, told}
 use Rattle.nc_program.specs.Outside.{Outside}
 use Rattle.nc_program.specs.Printing.{IsPrinted}
 use Rattle.nc_program.specs.Scripts.{FoundIn, Scripts}
-use Rattle.nc_program.specs.Sessions.{IsServed, sitting}
-use Rattle.nc_program.specs.Words.{Asks, HasNoReading, Task}
-use Rattle.nc_program.specs.Words.{Stdio as ToServe, Script as ToScript, Check as ToCheck, Load as ToLoad}
+use Rattle.nc_program.specs.Sessions.{HasMade, IsServed, sitting}
+use Rattle.nc_program.specs.Words.{Asks, HasNoReading, IsIn, Task}
+use Rattle.nc_program.specs.Words.{Stdio as ToServe, Serve as ToListen, Script as ToScript, Check as ToCheck, Load as ToLoad}
 use Rattle.nc_program.specs.declared.count.Found.{Found}
 use Rattle.nc_program.specs.declared.device.Device.{Device}
 use Rattle.nc_program.specs.declared.end.Printed.{Printed}
 use Rattle.nc_program.specs.declared.end.RunEnd.{RunEnd}
-use Rattle.nc_program.specs.declared.end.RunEnd.TheVariants.{Words, Files, Setup, Store, Memory, Session, Script, Checked}
+use Rattle.nc_program.specs.declared.end.RunEnd.TheVariants.{Words, Files, Setup, Store, Memory, Session, Served, Script, Checked}
 use Rattle.nc_program.specs.declared.end.ScriptEnd.{ScriptEnd}
 
 -- what standard output tells
 abbrev pub output_of : Streams → Told
 output_of streams = told streams.taken streams.writes_failed
-
--- the folder of a task on a device
-pub data IsIn (folder : List ℕ) : Task → Type 0 where
-  served : (peer : Peer) → IsIn folder (ToServe folder peer)
-  scripted : (file : List ℕ) → IsIn folder (ToScript folder file)
-  checked : IsIn folder (ToCheck folder)
 
 -- the folder makes a device, whose store begins with a server of that state
 pub record IsOpened (before : Outside) (folder : List ℕ) (device : Device) (first : State) : Type 0 where
@@ -58,45 +56,59 @@ NothingButOutput before now = now ≡ record before {
   maker = now.maker;
 }
 
--- What a run came to: the words have no valid reading; the files failed; no memory was found; what the folder holds makes no
--- server; its store was not opened; or that was done which the words ask for. A file is asked for, a pattern made and the
--- store opened in this order and before all else, but for the file of a script.
-pub data Runs (words : List (List ℕ)) (before now : Outside) : RunEnd → Type 0 where
-  AreFaulty : HasNoReading words → now ≡ before → Runs words before now Words
-  HasFailed : (task : Task) → Asks words task → Rose before.files.failed now.files.failed → NothingBut before now
-      → Runs words before now Files
-  HasNoMemory : (task : Task) → Asks words task → NothingBut before now → Runs words before now Memory
+-- What a run came to: the words have no valid reading; the files failed; no memory was found; what the folder holds
+-- makes no server; its store was not opened; or that was done which the words ask for. A file is asked for, a pattern
+-- made and the store opened in this order and before all else, but for the file of a script. What a server of the store
+-- did lasts over crashes; where the store was looked at, its history has no entry. Where no server did anything, the
+-- store keeps what it held.
+pub data Runs (crashes : Crashing) (words : List (List ℕ)) (before now : Outside) : RunEnd → Type 0 where
+  AreFaulty : HasNoReading words → now ≡ before → Runs crashes words before now Words
+  HasFailed : (task : Task) (folder : List ℕ) → Asks words task → IsIn folder task
+      → Rose before.files.failed now.files.failed → NothingBut before now → Spares crashes before.files folder
+      → Runs crashes words before now Files
+  HasNoMemory : (task : Task) (folder : List ℕ) → Asks words task → IsIn folder task → NothingBut before now
+      → Spares crashes before.files folder → Runs crashes words before now Memory
   MakesNoDevice : (task : Task) (folder : List ℕ) (fault : SetupFault) → Asks words task → IsIn folder task
       → MakesNone before.files folder before.maker now.maker fault → now ≡ record before { maker = now.maker }
-      → Runs words before now (Setup fault)
-  IsUnopened : (task : Task) (folder : List ℕ) (device : Device) (fault : StoreFault) → Asks words task → IsIn folder task
-      → Makes before.files folder device → Refuses device before.disk now.disk fault
-      → now ≡ record before { disk = now.disk; maker = now.maker } → Runs words before now (Store fault)
+      → Spares crashes before.files folder → Runs crashes words before now (Setup fault)
+  IsUnopened : (task : Task) (folder : List ℕ) (device : Device) (fault : StoreFault) → Asks words task
+      → IsIn folder task → Makes before.files folder device → Refuses device before.disk now.disk fault
+      → now ≡ record before { disk = now.disk; maker = now.maker } → Spares crashes before.files folder
+      → Runs crashes words before now (Store fault)
   IsOver : (folder : List ℕ) (peer : Peer) (device : Device) (first : State) (end : SessionEnd)
       → Asks words (ToServe folder peer) → IsOpened before folder device first → now.files ≡ before.files
-      → IsServed first now.disk.failed peer (sitting before.streams before.times) (sitting now.streams now.times) end
-      → Runs words before now (Session end)
+      → IsServed first now.disk.failed (Lasts crashes device first) peer
+      (sitting before.streams before.times) (sitting now.streams now.times) end
+      → Runs crashes words before now (Session end)
+  HasServed : (folder address : List ℕ) (device : Device) (first : State) (history : List Entry) (end : ServeEnd)
+      → Asks words (ToListen folder address) → IsOpened before folder device first → now.files ≡ before.files
+      → HasMade first now.disk.failed (Lasts crashes device first) before.times now.times history
+      → EndsAs end now.listener.failed now.listener.over
+      → now.streams ≡ before.streams → Runs crashes words before now (Served end)
   IsScripted : (folder file : List ℕ) (device : Device) (first : State) (found : Option (List ℕ)) (end : ScriptEnd)
-      → Asks words (ToScript folder file) → IsOpened before folder device first → FoundIn before.files.files file found
-      → Scripts first now.disk.failed found (output_of before.streams) (output_of now.streams) end
-      → NothingButOutput before now → Runs words before now (Script end)
+      → Asks words (ToScript folder file) → IsOpened before folder device first
+      → FoundIn before.files.files file found
+      → Scripts first now.disk.failed (Lasts crashes device first) found
+      (output_of before.streams) (output_of now.streams) end
+      → NothingButOutput before now → Runs crashes words before now (Script end)
   IsChecked : (folder : List ℕ) (device : Device) (first : State) (found : Found) (printed : Printed)
       → Asks words (ToCheck folder) → IsOpened before folder device first → IsFound device first found
+      → Lasts crashes device first []
       → IsPrinted (check_line found) (output_of before.streams) (output_of now.streams) printed
-      → NothingButOutput before now → Runs words before now (Checked printed)
+      → NothingButOutput before now → Runs crashes words before now (Checked printed)
   IsLoaded : (edits : ℕ) (end : RunEnd) → Asks words (ToLoad edits)
       → Loads edits before.maker now.maker (output_of before.streams) (output_of now.streams) end
       → now ≡ record before {
         streams = record before.streams { taken = now.streams.taken; writes_failed = now.streams.writes_failed };
         maker = now.maker;
       }
-      → Runs words before now end
+      → Runs crashes words before now end
 
 -- a run came to this end: the status is its, and standard error took its line, or a beginning of it where a write
 -- failed
-pub record HasRun (words : List (List ℕ)) (before now : Outside) (notes_before notes_now : Told) (status : ℕ) :
-    Type 0 where
+pub record HasRun (crashes : Crashing) (words : List (List ℕ)) (before now : Outside) (notes_before notes_now : Told)
+    (status : ℕ) : Type 0 where
   pub end : RunEnd
-  pub runs : Runs words before now end
+  pub runs : Runs crashes words before now end
   pub status_is : status ≡ status_of end
   pub noted : Noted (line_of end) notes_before notes_now

@@ -3,12 +3,15 @@ use Rattle.std.specs.Prelude.{◌≡◌, ◌≢◌, ◌≤◌, ◌==◌, ◌&&�
 use Rattle.std.specs.Fmt.{decimal}
 use Rattle.std.specs.List.{filter, list_any}
 use Rattle.std.specs.Str.{bytes_eq}
+use Rattle.nc_edge.specs.Addresses.{IsAddress}
 use Rattle.nc_protocol.specs.declared.peer.Peer.{Peer}
 
 -- what a command line asks for
 pub data Task : Type 0 where
   -- one session on standard input and output, for that peer
   Stdio : (folder : List ℕ) → (peer : Peer) → Task
+  -- the connections of an address, each for the peer that its first line names
+  Serve : (folder address : List ℕ) → Task
   -- the script of a file
   Script : (folder file : List ℕ) → Task
   -- the folder and its store, looked at
@@ -62,6 +65,11 @@ pub record IsCommand (name : List ℕ) (words arguments : List (List ℕ)) : Typ
   pub command : words ≡ name ∷ arguments
   pub plain : list_any begins_with_hyphen arguments ≡ false
 
+-- `serve DIR ADDRESS`
+pub record IsServe (words : List (List ℕ)) (folder address : List ℕ) : Type 0 where
+  pub is : IsCommand (codes "serve") words (folder ∷ address ∷ [])
+  pub address_is : IsAddress address
+
 -- so many edits a load test has at most
 abbrev pub most_edits : ℕ
 most_edits = 10000
@@ -85,6 +93,7 @@ pub record IsLoad (words : List (List ℕ)) (edits : ℕ) : Type 0 where
 -- the words are a command line that asks for this
 abbrev pub Asks : List (List ℕ) → Task → Type 0
 Asks words (Stdio folder peer) = IsStdio words folder peer
+Asks words (Serve folder address) = IsServe words folder address
 Asks words (Script folder file) = IsScript words folder file
 Asks words (Check folder) = IsCheck words folder
 Asks words (Load edits) = IsLoad words edits
@@ -92,3 +101,10 @@ Asks words (Load edits) = IsLoad words edits
 -- they are no command line
 abbrev pub HasNoReading : List (List ℕ) → Type 0
 HasNoReading words = (task : Task) → ¬ Asks words task
+
+-- the folder of a task on a device
+pub data IsIn (folder : List ℕ) : Task → Type 0 where
+  served : (peer : Peer) → IsIn folder (Stdio folder peer)
+  listened : (address : List ℕ) → IsIn folder (Serve folder address)
+  scripted : (file : List ℕ) → IsIn folder (Script folder file)
+  checked : IsIn folder (Check folder)

@@ -4,6 +4,7 @@ ghost use Rattle.nc_program.specs.Ends as meant;
 ghost use Rattle.nc_program.specs.declared.end.RunEnd.TheVariants.{Memory as EndMemory};
 
 use nc_names::Memory;
+use nc_server::ServeEnd;
 use nc_session::SessionEnd;
 use nc_setup::SetupFault;
 use nc_store::StoreFault;
@@ -23,6 +24,8 @@ pub enum RunEnd {
     Memory,
     /// A session was served, and ended so.
     Session(SessionEnd),
+    /// Connections were served, and that ended so.
+    Served(ServeEnd),
     /// A script was done, or was not.
     Script(ScriptEnd),
     /// The store was looked at.
@@ -111,6 +114,16 @@ fn session_status(end: SessionEnd) -> u8
     }
 }
 
+// The status of serving.
+fn serve_status(end: ServeEnd) -> u8
+    ensures { result ≡ meant.serve_status end }
+{
+    match end {
+        ServeEnd::NoMore => 0,
+        ServeEnd::ListenFault { .. } => 11,
+    }
+}
+
 // The status of a text.
 fn printed_status(printed: Printed) -> u8
     ensures { result ≡ meant.printed_status printed }
@@ -145,6 +158,7 @@ impl RunEnd {
             RunEnd::Setup(fault) => setup_status(fault),
             RunEnd::Store(fault) => store_status(*fault),
             RunEnd::Session(end) => session_status(*end),
+            RunEnd::Served(end) => serve_status(*end),
             RunEnd::Script(end) => script_status(*end),
             RunEnd::Checked(printed) => printed_status(*printed),
         }

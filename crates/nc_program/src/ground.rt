@@ -1,6 +1,7 @@
 //! The server of a folder, from its files and its store.
 ghost use Rattle.std.specs.Prelude.{◌≡◌, IfErr, IfOk};
 ghost use Rattle.nc_program.specs.Outside.{filing, ground, making, stored};
+ghost use Rattle.nc_program.specs.inner.Begun.{IsBegun, IsSpared};
 ghost use Rattle.nc_program.specs.inner.Grounds.{Fails, IsReady};
 
 use crate::device::device_of;
@@ -29,8 +30,11 @@ pub(crate) fn ready_of<F: Files, P: Maker, D: Disk>(
         (making (P.refusals maker.old) (P.last_refused maker.old)))
         (ground (filing (F.files files.new) (F.faults files.new)) (stored (D.seen disk) (D.faults disk))
         (making (P.refusals maker.new) (P.last_refused maker.new)))
-        it.opened.machine.state it.opened.schema.value it.modules) }
+        it.opened.machine.state it.opened.schema.value it.modules
+        (λ device. IsBegun D.seen D.may_leave D.moment D.left_since disk device it.opened.machine)) }
     ensures count { IfOk result (λ it. it.opened.machine.count ≡ 0) }
+    ensures spared { IfErr result (λ it. IsSpared D.seen D.may_leave D.moment D.left_since disk it.disk
+        (filing (F.files files.old) (F.faults files.old)) folder.now) }
     ensures fails { IfErr result (λ it. Fails folder.now
         (ground (filing (F.files files.old) (F.faults files.old)) (stored (D.seen disk) (D.faults disk))
         (making (P.refusals maker.old) (P.last_refused maker.old)))

@@ -137,6 +137,13 @@ pub(crate) fn disk_line() -> &'static str
     "netconfd: disk failed\n"
 }
 
+#[tactic(auto, unfolding(crate::specs::Notes::listener_line))]
+pub(crate) fn listener_line() -> &'static str
+    ensures { result.now ≡ meant.listener_line }
+{
+    "netconfd: listener failed\n"
+}
+
 #[tactic(auto, unfolding(crate::specs::Notes::absent_line))]
 pub(crate) fn absent_line() -> &'static str
     ensures { result.now ≡ meant.absent_line }

@@ -7,9 +7,9 @@ ghost use Rattle.nc_schema.specs.Proper.{IsProperSchema};
 ghost use Rattle.nc_schema.specs.Violations.{IsValid};
 ghost use Rattle.nc_setup.specs.Setup.{IsSetup};
 ghost use Rattle.nc_program.specs.Loads as meant;
-ghost use Rattle.nc_program.specs.Loads.{Loads, LoadsAt};
+ghost use Rattle.nc_program.specs.Loads.{Loads};
 ghost use Rattle.nc_program.specs.Notes.{told};
-ghost use Rattle.nc_program.specs.Outside.{making};
+ghost use Rattle.nc_program.specs.Outside.{Making, making};
 
 use crate::count::write_load;
 use crate::end::{RunEnd, ScriptEnd};
@@ -30,7 +30,12 @@ use std::sync::Arc;
 fn load_module() -> &'static str
     ensures { result.now ≡ meant.load_module }
 {
-    "module ex {\n  namespace \"urn:ex\";\n  prefix ex;\n  revision 2024-01-01;\n  container top {\n    leaf host { type string; }\n    list port {\n      key name;\n      unique tag;\n      leaf name { type string; }\n      leaf tag { type uint16; }\n    }\n    leaf up { type leafref { path \"../port/name\"; } }\n  }\n}\n"
+    concat!(
+        "module ex {\n  namespace \"urn:ex\";\n  prefix ex;\n  revision 2024-01-01;\n  container top {\n",
+        "    leaf host { type string; }\n    list port {\n      key name;\n      unique tag;\n",
+        "      leaf name { type string; }\n      leaf tag { type uint16; }\n    }\n",
+        "    leaf up { type leafref { path \"../port/name\"; } }\n  }\n}\n",
+    )
 }
 
 #[tactic(auto, unfolding(crate::specs::Loads::load_file))]
@@ -81,24 +86,27 @@ fn machine_of(alloc: Global, setup: Setup) -> Result<Machine<MemKeeper>, Memory>
 }
 
 // Does the script at a server before its first event.
-fn load_at<K: Sink>(alloc: Global, edits: u32, setup: Setup, sink: &mut K) -> ScriptEnd
+fn load_at<K: Sink>(alloc: Global, edits: u32, setup: Setup, sink: &mut K) -> RunEnd
     requires setup { IsSetup meant.load_contents setup }
     requires proper { IsProperSchema setup.schema }
     requires running { IsConfiguration setup.schema setup.running }
     requires valid { IsValid setup.schema setup.running }
-    ensures { LoadsAt edits
+    ensures { (before now : Making) → Loads edits before now
         (told (K.taken sink.old) (K.faults sink.old))
         (told (K.taken sink.new) (K.faults sink.new)) result }
 {
     let Ok(steps) = load_script(alloc, edits) else {
-        return ScriptEnd::Memory;
+        return RunEnd::Memory;
     };
     let Ok(mut machine) = machine_of(alloc, setup) else {
-        return ScriptEnd::Memory;
+        return RunEnd::Memory;
     };
     match do_steps(alloc, &mut machine, steps.as_slice()) {
-        Ok(run) => ScriptEnd::Done(printed(write_load(sink, edits, &run))),
-        Err(end) => end,
+        Ok(run) => {
+            let end = ScriptEnd::Done(printed(write_load(sink, edits, &run)));
+            RunEnd::Script(end)
+        }
+        Err(end) => RunEnd::Script(end),
     }
 }
 
@@ -119,7 +127,7 @@ pub(crate) fn load<K: Sink, P: Maker>(
         return RunEnd::Memory;
     };
     match set_up(alloc, &contents, maker) {
-        Ok(setup) => RunEnd::Script(load_at(alloc, edits, setup, sink)),
+        Ok(setup) => load_at(alloc, edits, setup, sink),
         Err(fault) => RunEnd::Setup(fault),
     }
 }

@@ -11,6 +11,7 @@ use itoa::Buffer;
 use nc_errors::tag_of;
 use nc_names::{CauseKind, Text};
 use nc_outside::{Failed, Sink};
+use nc_server::ServeEnd;
 use nc_session::SessionEnd;
 use nc_setup::SetupFault;
 use nc_store::StoreFault;
@@ -139,6 +140,18 @@ fn write_store<N: Sink>(notes: &mut N, fault: StoreFault) -> Result<(), Failed>
 }
 
 #[tactic(auto, using(crate::proofs::Noting::wrote_nothing))]
+fn write_serve<N: Sink>(notes: &mut N, end: ServeEnd) -> Result<(), Failed>
+    ensures { Wrote (meant.serve_line end)
+        (told (N.taken notes.old) (N.faults notes.old))
+        (told (N.taken notes.new) (N.faults notes.new)) result }
+{
+    match end {
+        ServeEnd::NoMore => Ok(()),
+        ServeEnd::ListenFault { .. } => write_text(notes, words::listener_line()),
+    }
+}
+
+#[tactic(auto, using(crate::proofs::Noting::wrote_nothing))]
 fn write_printed<N: Sink>(notes: &mut N, printed: Printed) -> Result<(), Failed>
     ensures { Wrote (meant.printed_line printed)
         (told (N.taken notes.old) (N.faults notes.old))
@@ -177,6 +190,7 @@ fn write_end<N: Sink>(notes: &mut N, end: &RunEnd) -> Result<(), Failed>
         RunEnd::Setup(fault) => write_setup(notes, fault),
         RunEnd::Store(fault) => write_store(notes, *fault),
         RunEnd::Session(end) => write_session(notes, *end),
+        RunEnd::Served(end) => write_serve(notes, *end),
         RunEnd::Script(end) => write_script(notes, *end),
         RunEnd::Checked(printed) => write_printed(notes, *printed),
     }

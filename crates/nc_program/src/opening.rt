@@ -1,13 +1,17 @@
 //! The store of a device, opened.
-ghost use Rattle.std.specs.Prelude.{◌≡◌, ℕ, List, IfErr, IfOk};
+ghost use Rattle.std.specs.Prelude.{◌≡◌, ◌∷◌, ℕ, List, [], IfErr, IfOk};
 ghost use Rattle.nc_journal.specs.Header.{IsHeader};
+ghost use Rattle.nc_machine.specs.Serving.{IsHomeOf, StandsFor};
+ghost use Rattle.nc_model.specs.Desks.{Home};
 ghost use Rattle.nc_model.specs.State.{opening};
 ghost use Rattle.nc_schema.specs.Configuration.{IsConfiguration};
 ghost use Rattle.nc_schema.specs.Proper.{IsProperSchema};
 ghost use Rattle.nc_schema.specs.Violations.{IsValid};
+ghost use Rattle.nc_store.specs.Keeping.{StoreLeaves};
 ghost use Rattle.nc_store.specs.Opening.{HasBegun};
 ghost use Rattle.nc_program.specs.Devices.{Begins};
 ghost use Rattle.nc_program.specs.Outside.{stored};
+ghost use Rattle.nc_program.specs.inner.Begun.{IsBegun, IsKept, store_words};
 ghost use Rattle.nc_program.specs.inner.Opening.{Unopens};
 ghost use Rattle.nc_program.specs.declared.end.RunEnd.TheVariants.{Memory as EndMemory};
 
@@ -86,11 +90,17 @@ fn with_machine<D: Disk>(
     requires setup { store.setup.tables ≡ machine.value }
     requires same { sessions.value ≡ machine.value }
     requires begun { HasBegun store.setup store running }
+    requires now { StoreLeaves D.seen D.left_since store (D.moment store.disk) (running ∷ []) }
     ensures opening { IfOk result (λ it.
         it.machine.state ≡ opening machine.value running (D.faults store.disk)) }
     ensures count { IfOk result (λ it. it.machine.count ≡ 0) }
+    ensures keeper { IfOk result (λ it. it.machine.keeper ≡ store) }
+    ensures stands { IfOk result (λ it. (home : Home) →
+        IsHomeOf (store_words D.seen D.moment D.left_since) it.machine home →
+        StandsFor (store_words D.seen D.moment D.left_since) home it.machine []) }
     ensures schema { IfOk result (λ it. it.schema.value ≡ machine.value) }
     ensures memory { IfErr result (λ it. it.end ≡ EndMemory) }
+    ensures back { IfErr result (λ it. it.disk ≡ store.disk) }
 {
     let records = store.records();
     match Machine::begin(alloc, machine, running, store) {
@@ -106,12 +116,18 @@ fn with_machine<D: Disk>(
 /// Opens the store of a device, and begins its server.
 pub(crate) fn open<D: Disk>(alloc: Global, device: Device, disk: D) -> Result<Opened<D>, Ended<D>>
     requires proper { IsProperSchema device.schema }
-    requires header { (modules : List (List ℕ)) × (features : List ℕ) × IsHeader modules features device.header }
+    requires header { (modules : List (List ℕ)) × (features : List ℕ) ×
+        IsHeader modules features device.header }
     requires initial { IsConfiguration device.schema device.initial }
     requires valid { IsValid device.schema device.initial }
-    ensures begins { IfOk result (λ it. Begins device (stored (D.seen disk) (D.faults disk)) it.machine.state) }
+    ensures begins { IfOk result (λ it.
+        Begins device (stored (D.seen disk) (D.faults disk)) it.machine.state) }
+    ensures begun { IfOk result (λ it.
+        IsBegun D.seen D.may_leave D.moment D.left_since disk device it.machine) }
     ensures count { IfOk result (λ it. it.machine.count ≡ 0) }
     ensures schema { IfOk result (λ it. it.schema.value ≡ device.schema) }
+    ensures kept { IfErr result (λ it.
+        IsKept D.seen D.may_leave D.moment D.left_since disk it.disk device) }
     ensures unopened { IfErr result (λ it. Unopens device
         (stored (D.seen disk) (D.faults disk)) (stored (D.seen it.disk) (D.faults it.disk)) it.end) }
 {

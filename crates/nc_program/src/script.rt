@@ -1,6 +1,8 @@
 //! A script at a server of its own.
 ghost use Rattle.std.specs.Prelude.{◌≡◌, ℕ, List};
 ghost use Rattle.std.specs.List.{All};
+ghost use Rattle.nc_machine.specs.Lasting.{lasting};
+ghost use Rattle.nc_machine.specs.Serving.{GoesOn};
 ghost use Rattle.nc_script.specs.Steps.{IsTimed};
 ghost use Rattle.nc_program.specs.Notes.{told};
 ghost use Rattle.nc_program.specs.Outside.{filing};
@@ -60,7 +62,6 @@ fn end_of(fault: ScriptFault) -> ScriptEnd
 }
 
 /// Does steps at a server before its first event.
-#[tactic(auto, using(crate::proofs::Scripting::ran, crate::proofs::Scripting::ran_to))]
 pub(crate) fn do_steps<Q: Keeper>(
     alloc: Global,
     machine: &mut Machine<Q>,
@@ -68,7 +69,8 @@ pub(crate) fn do_steps<Q: Keeper>(
 ) -> Result<ScriptRun, ScriptEnd>
     requires count { machine.old.count ≡ 0 }
     requires timed { All IsTimed steps.now }
-    ensures { RunsTo machine.old.state machine.new.state.faults steps.now result }
+    ensures { RunsTo machine.old.state machine.new.state.faults
+        (GoesOn (lasting Q.doubt Q.moment Q.leaves Q.continues) machine.old machine.new) steps.now result }
 {
     match run_script(alloc, machine, steps) {
         Ok(run) => Ok(run),
@@ -85,7 +87,8 @@ fn do_and_write<Q: Keeper, K: Sink>(
 ) -> ScriptEnd
     requires count { machine.old.count ≡ 0 }
     requires timed { All IsTimed steps.now }
-    ensures { Comes all_outputs machine.old.state machine.new.state.faults steps.now
+    ensures { Comes all_outputs machine.old.state machine.new.state.faults
+        (GoesOn (lasting Q.doubt Q.moment Q.leaves Q.continues) machine.old machine.new) steps.now
         (told (K.taken sink.old) (K.faults sink.old))
         (told (K.taken sink.new) (K.faults sink.new)) result }
 {
@@ -104,7 +107,8 @@ pub(crate) fn script<Q: Keeper, K: Sink>(
     sink: &mut K,
 ) -> ScriptEnd
     requires count { machine.old.count ≡ 0 }
-    ensures { Scripts machine.old.state machine.new.state.faults found
+    ensures { Scripts machine.old.state machine.new.state.faults
+        (GoesOn (lasting Q.doubt Q.moment Q.leaves Q.continues) machine.old machine.new) found
         (told (K.taken sink.old) (K.faults sink.old))
         (told (K.taken sink.new) (K.faults sink.new)) result }
 {

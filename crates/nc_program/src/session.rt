@@ -1,10 +1,13 @@
 //! One session at a server of its own.
 ghost use Rattle.std.specs.Prelude.{◌≡◌, ℕ, List};
 ghost use Rattle.nc_names.specs.declared.path.Row.{Row};
+ghost use Rattle.nc_machine.specs.Lasting.{lasting};
+ghost use Rattle.nc_model.specs.Desks.{Home};
 ghost use Rattle.nc_model.specs.State.{IsGood, opening};
 ghost use Rattle.nc_outside.specs.Streams.{streams};
 ghost use Rattle.nc_program.specs.Outside.{times};
 ghost use Rattle.nc_program.specs.Sessions.{IsServed, sitting};
+ghost use Rattle.nc_program.specs.inner.Begun.{IsSeatedAt, Keeps};
 
 use nc_machine::{Machine, Solo};
 use nc_outside::{Clock, Sink, Source};
@@ -48,8 +51,11 @@ pub(crate) fn serve<Q: Keeper, S: Source, K: Sink, C: Clock>(
 ) -> Over<Q, C>
     requires opening { (base : List Row) × (failed : ℕ) × (machine.state ≡ opening schema.now base failed) }
     requires good { IsGood machine.state }
-    requires count { machine.count ≡ 0 }
-    ensures { IsServed machine.state result.machine.state.faults peer
+    ensures { (home : Home) →
+        IsSeatedAt Q.row.coded (lasting Q.doubt Q.moment Q.leaves Q.continues) machine
+        (times (C.given clock) (C.count clock)) home →
+        IsServed machine.state result.machine.state.faults
+        (Keeps (lasting Q.doubt Q.moment Q.leaves Q.continues) home machine.keeper result.machine.keeper) peer
         (sitting (streams (S.left source.old) (S.ends source.old) (S.faults source.old)
         (K.taken sink.old) (K.faults sink.old))
         (times (C.given clock) (C.count clock)))

@@ -7,6 +7,7 @@ ghost use Rattle.nc_program.specs.Words as meant;
 ghost use Rattle.nc_protocol.specs.declared.peer.Peer.{Peer as PeerMeant};
 ghost use Rattle.nc_program.specs.inner.Asking.{AsksFor, AsksIn, IsNoFolder, IsNoLoad, IsNoStdio};
 
+use nc_edge::read_address;
 use nc_names::{Many, Memory, Text, parse_decimal};
 use nc_protocol::Peer;
 use std::alloc::Global;
@@ -41,6 +42,8 @@ pub enum Work<'a> {
     Check,
     /// The script is done that the file of this name has.
     Script(&'a str),
+    /// The connections of this address are served.
+    Serve(&'a str),
 }
 
 /// What a command line asks for.
@@ -227,7 +230,8 @@ struct Two<'a> {
 // The arguments of a command of that name which has two.
 fn two_arguments<'a>(words: &'a [String], name: &str) -> Option<Two<'a>>
     ensures { MatchOption result
-        ((first second : List ℕ) → ¬ meant.IsCommand name.now (map string_bytes words.now) (first ∷ second ∷ []))
+        ((first second : List ℕ) →
+        ¬ meant.IsCommand name.now (map string_bytes words.now) (first ∷ second ∷ []))
         (λ it. meant.IsCommand name.now (map string_bytes words.now) (it.first.now ∷ it.second.now ∷ [])) }
 {
     let [command, first, second] = words else {
@@ -248,6 +252,19 @@ fn two_arguments<'a>(words: &'a [String], name: &str) -> Option<Two<'a>>
     })
 }
 
+// The words `serve DIR ADDRESS`.
+fn read_serve(words: &[String]) -> Option<Two<'_>>
+    ensures { MatchOption result
+        ((folder address : List ℕ) → ¬ meant.IsServe (map string_bytes words.now) folder address)
+        (λ it. meant.IsServe (map string_bytes words.now) it.first.now it.second.now) }
+{
+    let it = two_arguments(words, "serve")?;
+    match read_address(it.second) {
+        Some(_) => Some(it),
+        None => None,
+    }
+}
+
 // How many edits a word asks for.
 fn read_edits(word: &str) -> Option<u32>
     ensures { MatchOption result
@@ -261,7 +278,7 @@ fn read_edits(word: &str) -> Option<u32>
     Some(edits as u32)
 }
 
-// The words `check DIR` or `script DIR FILE`.
+// The words `check DIR`, `script DIR FILE` or `serve DIR ADDRESS`.
 fn read_folder(words: &[String]) -> Option<InFolder<'_>>
     ensures { MatchOption result
         (IsNoFolder (map string_bytes words.now))
@@ -271,10 +288,16 @@ fn read_folder(words: &[String]) -> Option<InFolder<'_>>
         let work = Work::Check;
         return Some(InFolder { folder, work });
     }
-    let it = two_arguments(words, "script")?;
+    if let Some(it) = two_arguments(words, "script") {
+        return Some(InFolder {
+            folder: it.first,
+            work: Work::Script(it.second),
+        });
+    }
+    let it = read_serve(words)?;
     Some(InFolder {
         folder: it.first,
-        work: Work::Script(it.second),
+        work: Work::Serve(it.second),
     })
 }
 
@@ -288,7 +311,7 @@ fn read_load(words: &[String]) -> Option<u32>
 }
 
 /// Reads the words after the program's name. `None` means that they are no command line: the command is
-/// another, it has too few arguments or too many, a number is none or out of its range, the flag of `stdio`
+/// another, it has too few arguments or too many, an address or a number is none, the flag of `stdio`
 /// stands twice, or another word begins with a hyphen.
 #[tactic(auto, using(crate::proofs::Arguments::nothing))]
 pub fn read_words(words: &[String]) -> Option<Command<'_>>

@@ -7,6 +7,7 @@ ghost use Rattle.nc_program.specs.inner.Writings.{Wrote};
 use crate::end::Printed;
 use nc_outside::{Failed, Sink, write_all};
 
+/// Writes bytes.
 #[tactic(auto, using(crate::proofs::Noting::wrote_all))]
 pub(crate) fn write_bytes<K: Sink>(sink: &mut K, bytes: &[u8]) -> Result<(), Failed>
     ensures { Wrote bytes.now
@@ -16,6 +17,7 @@ pub(crate) fn write_bytes<K: Sink>(sink: &mut K, bytes: &[u8]) -> Result<(), Fai
     write_all(sink, bytes)
 }
 
+/// Writes a text.
 pub(crate) fn write_text<K: Sink>(sink: &mut K, text: &str) -> Result<(), Failed>
     ensures { Wrote text.now
         (told (K.taken sink.old) (K.faults sink.old))
@@ -42,7 +44,8 @@ pub(crate) fn write_three<K: Sink>(
 
 /// Whether all of a text was written.
 pub(crate) fn printed(wrote: Result<(), Failed>) -> Printed
-    ensures { (text : List ℕ) (before now : Told) → Wrote text before now wrote → IsPrinted text before now result }
+    ensures { (text : List ℕ) (before now : Told) → Wrote text before now wrote →
+        IsPrinted text before now result }
 {
     match wrote {
         Ok(()) => Printed::Whole,

@@ -1,5 +1,5 @@
 //! The server `netconfd`: a NETCONF server (RFC 6241, 6242) for one session on standard input and standard
-//! output, whose running configuration is kept in the folder of its device.
+//! output, or for those of a socket, whose running configuration is kept in the folder of its device.
 //!
 //! All that it does is the call of `run` of `nc_program`, over the world that `main` hands in.
 #![tactic(auto)]
@@ -7,7 +7,7 @@
 mod adapters;
 
 use adapters::SetupFiles;
-use nc_edge::FileDisk;
+use nc_edge::{FileDisk, PausingGate, SocketListener};
 use nc_names::Memory;
 use nc_outside::{MonotonicClock, ReaderSource, WriterSink};
 use nc_patterns::RegexMaker;
@@ -36,7 +36,12 @@ fn folder_of(words: &[String]) -> Option<&str> {
     None
 }
 
-/// Ends a run that found no memory for its words or its disk.
+/// The address of `serve DIR ADDRESS`. It is bound by the first call for a connection.
+fn address_of(words: &[String]) -> Option<&str> {
+    Some(words.get(2)?.as_str())
+}
+
+/// Ends a run that found no memory for its words, its disk or its listener.
 fn without_memory(rt: HostRuntime) -> ExitCode {
     let mut notes = WriterSink::new(rt.stderr());
     ExitCode::from(without_words(&mut notes))
@@ -49,6 +54,9 @@ fn main(rt: HostRuntime) -> ExitCode {
     let Ok(disk) = FileDisk::new(rt.alloc(), rt, folder_of(words.as_slice())) else {
         return without_memory(rt);
     };
+    let Ok(listener) = SocketListener::new(rt.alloc(), rt, address_of(words.as_slice())) else {
+        return without_memory(rt);
+    };
     let world = World {
         files: SetupFiles::new(rt),
         disk,
@@ -56,7 +64,9 @@ fn main(rt: HostRuntime) -> ExitCode {
         sink: WriterSink::new(rt.stdout()),
         notes: WriterSink::new(rt.stderr()),
         clock: MonotonicClock::new(rt),
+        listener,
+        gate: PausingGate::new(rt),
         patterns: RegexMaker::new(rt.alloc()),
     };
-    ExitCode::from(run(rt.alloc(), words.as_slice(), world).status)
+    ExitCode::from(run(&rt, rt.alloc(), words.as_slice(), world).status)
 }

@@ -1,11 +1,11 @@
 -- What a command line asks for, as it is read.
 use Rattle.std.specs.Prelude.{map, string_bytes, ℕ, List, Option, Some, None}
 use Rattle.nc_protocol.specs.declared.peer.Peer.{Peer}
-use Rattle.nc_program.specs.Words.{HasNoReading, IsCheck, IsLoad, IsScript, IsStdio, arguments}
+use Rattle.nc_program.specs.Words.{HasNoReading, IsCheck, IsLoad, IsScript, IsServe, IsStdio, arguments}
 use Rattle.nc_program.specs.declared.words.Command.{Command}
 use Rattle.nc_program.specs.declared.words.Command.TheVariants.{Folder, Load, Stdio}
 use Rattle.nc_program.specs.declared.words.Work.{Work}
-use Rattle.nc_program.specs.declared.words.Work.TheVariants.{Check, Script}
+use Rattle.nc_program.specs.declared.words.Work.TheVariants.{Check, Script, Serve}
 
 abbrev pub IsNoStdio : List (List ℕ) → Type 0
 IsNoStdio words = (folder : List ℕ) (peer : Peer) → ¬ IsStdio words folder peer
@@ -17,10 +17,12 @@ IsNoLoad words = (edits : ℕ) → ¬ IsLoad words edits
 pub record IsNoFolder (words : List (List ℕ)) : Type 0 where
   pub check : (folder : List ℕ) → ¬ IsCheck words folder
   pub script : (folder file : List ℕ) → ¬ IsScript words folder file
+  pub serve : (folder address : List ℕ) → ¬ IsServe words folder address
 
 abbrev pub AsksIn : List (List ℕ) → List ℕ → Work → Type 0
 AsksIn words folder Check = IsCheck words folder
 AsksIn words folder (Script file) = IsScript words folder file.now
+AsksIn words folder (Serve address) = IsServe words folder address.now
 
 abbrev pub AsksFor : List (List ℕ) → Option Command → Type 0
 AsksFor words None = HasNoReading words

@@ -9,14 +9,16 @@ use Rattle.nc_program.specs.declared.device.Device.{Device}
 use Rattle.nc_program.specs.declared.end.RunEnd.{RunEnd}
 use Rattle.nc_program.specs.declared.end.RunEnd.TheVariants.{Files, Setup, Store, Memory}
 
--- a server that begins in this state, of a device with this schema and so many modules
-pub record IsReady (folder : List ℕ) (before now : Ground) (first : State) (schema : Tables) (modules : ℕ) : Type 0 where
+-- a server that begins in this state, of a device with this schema and so many modules; and its store was opened so
+pub record IsReady (folder : List ℕ) (before now : Ground) (first : State) (schema : Tables) (modules : ℕ)
+    (IsBegunOf : Device → Type 0) : Type 0 where
   pub device : Device
   pub makes : Makes before.files folder device
   pub begins : Begins device before.disk first
   pub schema_is : schema ≡ device.schema
   pub modules_is : modules ≡ device.modules
   pub files : now.files ≡ before.files
+  pub begun : IsBegunOf device
 
 -- the files failed, or no memory was found, or the folder makes no device, or its store is not opened
 abbrev pub Fails : List ℕ → (before now : Ground) → RunEnd → Type 0

@@ -27,7 +27,8 @@ MakesOf contents before now (Err end) = ⊥
 -- what was read makes a device, or none
 abbrev pub Prepares : List ℕ → Filing → Filing → Making → Making → Result Device RunEnd → Type 0
 Prepares folder files later before now (Ok device) = Makes files folder device × (later ≡ files)
-Prepares folder files later before now (Err Files) = Rose files.failed later.failed × (later ≡ record files { failed = later.failed })
+Prepares folder files later before now (Err Files) =
+    Rose files.failed later.failed × (later ≡ record files { failed = later.failed })
 Prepares folder files later before now (Err Memory) = later ≡ files
 Prepares folder files later before now (Err (Setup fault)) = MakesNone files folder before now fault × (later ≡ files)
 Prepares folder files later before now (Err end) = ⊥

@@ -1,6 +1,7 @@
 -- A script, step by step.
 use Rattle.std.specs.Prelude.{◌≡◌, ℕ, List, Option, Some, None, Result, Ok, Err}
 use Rattle.nc_model.specs.State.{State}
+use Rattle.nc_model.specs.declared.entry.Entry.{Entry}
 use Rattle.nc_names.specs.Counts.{Rose}
 use Rattle.nc_script.specs.declared.fault.ScriptFault.{ScriptFault}
 use Rattle.nc_script.specs.declared.fault.ScriptFault.TheVariants.{BadStep as StepIsBad, Spent as IsSpent, Memory as NoMemory}
@@ -35,9 +36,9 @@ Tells (IsSpent n) end = end ≡ Spent n
 Tells NoMemory end = end ≡ Memory
 
 -- the steps were done, or why not
-abbrev pub RunsTo : State → ℕ → List ScriptStep → Result ScriptRun ScriptEnd → Type 0
-RunsTo first failed steps (Ok run) = RunsAt first failed steps (Ok run)
-RunsTo first failed steps (Err (BadStep n)) = RunsAt first failed steps (Err (StepIsBad n))
-RunsTo first failed steps (Err (Spent n)) = RunsAt first failed steps (Err (IsSpent n))
-RunsTo first failed steps (Err Memory) = Unit {0}
-RunsTo first failed steps (Err end) = ⊥
+abbrev pub RunsTo : State → ℕ → (List Entry → Type 0) → List ScriptStep → Result ScriptRun ScriptEnd → Type 0
+RunsTo first failed Lasts steps (Ok run) = RunsAt first failed Lasts steps (Ok run)
+RunsTo first failed Lasts steps (Err (BadStep n)) = RunsAt first failed Lasts steps (Err (StepIsBad n))
+RunsTo first failed Lasts steps (Err (Spent n)) = RunsAt first failed Lasts steps (Err (IsSpent n))
+RunsTo first failed Lasts steps (Err Memory) = RunsAt first failed Lasts steps (Err NoMemory)
+RunsTo first failed Lasts steps (Err end) = ⊥

@@ -106,4 +106,5 @@ def main():
                     f"{ran.replied:,} bytes" if ran.size else ran.told)
 
 
-main()
+if __name__ == "__main__":
+    main()

@@ -35,4 +35,5 @@ def main():
                 row(f"{count:,}", f"{links:,}", f"{more:,}", ms(timer.start.seconds), ms(seconds), kb(ran.memory))
 
 
-main()
+if __name__ == "__main__":
+    main()

@@ -1,0 +1,116 @@
+#!/usr/bin/env python3
+"""Sends what a hostile or a careless client would, and prints what the program takes for it: messages of up to 4 MB with
+many attributes, prefixes, matches and entries, long keys, references, rules and locks; and connections that stop reading or
+say nothing, beside a session that goes on. A time is processor time of the program; memory is its peak.
+A number after the program divides all sizes, for a trial.
+Usage: bench/hostile.py [PROGRAM [DIVISOR]]
+"""
+import tempfile
+import time
+
+from connections import Server, Session, many_files
+from filters import MODULE as TAGGED, tags, triples, users
+from payloads import SPACE, Timer, device, edit, entries, get_config, head, kb, module, ms, row, top, words
+from validity import LINK, LISTS, PORT, VALIDATE
+
+USERS = module("ex", """container users {
+list user { key name; leaf name { type string; } leaf type { type string; } }
+list rule { key name; ordered-by user; leaf name { type string; } leaf type { type string; } }
+list port { key "name at"; leaf name { type string; } leaf at { type uint32; } }
+}
+""")
+USER = "<user><name>u#</name><type>admin</type></user>"
+RULE = "<rule><name>u#</name></rule>"
+ACM = "urn:ietf:params:xml:ns:yang:ietf-netconf-acm"
+
+
+def access_rules(count):
+    """So many rules about users, none of which is the peer's."""
+    listed = "".join(f"<rule><name>r{at}</name><path xmlns:e=\"urn:ex\">/e:users/e:user[e:name='u{at + 100_000}']</path>"
+                     "<access-operations>read</access-operations><action>deny</action></rule>" for at in range(count))
+    return (f'<nacm xmlns="{ACM}"><rule-list><name>all</name><group>*</group>{listed}<rule><name>rest</name>'
+            "<action>permit</action></rule></rule-list></nacm>")
+
+
+def partial_lock(at):
+    return (f'<partial-lock><select xmlns:e="{SPACE}">/e:users/e:user[e:name=\'u{at + 100_000}\']</select></partial-lock>')
+
+
+def prefixes(count, elements):
+    bound = "".join(f' xmlns:p{at}="urn:{at}"' for at in range(count))
+    return get_config(top("users", "<a/>" * elements, bound))
+
+
+def messages(by):
+    """The messages, each with the modules and the configuration that it meets, and what comes before it."""
+    attributes = "".join(f' a{at}=""' for at in range(300_000 // by))
+    yield f"{300_000 // by:,} attributes", USERS, None, [], [f"<get{attributes}/>"]
+    yield f"{90_000 // by:,} prefixes above {400_000 // by:,} elements", USERS, None, [], [prefixes(90_000 // by, 400_000 // by)]
+    yield (f"a filter of {60_000 // by:,} overlapping matches", TAGGED, users(100, tags), [],
+           [get_config(top("users", triples("", 60_000 // by)))])
+    for count in [1_000 // by, 10_000 // by, 60_000 // by]:
+        yield f"a merge of {count:,} new entries", USERS, None, [], [edit(top("users", entries(USER, count, "mixed")))]
+    ordered = [edit(top("users", entries(RULE, 10_000 // by)))]
+    yield (f"{10_000 // by:,} entries ordered by the user, merged in reverse", USERS, None, ordered,
+           [edit(top("users", entries(RULE, 10_000 // by, "reverse")))])
+    moved = entries('<rule yang:insert="first"><name>u#</name></rule>', 10_000 // by)
+    yield (f"{10_000 // by:,} of them moved to the front, one by one", USERS, None, ordered,
+           [edit(top("users", moved, ' xmlns:yang="urn:ietf:params:xml:ns:yang:1"'))])
+    key = "k" * (2_000_000 // by)
+    yield (f"{20_000 // by:,} entries below a key of {len(key):,} octets", module("ex", """list outer { key name; leaf name { type string; }
+list inner { key at; leaf at { type string; } } }
+"""), None, [], [edit(f'<outer xmlns="{SPACE}"><name>{key}</name>{entries("<inner><at>u#</at></inner>", 20_000 // by)}</outer>')])
+    count = 10_000 // by
+    yield (f"{count:,} leafrefs, validated", module("ex", LISTS), entries(PORT, count) + entries(LINK, count), [], [VALIDATE])
+    count = 100_000 // by
+    yield f"`unique` over {count:,} entries, validated", module("ex", LISTS), entries(PORT, count), [], [VALIDATE]
+    yield (f"a get over {10_000 // by:,} entries under {1_000 // by:,} rules", USERS,
+           access_rules(1_000 // by) + top("users", entries(USER, 10_000 // by)), [], [get_config()])
+    locks = 4_096 // by
+    yield (f"{locks:,} partial locks", USERS, top("users", entries(USER, locks)), [],
+           [partial_lock(at) for at in range(locks)])
+
+
+def look_at_messages(program, room, by):
+    for name, texts, initial, before, requests in messages(by):
+        timer = Timer(program, device(room, {"ex": texts}, initial))
+        seconds, ran = timer.time(requests, before=before)
+        row(name, f"{sum(map(len, requests)):,}", ms(seconds * len(requests)), kb(ran.memory), f"{ran.errors} refused" if ran.errors else "answered")
+
+
+def answer_time(session):
+    """The seconds until a small request is answered."""
+    begun = time.time()
+    session.ask(get_config(f'<none xmlns="{SPACE}"/>'))
+    return time.time() - begun
+
+
+def look_at_connections(program, room, by):
+    """Others at the server, beside a session whose small request is timed by the clock."""
+    many_files()
+    folder = device(room, {"ex": USERS}, access_rules(0) + top("users", entries(USER, 10_000 // by)))
+    with Server(program, folder) as server:
+        one = Session(server)
+        others = [Session(server) for _ in range(64)]
+        for it in others:
+            it.send(get_config())
+        time.sleep(2)
+        row(f"64 sessions that do not read {10_000 // by:,} entries", "", f"another is answered in {ms(answer_time(one))}", kb(server.memory()), "")
+    with Server(program, folder) as server:
+        one = Session(server)
+        silent = []
+        for _ in range(10_000 // by):
+            silent.append(server.dial())
+        row(f"{len(silent):,} connections that say nothing", "", f"another is answered in {ms(answer_time(one))}", kb(server.memory()), "")
+
+
+def main():
+    program, chosen = words([1])
+    head("What comes", "Octets", "Time", "Memory", "Answer")
+    with tempfile.TemporaryDirectory() as room:
+        look_at_messages(program, room, chosen[0])
+        look_at_connections(program, room, chosen[0])
+
+
+if __name__ == "__main__":
+    main()

@@ -6,7 +6,9 @@ use Rattle.nc_model.specs.declared.entry.Entry.{Entry}
 use Rattle.nc_model.specs.Desks.{Home, last_ticket}
 use Rattle.nc_model.specs.History.{IsMineIn}
 use Rattle.nc_protocol.specs.declared.peer.Peer.{Peer}
+use Rattle.nc_machine.specs.Lasting.{Lasting}
 use Rattle.nc_machine.specs.Seats.{Seat}
+use Rattle.nc_machine.specs.Serving.{Serving}
 use Rattle.nc_turn.specs.Views.{AreApart, Begins}
 use Rattle.nc_session.specs.declared.end.SessionEnd.{SessionEnd}
 use Rattle.nc_session.specs.Serves.{Serves, called}
@@ -67,13 +69,14 @@ pub record IsSessionIn (schema : Tables) (home : Home) (sat : Sitting) (history 
   pub serves : Serves schema (called sat.peer (record home { place = place }) [] [] sat.before)
       (λ seen entries. Begins seen history × (entries ≡ mine)) (λ ticket. ticket ≡ last_ticket) sat.now sat.end
 
--- there is one history, legal from the home, for which the machine and its clock stand; both sessions are in it, and no
--- entry is of both
-pub record AreTogether {K : Type 0} (schema : Tables) (home : Home) (seat : Seat K) (one other : Sitting) : Type 0 where
+-- there is one history, legal from the home, by which the machine went on and for which its clock stands; both sessions
+-- are in it, and no entry is of both
+pub record AreTogether {K : Type 0} (words : Lasting K) (began : Serving K) (schema : Tables) (home : Home)
+    (seat : Seat K) (one other : Sitting) : Type 0 where
   pub history : List Entry
   pub mine : List Entry
   pub theirs : List Entry
-  pub stands : SeatStands seat home history
+  pub stands : SeatStands words began seat home history
   pub first : IsSessionIn schema home one history mine
   pub second : IsSessionIn schema home other history theirs
   pub apart : AreApart mine theirs

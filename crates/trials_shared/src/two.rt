@@ -3,7 +3,9 @@ ghost use Rattle.std.specs.Prelude.{◌≡◌, []};
 ghost use Rattle.nc_schema.specs.Tables.{Tables};
 ghost use Rattle.nc_turn.specs.Passes.{view};
 ghost use Rattle.nc_turn.specs.Views.{all_parts};
-ghost use Rattle.nc_shared.specs.Chairs.{IsPassOf, home_of};
+ghost use Rattle.nc_machine.specs.Lasting.{lasting};
+ghost use Rattle.nc_shared.specs.Chairs.{IsPassOf, began_of, home_of};
+ghost use Rattle.nc_shared.specs.Holding.{held_home};
 ghost use Rattle.trials_shared.specs.Together.{AreTogether, WasServed, sitting, tells};
 
 use nc_machine::Machine;
@@ -143,21 +145,22 @@ pub fn serve_two<
 >(
     rt: &R,
     alloc: Global,
-    shared: Shared<K, C>,
+    shared: Shared<Held<K, C>>,
     mut pass: Pass<Held<K, C>>,
     schema: &Schema,
     first: Client<S, T>,
     second: Client<S, T>,
 ) -> Together<K, C, S, T>
-    requires pass { IsPassOf C.given shared pass }
+    requires pass { IsPassOf (held_home K.row.coded C.given) shared pass }
     requires whole { (view pass).parts ≡ all_parts }
     requires unused { ((view pass).seen ≡ []) × ((view pass).mine ≡ []) }
-    ensures { AreTogether schema.now (home_of C.given shared) (record {
-      machine = result.machine;
-      answers = C.count result.clock;
-      given = C.given result.clock;
-      from = (home_of C.given shared).answers;
-    }) (sitting (tells S.left S.ends S.faults T.taken T.faults) first result.first)
+    ensures { AreTogether (lasting K.doubt K.moment K.leaves K.continues) (began_of shared)
+        schema.now (home_of C.given shared) (record {
+          machine = result.machine;
+          answers = C.count result.clock;
+          given = C.given result.clock;
+          from = (home_of C.given shared).answers;
+        }) (sitting (tells S.left S.ends S.faults T.taken T.faults) first result.first)
         (sitting (tells S.left S.ends S.faults T.taken T.faults) second result.second) }
 {
     let other = shared.split(&mut pass);

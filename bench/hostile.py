@@ -2,7 +2,7 @@
 """Sends what a hostile or a careless client would, and prints what the program takes for it: messages of up to 4 MB with
 many attributes, prefixes, matches and entries, long keys, references, rules and locks; and connections that stop reading or
 say nothing, beside a session that goes on. A time is processor time of the program; memory is its peak.
-A number after the program divides all sizes, for a trial.
+A session that takes more than half a minute is ended. A number after the program divides all sizes, for a trial.
 Usage: bench/hostile.py [PROGRAM [DIVISOR]]
 """
 import tempfile
@@ -13,6 +13,8 @@ from filters import MODULE as TAGGED, tags, triples, users
 from payloads import SPACE, Timer, device, edit, entries, get_config, head, kb, module, ms, row, top, words
 from validity import LINK, LISTS, PORT, VALIDATE
 
+LIMIT = 30
+
 USERS = module("ex", """container users {
 list user { key name; leaf name { type string; } leaf type { type string; } }
 list rule { key name; ordered-by user; leaf name { type string; } leaf type { type string; } }
@@ -21,6 +23,7 @@ list port { key "name at"; leaf name { type string; } leaf at { type uint32; } }
 """)
 USER = "<user><name>u#</name><type>admin</type></user>"
 RULE = "<rule><name>u#</name></rule>"
+PARTIAL = "urn:ietf:params:xml:ns:netconf:partial-lock:1.0"
 ACM = "urn:ietf:params:xml:ns:yang:ietf-netconf-acm"
 
 
@@ -33,7 +36,8 @@ def access_rules(count):
 
 
 def partial_lock(at):
-    return (f'<partial-lock><select xmlns:e="{SPACE}">/e:users/e:user[e:name=\'u{at + 100_000}\']</select></partial-lock>')
+    return (f'<partial-lock xmlns="{PARTIAL}"><select xmlns:e="{SPACE}">/e:users/e:user[e:name=\'u{at + 100_000}\']</select>'
+            "</partial-lock>")
 
 
 def prefixes(count, elements):
@@ -66,16 +70,15 @@ list inner { key at; leaf at { type string; } } }
     yield f"`unique` over {count:,} entries, validated", module("ex", LISTS), entries(PORT, count), [], [VALIDATE]
     yield (f"a get over {10_000 // by:,} entries under {1_000 // by:,} rules", USERS,
            access_rules(1_000 // by) + top("users", entries(USER, 10_000 // by)), [], [get_config()])
-    locks = 4_096 // by
-    yield (f"{locks:,} partial locks", USERS, top("users", entries(USER, locks)), [],
-           [partial_lock(at) for at in range(locks)])
 
 
 def look_at_messages(program, room, by):
     for name, texts, initial, before, requests in messages(by):
         timer = Timer(program, device(room, {"ex": texts}, initial))
-        seconds, ran = timer.time(requests, before=before)
-        row(name, f"{sum(map(len, requests)):,}", ms(seconds * len(requests)), kb(ran.memory), f"{ran.errors} refused" if ran.errors else "answered")
+        seconds, ran = timer.time(requests, before=before, limit=LIMIT)
+        taken = f"more than {LIMIT} s" if ran.cut else ms(seconds * len(requests))
+        told = "ended" if ran.cut else f"{ran.errors} refused" if ran.errors else "answered"
+        row(name, f"{sum(map(len, requests)):,}", taken, kb(ran.memory), told)
 
 
 def answer_time(session):
@@ -91,11 +94,23 @@ def look_at_connections(program, room, by):
     folder = device(room, {"ex": USERS}, access_rules(0) + top("users", entries(USER, 10_000 // by)))
     with Server(program, folder) as server:
         one = Session(server)
-        others = [Session(server) for _ in range(64)]
+        others = [Session(server) for _ in range(63)]
         for it in others:
             it.send(get_config())
         time.sleep(2)
-        row(f"64 sessions that do not read {10_000 // by:,} entries", "", f"another is answered in {ms(answer_time(one))}", kb(server.memory()), "")
+        row(f"63 sessions that do not read {10_000 // by:,} entries", "", f"another is answered in {ms(answer_time(one))}", kb(server.memory()), "")
+    with Server(program, folder) as server:
+        sessions = [Session(server) for _ in range(64)]
+        locks = 64 // by or 1
+        asked = [partial_lock(at) for at in range(64 * locks)]
+        begun, end, done, refused = server.seconds(), time.time() + LIMIT, 0, 0
+        for at, request in enumerate(asked):
+            if time.time() > end:
+                break
+            refused += b"<rpc-error>" in sessions[at % 64].ask(request)
+            done += 1
+        taken = f"{ms((server.seconds() - begun) / done)} each"
+        row(f"{done:,} of {len(asked):,} partial locks of 64 sessions", "", taken, kb(server.memory()), f"{refused} refused" if refused else "answered")
     with Server(program, folder) as server:
         one = Session(server)
         silent = []

@@ -121,28 +121,35 @@ def read_to(stream, end, number):
 
 class Ran:
     """A session that is over, on a device without a store: its seconds of processor time, the peak of memory in kB, the bytes
-    that it wrote, how many errors they have, and the line of a refused run."""
+    that it wrote, how many errors they have, the line of a refused run, and whether it was ended after `limit` seconds."""
 
-    def __init__(self, program, folder, requests=(), framing=0):
+    def __init__(self, program, folder, requests=(), framing=0, limit=3600):
         if os.path.exists(f"{folder}/running.nc"):
             os.remove(f"{folder}/running.nc")
         run = subprocess.Popen([program, "stdio", "--recovery", folder, "alice"], stdin=subprocess.PIPE, stdout=subprocess.PIPE,
                                stderr=subprocess.PIPE)
         writer = threading.Thread(target=send, args=(run.stdin, session(framing, requests)))
         writer.start()
+        killer = threading.Timer(limit, run.kill)
+        killer.start()
         text = read_to(run.stdout, b"</rpc-reply>", len(requests)) if requests else read_to(run.stdout, b"</hello>", 1)
         writer.join()
         memory = 0
         if text:
             with open(f"/proc/{run.pid}/status") as status:
                 memory = next((int(line.split()[1]) for line in status if line.startswith("VmHWM")), 0)
-        run.stdin.close()
+        try:
+            run.stdin.close()
+        except BrokenPipeError:
+            pass
         run.stdout.read()
         self.told = run.stderr.read().decode().strip()
         _, _, usage = os.wait4(run.pid, 0)
         run.returncode = 0
         self.seconds = usage.ru_utime + usage.ru_stime
         self.memory = memory or usage.ru_maxrss
+        self.cut = not killer.is_alive()
+        killer.cancel()
         self.size = len(text)
         self.errors = text.count(b"<rpc-error>")
 
@@ -156,11 +163,11 @@ class Timer:
         if self.start.told:
             sys.exit(f"{sys.argv[0]}: {self.start.told}")
 
-    def time(self, requests, framing=0, before=()):
+    def time(self, requests, framing=0, before=(), limit=3600):
         """The seconds of each of these requests, and how the session ran, with the bytes of its replies; the time of those
         before them is not counted."""
-        begun = Ran(self.program, self.folder, before, framing).seconds if before else self.start.seconds
-        ran = Ran(self.program, self.folder, list(before) + list(requests), framing)
+        begun = Ran(self.program, self.folder, before, framing, limit).seconds if before else self.start.seconds
+        ran = Ran(self.program, self.folder, list(before) + list(requests), framing, limit)
         ran.replied = max(0, ran.size - self.start.size)
         return max(0.0, ran.seconds - begun) / len(requests), ran
 

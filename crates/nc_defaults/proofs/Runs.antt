@@ -60,7 +60,7 @@ run_take depth step (suc n) (x ∷ xs) fits all differs =
     let rest = run_take depth step n xs (omega (arith, fits)) (λ k lt. all (suc k) (omega (arith, lt))) (λ lt. differs (omega (arith, lt))) in
     (ap (λ b. cond b (x ∷ run depth step xs) []) yes ∙ ap (λ ys. x ∷ ys) rest.0, ap (λ b. cond b (past depth step xs) (x ∷ xs)) yes ∙ rest.1)
 
-on_list : (depth n : ℕ) (xs : List Row) (step : Option Step) → 0 < n → n ≤ length xs →
+pub on_list : (depth n : ℕ) (xs : List Row) (step : Option Step) → 0 < n → n ≤ length xs →
     ((k : ℕ) → k < n → next_at depth xs k ≡ step) → (n < length xs → is_same_next step (next_at depth xs n) ≡ false) →
     parts depth xs ≡ part step (take n xs) ∷ parts depth (drop n xs)
 on_list depth zero xs step some fits all differs = absurd (omega (arith, some))

@@ -11,9 +11,8 @@ ghost use Rattle.nc_defaults.specs.inner.Walks.{places_at, places_under, places_
 use crate::children::Children;
 use crate::here::place_of;
 use crate::spans::{Run, has_run, runs_of, step_of};
-use crate::spots::{
-    Spot, copied_step, has_places, is_plain, is_same_number, node_there, steps_below,
-};
+use crate::spots::{Spot, has_places, is_plain, is_same_number, node_there};
+use crate::steps::{found_below, own_below};
 use crate::values::values_in_use;
 use nc_names::{Many, Memory, Step, Text};
 use nc_schema::{Node, Schema};
@@ -26,7 +25,7 @@ fn parent_of(schema: &Schema, number: u32) -> Option<u32>
     schema.node(number)?.parent
 }
 
-fn stands_in(parent: Option<u32>, spot: &Spot) -> bool
+fn stands_in(parent: Option<u32>, spot: &Spot<'_>) -> bool
     ensures { (rows : List Row) → result ≡ uses.stands_in parent (place_here rows spot.now.steps spot.now.here) }
 {
     is_same_number(parent, node_there(spot.steps.as_slice()))
@@ -37,7 +36,7 @@ fn values_at<'a>(
     alloc: Global,
     children: &Children<'a>,
     config: &'a Listed,
-    spot: &Spot,
+    spot: &Spot<'_>,
     number: u32,
 ) -> Result<Many<&'a Text>, Memory>
     requires { IsWithin config.now spot.now.here }
@@ -64,7 +63,7 @@ fn add_values<'a>(
     out: &mut Many<&'a Text>,
     children: &Children<'a>,
     config: &'a Listed,
-    spot: &Spot,
+    spot: &Spot<'_>,
     leaf: u32,
     number: u32,
 ) -> Result<(), Memory>
@@ -85,7 +84,7 @@ fn add_below<'a>(
     out: &mut Many<&'a Text>,
     children: &Children<'a>,
     config: &'a Listed,
-    spot: &Spot,
+    spot: &Spot<'_>,
     leaf: u32,
     number: u32,
 ) -> Result<(), Memory>
@@ -115,7 +114,7 @@ fn add_child<'a>(
     out: &mut Many<&'a Text>,
     children: &Children<'a>,
     config: &'a Listed,
-    spot: &Spot,
+    spot: &Spot<'_>,
     leaf: u32,
     runs: &[Run],
     number: u32,
@@ -138,7 +137,7 @@ fn add_parts<'a>(
     out: &mut Many<&'a Text>,
     children: &Children<'a>,
     config: &'a Listed,
-    spot: &Spot,
+    spot: &Spot<'_>,
     leaf: u32,
     runs: &[Run],
     child: (u32, &Node),
@@ -168,7 +167,7 @@ fn add_parts<'a>(
             keys: Many::new(alloc),
         };
         let spot = Spot {
-            steps: steps_below(steps, alloc, step)?,
+            steps: own_below(steps, alloc, step)?,
             here: place_of(schema, config, steps, here, node, (here.from, here.from)),
         };
         add_values(out, children, config, &spot, leaf, number + 1)?;
@@ -182,7 +181,7 @@ fn add_parts<'a>(
             continue;
         };
         let spot = Spot {
-            steps: steps_below(steps, alloc, copied_step(step)?)?,
+            steps: found_below(config, run.from, steps, alloc, step)?,
             here: place_of(schema, config, steps, here, node, (run.from, run.to)),
         };
         add_values(out, children, config, &spot, leaf, number + 1)?;
@@ -196,7 +195,7 @@ pub fn values_below<'a>(
     alloc: Global,
     children: &Children<'a>,
     config: &'a Listed,
-    spot: &Spot,
+    spot: &Spot<'_>,
     number: u32,
 ) -> Result<Many<&'a Text>, Memory>
     requires { IsWithin config.now spot.now.here }

@@ -11,6 +11,7 @@ ghost use Rattle.nc_defaults.specs.inner.Walks.{places_at, places_under, places_
 use crate::children::Children;
 use crate::here::{Here, place_of};
 use crate::spans::{Run, has_run, runs_of, step_of};
+use crate::steps::{Steps, found_below, own_below};
 use nc_names::{Copies, Many, Memory, Step};
 use nc_schema::{Kind, Node};
 use nc_tree::Listed;
@@ -18,9 +19,9 @@ use std::alloc::Global;
 
 /// A place with the steps to it.
 #[derive(Debug, Drop)]
-pub struct Spot {
+pub struct Spot<'a> {
     /// The steps to it; none at the top.
-    pub steps: Many<Step>,
+    pub steps: Steps<'a>,
     /// The place.
     pub here: Here,
 }
@@ -47,32 +48,6 @@ pub fn is_same_number(number: Option<u32>, other: Option<u32>) -> bool
     }
 }
 
-/// An equal step, with room for its own keys alone: one of each place is kept.
-pub fn copied_step(step: &Step) -> Result<Step, Memory>
-    ensures { IfOk result (λ it. it ≡ step.now) }
-{
-    let mut keys = Vec::with_capacity(step.keys.alloc(), step.keys.len())?;
-    for key in step.keys.as_slice() {
-        keys.push(key.copy()?)?;
-    }
-    Ok(Step {
-        node: step.node,
-        keys: Many::from_vec(keys),
-    })
-}
-
-/// The steps with one more.
-pub fn steps_below(steps: &[Step], alloc: Global, step: Step) -> Result<Many<Step>, Memory>
-    ensures { IfOk result (λ it. it ≡ steps.now ++ step ∷ []) }
-{
-    let mut below = Vec::with_capacity(alloc, steps.len() + 1)?;
-    for above in steps {
-        below.push(copied_step(above)?)?;
-    }
-    below.push(step)?;
-    Ok(Many::from_vec(below))
-}
-
 /// Whether data nodes stand in instances of a kind of data node (RFC 7950 7.5, 7.8).
 pub fn has_places(kind: Kind) -> bool
     ensures { result ≡ kinds.holds_nodes kind }
@@ -95,17 +70,17 @@ pub(crate) fn is_plain(kind: Kind) -> bool
 
 /// Adds an instance of a data node, whose number is `number - 1`, and all places below it.
 #[cycle(spots)]
-fn add_place(
-    out: &mut Many<Spot>,
+fn add_place<'a>(
+    out: &mut Many<Spot<'a>>,
     children: &Children<'_>,
-    config: &Listed,
-    spot: Spot,
+    config: &'a Listed,
+    spot: Spot<'a>,
     number: u32,
 ) -> Result<(), Memory>
     requires { IsWithin config.now spot.here }
     ensures places { OnOk result (places_in config.now out.new ≡ places_in config.now out.old
-        ++ place_here config.now spot.steps spot.here
-        ∷ places_under children.now (place_here config.now spot.steps spot.here) number) }
+        ++ place_here config.now spot.entry.steps spot.entry.here
+        ∷ places_under children.now (place_here config.now spot.entry.steps spot.entry.here) number) }
     ensures within { AreWithin config.now out.old → AreWithin config.now out.new }
 {
     let steps = spot.steps.copy()?;
@@ -118,10 +93,10 @@ fn add_place(
 /// Adds the places below one, of the data nodes from a number on. A data node has a higher number than the
 /// one in which it stands, so that the walk looks at no more than those that it adds.
 #[cycle(spots)]
-fn add_below(
-    out: &mut Many<Spot>,
+fn add_below<'a>(
+    out: &mut Many<Spot<'a>>,
     children: &Children<'_>,
-    config: &Listed,
+    config: &'a Listed,
     steps: &[Step],
     here: Here,
     number: u32,
@@ -147,10 +122,10 @@ fn add_below(
 
 /// Adds the places of a data node that stands in the place, with those below them.
 #[cycle(spots)]
-fn add_child(
-    out: &mut Many<Spot>,
+fn add_child<'a>(
+    out: &mut Many<Spot<'a>>,
     children: &Children<'_>,
-    config: &Listed,
+    config: &'a Listed,
     steps: &[Step],
     here: Here,
     runs: &[Run],
@@ -171,10 +146,10 @@ fn add_child(
 
 /// Adds the instances of a data node that are places, with the places below them.
 #[cycle(spots)]
-fn add_parts(
-    out: &mut Many<Spot>,
+fn add_parts<'a>(
+    out: &mut Many<Spot<'a>>,
     children: &Children<'_>,
-    config: &Listed,
+    config: &'a Listed,
     steps: &[Step],
     here: Here,
     runs: &[Run],
@@ -204,7 +179,7 @@ fn add_parts(
             keys: Many::new(alloc),
         };
         let spot = Spot {
-            steps: steps_below(steps, alloc, step)?,
+            steps: own_below(steps, alloc, step)?,
             here: place_of(schema, config, steps, here, node, (here.from, here.from)),
         };
         add_place(out, children, config, spot, number + 1)?;
@@ -218,7 +193,7 @@ fn add_parts(
             continue;
         };
         let spot = Spot {
-            steps: steps_below(steps, alloc, copied_step(step)?)?,
+            steps: found_below(config, run.from, steps, alloc, step)?,
             here: place_of(schema, config, steps, here, node, (run.from, run.to)),
         };
         add_place(out, children, config, spot, number + 1)?;
@@ -227,13 +202,13 @@ fn add_parts(
 }
 
 /// A place and all below it, in document order.
-pub fn places_from(
+pub fn places_from<'a>(
     alloc: Global,
     children: &Children<'_>,
-    config: &Listed,
+    config: &'a Listed,
     steps: &[Step],
     here: Here,
-) -> Result<Many<Spot>, Memory>
+) -> Result<Many<Spot<'a>>, Memory>
     requires { IsWithin config.now here }
     ensures places { IfOk result (λ it. places_in config.now it
         ≡ places.places_from children.now (place_here config.now steps.now here)) }
@@ -243,7 +218,11 @@ pub fn places_from(
     for step in steps {
         own.push(step.copy()?)?;
     }
+    let top = Spot {
+        steps: Steps::own(own),
+        here,
+    };
     let mut out = Many::new(alloc);
-    add_place(&mut out, children, config, Spot { steps: own, here }, 0)?;
+    add_place(&mut out, children, config, top, 0)?;
     Ok(out)
 }

@@ -8,19 +8,17 @@ ghost use Rattle.nc_model.specs.Policy as policies;
 ghost use Rattle.nc_defaults.specs.Within.{AreWithin, IsWithin, place_here, places_in};
 ghost use Rattle.nc_nacm.specs.inner.Entries as inner;
 
-use nc_defaults::{
-    Here, Spot, copied_step, next_of, place_of, run_end, steps_below, values_in_use,
-};
+use nc_defaults::{Here, Spot, found_below, next_of, place_of, run_end, values_in_use};
 use nc_names::{Copies, Many, Memory, Step, Text};
 use nc_schema::{Node, Schema};
 use nc_tree::{Listed, last_step};
 use std::alloc::Global;
 
 /// Adds the entry that begins at a row and ends at another, if it is one of the list.
-fn add_entry(
-    out: &mut Many<Spot>,
+fn add_entry<'a>(
+    out: &mut Many<Spot<'a>>,
     schema: &Schema,
-    config: &Listed,
+    config: &'a Listed,
     steps: &[Step],
     here: Here,
     list: (u32, &Node),
@@ -43,7 +41,7 @@ fn add_entry(
     if step.node != number {
         return Ok(());
     }
-    let steps_to = steps_below(steps, out.alloc(), copied_step(step)?)?;
+    let steps_to = found_below(config, from, steps, out.alloc(), step)?;
     let place = place_of(schema, config, steps, here, node, (from, to));
     out.push(Spot {
         steps: steps_to,
@@ -53,14 +51,14 @@ fn add_entry(
 }
 
 /// The entries of a list in a place.
-pub(crate) fn entries_at(
+pub(crate) fn entries_at<'a>(
     alloc: Global,
     schema: &Schema,
-    config: &Listed,
+    config: &'a Listed,
     steps: &[Step],
     here: Here,
     number: u32,
-) -> Result<Many<Spot>, Memory>
+) -> Result<Many<Spot<'a>>, Memory>
     requires { IsWithin config.now here }
     ensures places { IfOk result (λ it. places_in config.now it
         ≡ policies.entries_at schema.now (place_here config.now steps.now here) number) }

@@ -19,7 +19,12 @@ use nc_schema::Schema;
 use nc_tree::{Config, Listed};
 use std::alloc::Global;
 
-fn group_of(alloc: Global, schema: &Schema, config: &Listed, spot: &Spot) -> Result<Group, Memory>
+fn group_of(
+    alloc: Global,
+    schema: &Schema,
+    config: &Listed,
+    spot: &Spot<'_>,
+) -> Result<Group, Memory>
     requires { IsWithin config.now spot.now.here }
     ensures { IfOk result (λ it. it
         ≡ policies.group_of schema.now (place_here config.now spot.now.steps spot.now.here)) }
@@ -34,7 +39,7 @@ fn groups_of(
     alloc: Global,
     schema: &Schema,
     config: &Listed,
-    spots: &[Spot],
+    spots: &[Spot<'_>],
 ) -> Result<Many<Group>, Memory>
     requires { AreWithin config.now spots.now }
     ensures { IfOk result (λ it. it ≡ map (policies.group_of schema.now) (places_in config.now spots.now)) }

@@ -74,7 +74,7 @@ fn kind_at(
     schema: &Schema,
     bounds: &Bounds,
     config: &Listed,
-    spot: &Spot,
+    spot: &Spot<'_>,
 ) -> Result<RuleKind, Memory>
     requires bound { bounds.now ≡ module_bounds schema.now }
     requires within { IsWithin config.now spot.now.here }
@@ -94,7 +94,7 @@ fn rule_of(
     bounds: &Bounds,
     config: &Listed,
     list: &Text,
-    spot: &Spot,
+    spot: &Spot<'_>,
 ) -> Result<Rule, Memory>
     requires bound { bounds.now ≡ module_bounds schema.now }
     requires within { IsWithin config.now spot.now.here }
@@ -126,7 +126,7 @@ fn rules_of(
     bounds: &Bounds,
     config: &Listed,
     list: &Text,
-    spots: &[Spot],
+    spots: &[Spot<'_>],
 ) -> Result<Many<Rule>, Memory>
     requires bound { bounds.now ≡ module_bounds schema.now }
     requires within { AreWithin config.now spots.now }
@@ -145,7 +145,7 @@ fn list_of(
     schema: &Schema,
     bounds: &Bounds,
     config: &Listed,
-    spot: &Spot,
+    spot: &Spot<'_>,
 ) -> Result<RuleList, Memory>
     requires bound { bounds.now ≡ module_bounds schema.now }
     requires within { IsWithin config.now spot.now.here }
@@ -166,7 +166,7 @@ pub(crate) fn lists_of(
     schema: &Schema,
     bounds: &Bounds,
     config: &Listed,
-    spots: &[Spot],
+    spots: &[Spot<'_>],
 ) -> Result<Many<RuleList>, Memory>
     requires bound { bounds.now ≡ module_bounds schema.now }
     requires within { AreWithin config.now spots.now }

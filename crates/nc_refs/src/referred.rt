@@ -7,8 +7,8 @@ ghost use Rattle.nc_refs.specs.inner.Referred.{HasValues, IsKnown};
 ghost use Rattle.nc_refs.specs.inner.Trails.{IsTrail};
 
 use crate::trail::Trail;
-use nc_defaults::{Children, Spot, values_below};
-use nc_names::{Copies, Many, Memory, Step, Text, same_steps};
+use nc_defaults::{Children, Spot, Steps, values_below};
+use nc_names::{Memory, Step, Text, same_steps};
 use nc_schema::Schema;
 use nc_tree::Listed;
 use std::alloc::Global;
@@ -118,22 +118,11 @@ fn values_referred<'a>(
         return Ok((trail, BTreeSet::new(alloc)));
     };
     let spot = Spot {
-        steps: copy_steps(alloc, turning)?,
+        steps: Steps::there(turning),
         here,
     };
     let values = values_below(alloc, children, config, &spot, target)?;
     Ok((trail, values_of(alloc, values.as_slice())?))
-}
-
-// The same steps.
-fn copy_steps(alloc: Global, steps: &[Step]) -> Result<Many<Step>, Memory>
-    ensures { IfOk result (λ it. it ≡ steps.now) }
-{
-    let mut copied = Many::new(alloc);
-    for step in steps {
-        copied.push(step.copy()?)?;
-    }
-    Ok(copied)
 }
 
 impl<'a> Known<'a> {

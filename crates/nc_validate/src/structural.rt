@@ -49,7 +49,7 @@ fn first_of_statements<'a>(
     alloc: Global,
     children: &Children<'a>,
     config: &'a Listed,
-    entries: &[Spot],
+    entries: &[Spot<'_>],
     uniques: &[Many<u32>],
 ) -> Result<Option<Violation>, Memory>
     requires { AreWithin config.now entries.now }

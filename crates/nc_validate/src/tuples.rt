@@ -68,7 +68,7 @@ pub(crate) fn tuples_of<'a>(
     alloc: Global,
     children: &Children<'a>,
     config: &'a Listed,
-    entry: &Spot,
+    entry: &Spot<'_>,
     leafs: &[u32],
 ) -> Result<Many<Many<&'a Text>>, Memory>
     requires { IsWithin config.now entry.now.here }

@@ -56,7 +56,7 @@ pub(crate) fn first_repeated<'a>(
     alloc: Global,
     children: &Children<'a>,
     config: &'a Listed,
-    entries: &[Spot],
+    entries: &[Spot<'_>],
     leafs: &[u32],
 ) -> Result<Option<Violation>, Memory>
     requires { AreWithin config.now entries.now }

@@ -101,12 +101,12 @@ add_parts-returns-then-not-has_run t c =
     let step : Step = record { node = number; keys = [] } in
     let result = c.place_of.result in
     let found_in : Tables = c.schema-schema.result.now in
-    let below : Place = place_here config c.in_ok-steps_below.field-0 result in
+    let below : Place = place_here config c.in_ok-own_below.field-0 result in
     let plain : is_plain_container node.kind ≡ true = cc (c.is_plain.ensures, c.if-not-is_plain.false) in
     let none : length (parts_of place number) ≡ 0 =
     ap length (none_of place number config here.from here.to args.runs.now refl c.requires.runs (sym c.has_run.ensures ∙ c.if-not-has_run.true)) in
-    let longer : c.in_ok-steps_below.field-0 ≡ own ++ step ∷ [] =
-    c.in_ok-steps_below.ensures
+    let longer : c.in_ok-own_below.field-0 ≡ own ++ step ∷ [] =
+    c.in_ok-own_below.ensures
     ∙ ap (λ (s : List Step). s ++ record { node = number; keys = c.new.result } ∷ []) same
     ∙ ap (λ (ks : List (List ℕ)). own ++ record { node = number; keys = ks } ∷ []) c.new.ensures in
     let is : below ≡ place_of tables place node (record { step = Some step; rows = rows_between config here.from here.from }) =
@@ -209,10 +209,9 @@ add_parts-loop-run-preserved t c =
     let found : Some step ≡ next_at depth config run.from = c.in-Some.ensures.step in
     let passes : is_of number (part_at depth config run) ≡ true = sym (run_is number depth config run it) ∙ sym c.is_same_number.ensures ∙ c.if-not-is_same_number.false in
     let found_in : Tables = c.schema-schema.result.now in
-    let below : Place = place_here config c.in_ok-steps_below-2.field-0 c.place_of-in-loop-run.result in
-    let longer : c.in_ok-steps_below-2.field-0 ≡ own ++ step ∷ [] =
-    c.in_ok-steps_below-2.ensures
-    ∙ ap (λ (s : Step). given ++ s ∷ []) c.in_ok-copied_step.ensures
+    let below : Place = place_here config c.in_ok-found_below.field-0 c.place_of-in-loop-run.result in
+    let longer : c.in_ok-found_below.field-0 ≡ own ++ step ∷ [] =
+    c.in_ok-found_below.ensures
     ∙ ap (λ (s : List Step). s ++ step ∷ []) same in
     let is : below ≡ place_of tables place node (part_at depth config run) =
     ap (λ (s : List Step). place_here config s c.place_of-in-loop-run.result) longer

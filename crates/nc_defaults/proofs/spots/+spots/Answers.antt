@@ -99,12 +99,12 @@ add_parts-returns-then-not-has_run-clause-places t c =
     let number = args.child.0 in
     let node = args.child.1.now in
     let step : Step = record { node = number; keys = [] } in
-    let below : Place = place_here config c.in_ok-steps_below.field-0 c.place_of.result in
+    let below : Place = place_here config c.in_ok-own_below.field-0 c.place_of.result in
     let plain : is_plain_container node.kind ≡ true = cc (c.is_plain.ensures, c.if-not-is_plain.false) in
     let none : length (parts_of place number) ≡ 0 =
     ap length (none_of place number config here.from here.to args.runs.now refl c.requires.runs (sym c.has_run.ensures ∙ c.if-not-has_run.true)) in
-    let longer : c.in_ok-steps_below.field-0 ≡ args.steps.now ++ step ∷ [] =
-    c.in_ok-steps_below.ensures ∙ ap (λ (ks : List (List ℕ)). args.steps.now ++ record { node = number; keys = ks } ∷ []) c.new.ensures in
+    let longer : c.in_ok-own_below.field-0 ≡ args.steps.now ++ step ∷ [] =
+    c.in_ok-own_below.ensures ∙ ap (λ (ks : List (List ℕ)). args.steps.now ++ record { node = number; keys = ks } ∷ []) c.new.ensures in
     let is : below ≡ place_of tables place node (record { step = Some step; rows = rows_between config here.from here.from }) =
     ap (λ (steps : List Step). place_here config steps c.place_of.result) longer
     ∙ c.place_of.ensures.place (Some step)
@@ -190,9 +190,8 @@ add_parts-loop-run-preserved t c =
     let rows : List Row = rows_between config run.from run.to in
     let found : Some step ≡ next_at depth config run.from = c.in-Some.ensures.step in
     let passes : is_of number (part_at depth config run) ≡ true = sym (run_is number depth config run it) ∙ sym c.is_same_number.ensures ∙ c.if-not-is_same_number.false in
-    let below : Place = place_here config c.in_ok-steps_below-2.field-0 c.place_of-in-loop-run.result in
-    let longer : c.in_ok-steps_below-2.field-0 ≡ args.steps.now ++ step ∷ [] =
-    c.in_ok-steps_below-2.ensures ∙ ap (λ (s : Step). args.steps.now ++ s ∷ []) c.in_ok-copied_step.ensures in
+    let below : Place = place_here config c.in_ok-found_below.field-0 c.place_of-in-loop-run.result in
+    let longer : c.in_ok-found_below.field-0 ≡ args.steps.now ++ step ∷ [] = c.in_ok-found_below.ensures in
     let is : below ≡ place_of tables place node (part_at depth config run) =
     ap (λ (steps : List Step). place_here config steps c.place_of-in-loop-run.result) longer
     ∙ c.place_of-in-loop-run.ensures.place (Some step)

@@ -1,6 +1,9 @@
 //! The first violation of the references of a configuration.
-ghost use Rattle.std.specs.Prelude.{◌≡◌, true, None, Some, slice_get, not, IfOk, IfSome, if◌then◌else◌};
+ghost use Rattle.std.specs.Prelude.{◌≡◌, true, false, ℕ, List, [], None, Some, slice_get, not, IfOk, IfSome, if◌then◌else◌};
 ghost use Rattle.std.specs.Option.{option_copied, option_map_or};
+ghost use Rattle.nc_names.specs.declared.path.Row.{Row};
+ghost use Rattle.nc_names.specs.declared.path.Step.{Step};
+ghost use Rattle.nc_schema.specs.Tables.{Tables};
 ghost use Rattle.nc_schema.specs.Violations as violations;
 ghost use Rattle.nc_schema.specs.declared.value_type.ValueType.TheVariants.{Instance, Leafref};
 ghost use Rattle.nc_refs.specs.inner.Broken.{IsAbout, fault_of};
@@ -172,6 +175,32 @@ fn row_fault<'a>(
     }
 }
 
+// Whether a value of a type may be a broken reference.
+fn may_break(value_type: &ValueType) -> bool
+    ensures { (tables : Tables) (rows : List Row) (steps : List Step) (text : List ℕ) → result ≡ false →
+        violations.reference_violation tables rows steps text value_type.now ≡ [] }
+{
+    match value_type {
+        ValueType::Leafref { required, .. } => *required,
+        ValueType::Instance { required } => *required,
+        _ => false,
+    }
+}
+
+// Whether a row may be one. Most are none, and what is known of the configuration is not moved for them.
+fn may_refer(schema: &Schema, row: &Shared<Row>) -> bool
+    ensures { (rows : List Row) → result ≡ false → violations.row_violation schema.now rows row.now ≡ [] }
+{
+    let row = row.get();
+    if row.value.is_none() {
+        return false;
+    }
+    match type_there(schema, row.path.steps.as_slice()) {
+        Some(value_type) => may_break(value_type),
+        None => false,
+    }
+}
+
 // The path to a row.
 fn path_of(row: &Shared<Row>) -> Result<Path, Memory>
     ensures { IfOk result (λ it. it ≡ row.now.path) }
@@ -194,6 +223,9 @@ pub fn first_reference(
         nodes: None,
     };
     for row in config.as_slice() {
+        if !may_refer(schema, row) {
+            continue;
+        }
         let (next, fault) = row_fault(alloc, schema, config, about, row)?;
         about = next;
         if let Some(kind) = fault {

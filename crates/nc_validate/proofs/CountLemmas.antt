@@ -51,10 +51,10 @@ none_of : (count enough : ℕ) → 1 ≤ enough → enough ≤ count → (count 
 none_of zero enough some up = absurd (omega (arith, some, up))
 none_of (suc count) enough some up = grind (arith, nat_tests)
 
-not_below : (a b : ℕ) → b ≤ a → ltb a b ≡ false
+pub not_below : (a b : ℕ) → b ≤ a → ltb a b ≡ false
 not_below a b up = grind (arith, nat_tests)
 
-at_most : (a b : ℕ) → ltb a b ≡ false → b ≤ a
+pub at_most : (a b : ℕ) → ltb a b ≡ false → b ≤ a
 at_most a b is = grind (arith, nat_tests)
 
 below : (a b : ℕ) → a < b → ltb a b ≡ true

@@ -5,3 +5,4 @@ pub mod TuplesLemmas
 pub mod UniqueLemmas
 pub mod CountLemmas
 pub mod Firsts
+pub mod FreeLemmas

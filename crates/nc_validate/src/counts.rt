@@ -42,8 +42,8 @@ fn is_past(count: u64, most: Option<u64>) -> bool
     }
 }
 
-// Whether a count of a data node is bounded at all.
-fn is_bounded(node: &Node) -> bool
+/// Whether a count of a data node is bounded at all.
+pub(crate) fn is_bounded(node: &Node) -> bool
     ensures { result ≡ (node.now.mandatory || (ltb 0 node.now.least || is_some node.now.most)) }
 {
     node.mandatory || node.least > 0 || node.most.is_some()

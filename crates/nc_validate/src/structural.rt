@@ -1,5 +1,7 @@
 //! The walk over the places of a configuration.
-ghost use Rattle.std.specs.Prelude.{◌≡◌, slice_get, IfOk};
+ghost use Rattle.std.specs.Prelude.{◌≡◌, ℕ, true, [], slice_get, IfOk};
+ghost use Rattle.nc_schema.specs.Places.{Place};
+ghost use Rattle.nc_schema.specs.Tables.{Tables};
 ghost use Rattle.nc_schema.specs.Violations as violations;
 ghost use Rattle.std.specs.List.{flat_map};
 ghost use Rattle.nc_defaults.specs.Within.{AreWithin, IsWithin, place_here, places_in};
@@ -9,7 +11,7 @@ ghost use Rattle.nc_validate.specs.inner.Choices.{bare_of};
 ghost use Rattle.nc_validate.specs.inner.Outlines.{IsOutline};
 
 use crate::choices::first_of_choice;
-use crate::counts::first_of_counts;
+use crate::counts::{first_of_counts, is_bounded};
 use crate::entries::entries;
 use crate::faults::is_found;
 use crate::outline::{Outline, outline_of};
@@ -99,6 +101,21 @@ fn first_of_uniques<'a>(
     Ok(found)
 }
 
+// Whether nothing is asked of a data node, as of most: it is of no case, and its count and its entries are free.
+#[tactic(auto, using(crate::proofs::FreeLemmas::none_asked))]
+fn is_free(node: &Node) -> bool
+    ensures { (tables : Tables) (place : Place) (number : ℕ) → result ≡ true →
+        violations.child_violations tables place number node.now ≡ [] }
+{
+    if !node.cases.is_empty() {
+        return false;
+    }
+    if !node.uniques.is_empty() {
+        return false;
+    }
+    !is_bounded(node)
+}
+
 // The first violation of a data node of a place.
 fn first_of_child<'a>(
     alloc: Global,
@@ -141,6 +158,9 @@ fn first_of_node<'a>(
 {
     match outline.schema.node(number) {
         Some(node) => {
+            if is_free(node) {
+                return Ok(None);
+            }
             let found = first_of_child(alloc, outline, config, steps, here, (number, node))?;
             Ok(found)
         }

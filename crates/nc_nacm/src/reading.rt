@@ -1,8 +1,12 @@
 //! The policy of access control that a configuration holds (RFC 8341 3.5.2, `nacm`).
-ghost use Rattle.std.specs.Prelude.{◌≡◌, [], map, IfOk};
+ghost use Rattle.std.specs.Prelude.{◌≡◌, ◌∷◌, [], true, Some, map, IfOk, IfSome};
+ghost use Rattle.nc_names.specs.Same.{is_same_step};
 ghost use Rattle.nc_schema.specs.Bindings.{module_bounds};
+ghost use Rattle.nc_schema.specs.Places.{is_same_next};
 ghost use Rattle.nc_model.specs.Policy as policies;
 ghost use Rattle.nc_defaults.specs.Within.{AreWithin, IsWithin, place_here, places_in};
+ghost use Rattle.nc_defaults.specs.inner.Runs.{next_at};
+ghost use Rattle.nc_nacm.specs.inner.Front.{IsFront, IsOfNoCase, nacm_step};
 
 use crate::entries::{entries_at, entry_name, is_text, texts_at, value_at};
 use crate::numbers::{
@@ -14,7 +18,7 @@ use nc_defaults::{Here, Spot, place_below, steps_below, top};
 use nc_message::Bounds;
 use nc_model::server_words::{false_word, permit, true_word};
 use nc_model::{Group, Policy, RuleList};
-use nc_names::{Binds, Many, Memory, Step};
+use nc_names::{Binds, Many, Memory, Path, Step};
 use nc_schema::Schema;
 use nc_tree::{Config, Listed};
 use std::alloc::Global;
@@ -181,10 +185,90 @@ fn policy_in(alloc: Global, schema: &Schema, rows: &Listed) -> Result<Policy, Me
     }
 }
 
-/// The policy that a configuration holds.
+// Whether the first step to a row is that to the container.
+fn is_nacm_at(config: &Config, at: u64) -> bool
+    ensures { result ≡ is_same_next (Some nacm_step) (next_at 0 config.now at) }
+{
+    let Some(row) = config.row(at) else {
+        return false;
+    };
+    let Some(step) = row.path.steps.get(0) else {
+        return false;
+    };
+    is_nacm(step)
+}
+
+fn is_nacm(step: &Step) -> bool
+    ensures { result ≡ is_same_step nacm_step step.now }
+{
+    if step.node != NACM {
+        return false;
+    }
+    step.keys.is_empty()
+}
+
+// Whether so many rows are the first, and the next is none of the container.
+#[tactic(auto, using(nc_defaults::proofs::Runs::same_next))]
+fn stand_first(config: &Config, count: u64) -> bool
+    ensures { result ≡ true → IsFront config.now count }
+{
+    if count == 0 {
+        return false;
+    }
+    for at in 0..count {
+        if !is_nacm_at(config, at) {
+            return false;
+        }
+    }
+    !is_nacm_at(config, count)
+}
+
+// Whether the container is of no case, as in every schema that is compiled.
+fn is_of_no_case(schema: &Schema) -> bool
+    ensures { result ≡ true → IsOfNoCase schema.now }
+{
+    match schema.node(NACM) {
+        Some(node) => node.cases.is_empty(),
+        None => true,
+    }
+}
+
+fn nacm_path(alloc: Global) -> Result<Path, Memory>
+    ensures { IfOk result (λ it. it.steps ≡ nacm_step ∷ []) }
+{
+    let mut steps = Many::new(alloc);
+    steps.push(container_step(alloc, NACM))?;
+    Ok(Path { steps })
+}
+
+// The part of a configuration of which its policy is read, where it is found by a few look-ups: none where
+// nothing stands in the container, and else its rows, where they come before all others.
+#[tactic(auto, using(crate::proofs::Fronts::none_read, crate::proofs::Fronts::front_read))]
+fn part_read(alloc: Global, schema: &Schema, config: &Config) -> Result<Option<Config>, Memory>
+    ensures { IfOk result (λ it. IfSome it (λ part.
+        policies.policy_of schema.now part ≡ policies.policy_of schema.now config.now)) }
+{
+    if !is_of_no_case(schema) {
+        return Ok(None);
+    }
+    if !config.has_node(&[], NACM) {
+        return Ok(Some(Config::empty(alloc)));
+    }
+    let path = nacm_path(alloc)?;
+    if !stand_first(config, config.count_at(&path)) {
+        return Ok(None);
+    }
+    Ok(Some(config.part(&path)?))
+}
+
+/// The policy that a configuration holds. Of a configuration whose rows of `nacm` come first, as they do in
+/// document order, no other row is looked at.
 pub(crate) fn policy_of(alloc: Global, schema: &Schema, config: &Config) -> Result<Policy, Memory>
     ensures { IfOk result (λ it. it ≡ policies.policy_of schema.now config.now) }
 {
-    let rows = Listed::of(alloc, config)?;
+    let rows = match part_read(alloc, schema, config)? {
+        Some(part) => Listed::of(alloc, &part)?,
+        None => Listed::of(alloc, config)?,
+    };
     policy_in(alloc, schema, &rows)
 }

@@ -1,7 +1,6 @@
 -- What a filter keeps of the rows that stand where one of its content matches is met is what it keeps of all.
 use Rattle.std.proofs.Common.{◌≡◌, ◌&&◌, ◌||◌, ◌≤◌, ◌<◌, ℕ, zero, suc, length, take, get_or, map, Bor, Bool, true, false, cond, not, List, [], ◌∷◌, ◌++◌, None, refl, sym, ap, subst, ◌∙◌, arith}
 use Rattle.std.specs.Prelude.{Err, IfOk, IfSome, Ok, Option, Result, Some}
-use Rattle.std.specs.BTreeSet.{BTreeSet}
 use Rattle.std.specs.List.{Contains, filter, last_or, list_all, list_any, starts_with}
 use Rattle.std.specs.Option.{option_map_or}
 use Rattle.std.proofs.lemmas.List.{append-nil, append_assoc, length-map, map-append, take-append-le}
@@ -20,7 +19,6 @@ use Rattle.nc_protocol.proofs.PlaceLemmas.{below_is_below}
 use Rattle.nc_filter.proofs.KeptLemmas.{mapped_item, mapped_within}
 use Rattle.nc_filter.specs.declared.front.Way.{Way}
 use Rattle.nc_filter.specs.inner.Front.{AreLikes, IsWay, LeadBy, is_like, is_met, is_near}
-use Rattle.nc_filter.specs.inner.Tables.{ArePlaces}
 
 -- two truths, and one of two
 first_true : (a b : Bool) → (a && b) ≡ true → a ≡ true
@@ -384,30 +382,26 @@ front_done tables rows found alike from to way level depth is_way level_is depth
     ∙ selected_met tables rows from to elem way is_way (subst (λ (one : List Elem). Contains one elem) level_is has) is_match
 
 -- so it is for the rows that are met where a way leads, as they are found
-met_done : (tables : Tables) (from : Elem) (way : Way) (rows found alike : List (Bor Row)) (places : BTreeSet (Bor (List Step))) → IsWay from way →
-    AreLikes tables (map (λ elem. elem.now) way.level) (map (λ row. row.now) rows) (map (λ row. row.now) alike) → ArePlaces places (map (λ row. row.now) alike) →
-    ((some : List Row) → ArePlaces places some → map (λ row. row.now) found ≡ filter (is_met tables some (length way.elems)) (map (λ row. row.now) rows)) →
-    selected tables from (map (λ row. row.now) found) ≡ selected tables from (map (λ row. row.now) rows)
-met_done tables from way rows found alike places is_way are_likes are_places are_found =
-    front_done tables (map (λ row. row.now) rows) (map (λ row. row.now) found) (map (λ row. row.now) alike) from way.end.now (map (λ elem. elem.now) way.elems) (map (λ elem. elem.now) way.level)
-    (length way.elems) is_way.0 is_way.1 (sym (length-map way.elems (λ (elem : Bor Elem). elem.now))) are_likes (are_found (map (λ row. row.now) alike) are_places)
+pub met_found : {E : Type 0} (result : Result (List (Bor Row)) E) (tables : Tables) (from : Elem) (way : Way) (rows : List Row) (listed alike asked : List (Bor Row)) (level : List (Bor Elem))
+    (found : Option (List (Bor Row))) (depth : ℕ) → IsWay from way → level ≡ way.level → map (λ row. row.now) listed ≡ rows → found ≡ Some alike →
+    IfSome found (λ some. AreLikes tables (map (λ elem. elem.now) level) (map (λ row. row.now) listed) (map (λ row. row.now) some)) → asked ≡ alike → depth ≡ length way.elems →
+    IfOk result (λ it. map (λ row. row.now) it ≡ filter (is_met tables (map (λ row. row.now) asked) depth) rows) →
+    IfOk result (λ it. selected tables from (map (λ row. row.now) it) ≡ selected tables from rows)
+met_found (Err e) tables from way rows listed alike asked level found depth is_way level_is listed_is some are_likes asked_is depth_is are_found = tt
+met_found (Ok it) tables from way rows listed alike asked level found depth is_way level_is listed_is some are_likes asked_is depth_is are_found =
+    front_done tables rows (map (λ row. row.now) it) (map (λ row. row.now) asked) from way.end.now (map (λ elem. elem.now) way.elems) (map (λ elem. elem.now) way.level)
+    depth is_way.0 is_way.1 (depth_is ∙ sym (length-map way.elems (λ (elem : Bor Elem). elem.now))) asked_likes are_found
+  where
+    like : AreLikes tables (map (λ elem. elem.now) level) (map (λ row. row.now) listed) (map (λ row. row.now) alike)
+    like = subst (λ (one : Option (List (Bor Row))). IfSome one (λ those. AreLikes tables (map (λ elem. elem.now) level) (map (λ row. row.now) listed) (map (λ row. row.now) those))) some are_likes
 
-pub met_found : {E : Type 0} (result : Result (List (Bor Row)) E) (tables : Tables) (from : Elem) (way : Way) (rows listed again alike asked : List (Bor Row)) (level : List (Bor Elem))
-    (found : Option (List (Bor Row))) (places : BTreeSet (Bor (List Step))) (depth : ℕ) → IsWay from way → level ≡ way.level → listed ≡ rows → found ≡ Some alike →
-    IfSome found (λ some. AreLikes tables (map (λ elem. elem.now) level) (map (λ row. row.now) listed) (map (λ row. row.now) some)) → asked ≡ alike →
-    ArePlaces places (map (λ row. row.now) asked) → depth ≡ length way.elems → again ≡ rows →
-    IfOk result (λ it. (some : List Row) → ArePlaces places some → map (λ row. row.now) it ≡ filter (is_met tables some depth) (map (λ row. row.now) again)) →
-    IfOk result (λ it. selected tables from (map (λ row. row.now) it) ≡ selected tables from (map (λ row. row.now) rows))
-met_found (Err e) tables from way rows listed again alike asked level found places depth is_way level_is listed_is some are_likes asked_is are_places depth_is again_is are_found = tt
-met_found (Ok it) tables from way rows listed again alike asked level found places depth is_way level_is listed_is some are_likes asked_is are_places depth_is again_is are_found =
-    let like : AreLikes tables (map (λ elem. elem.now) level) (map (λ row. row.now) listed) (map (λ row. row.now) alike) =
-    subst (λ (one : Option (List (Bor Row))). IfSome one (λ those. AreLikes tables (map (λ elem. elem.now) level) (map (λ row. row.now) listed) (map (λ row. row.now) those))) some are_likes in
-    let leveled : AreLikes tables (map (λ elem. elem.now) way.level) (map (λ row. row.now) listed) (map (λ row. row.now) alike) =
-    subst (λ (one : List (Bor Elem)). AreLikes tables (map (λ elem. elem.now) one) (map (λ row. row.now) listed) (map (λ row. row.now) alike)) level_is like in
-    met_done tables from way rows it alike places is_way
-    (subst (λ (one : List (Bor Row)). AreLikes tables (map (λ elem. elem.now) way.level) (map (λ row. row.now) one) (map (λ row. row.now) alike)) listed_is leveled)
-    (subst (λ (one : List (Bor Row)). ArePlaces places (map (λ row. row.now) one)) asked_is are_places)
-    (λ those are. are_found those are ∙ (λ i. filter (is_met tables those (depth_is i)) (map (λ row. row.now) (again_is i))))
+    leveled : AreLikes tables (map (λ elem. elem.now) way.level) (map (λ row. row.now) listed) (map (λ row. row.now) alike)
+    leveled = subst (λ (one : List (Bor Elem)). AreLikes tables (map (λ elem. elem.now) one) (map (λ row. row.now) listed) (map (λ row. row.now) alike)) level_is like
+
+    asked_likes : AreLikes tables (map (λ elem. elem.now) way.level) rows (map (λ row. row.now) asked)
+    asked_likes =
+        subst (λ (one : List Row). AreLikes tables (map (λ elem. elem.now) way.level) one (map (λ row. row.now) asked)) listed_is
+        (subst (λ (one : List (Bor Row)). AreLikes tables (map (λ elem. elem.now) way.level) (map (λ row. row.now) listed) (map (λ row. row.now) one)) (sym asked_is) leveled)
 
 -- a row is met at its steps, or at those to the entry of which it is a key
 pub met_is : (tables : Tables) (alike : List Row) (depth : ℕ) (row : Row) (steps first above second : List Step) (a k b : Bool) → steps ≡ row.path.steps → first ≡ take depth steps →

@@ -22,3 +22,4 @@ pub mod MemberLemmas
 pub mod BelowLemmas
 pub mod InstanceLemmas
 pub mod FrontLemmas
+pub mod LoneLemmas

@@ -1,11 +1,13 @@
 //! The rows that a filter may keep, found by one of its content matches before the rest is looked at: of a
-//! filter that asks for one entry by its key few rows are left (RFC 6241 6.2.5).
-ghost use Rattle.std.specs.Prelude.{◌≡◌, ◌∷◌, [], true, false, List, IfOk, IfSome, map};
-ghost use Rattle.std.specs.List.{filter};
+//! filter that asks for one entry by its key few rows are left (RFC 6241 6.2.5). Where the content match is met
+//! in one instance, they are looked up in the tree.
+ghost use Rattle.std.specs.Prelude.{◌≡◌, ◌∷◌, [], true, false, List, None, IfOk, IfSome, map, option_map};
+ghost use Rattle.std.specs.List.{filter, last_or};
 ghost use Rattle.std.specs.Option.{option_map_or};
 ghost use Rattle.nc_names.specs.Ends as ends;
-ghost use Rattle.nc_names.specs.Same.{is_same_text};
+ghost use Rattle.nc_names.specs.Same.{is_at_or_below, is_same_text};
 ghost use Rattle.nc_names.specs.declared.path.Row.{Row};
+ghost use Rattle.nc_schema.specs.Order.{keys_above};
 ghost use Rattle.nc_protocol.specs.Elements as elements;
 ghost use Rattle.nc_protocol.specs.Filter as meant;
 ghost use Rattle.nc_filter.specs.inner.Front as inner;
@@ -20,8 +22,9 @@ use crate::runs::front;
 use crate::selection::is_key_of_entry;
 use crate::texts::elem_text;
 use nc_message::Elem;
-use nc_names::{Many, Memory, Row, Step, trimmed_bytes};
+use nc_names::{Copies, Many, Memory, Path, Row, Step, trimmed_bytes};
 use nc_schema::Schema;
+use nc_tree::Config;
 use std::alloc::Global;
 
 /// As many containment nodes are gone through.
@@ -194,17 +197,137 @@ fn met<'a>(
     Ok(found)
 }
 
+// The path of some steps.
+fn path_of(alloc: Global, steps: &[Step]) -> Result<Path, Memory>
+    ensures { IfOk result (λ it. it.steps ≡ steps.now) }
+{
+    let mut copied = Many::new(alloc);
+    for step in steps {
+        copied.push(step.copy()?)?;
+    }
+    Ok(Path { steps: copied })
+}
+
+// Whether the data node to which steps lead has keys.
+fn has_keys(schema: &Schema, steps: &[Step]) -> bool
+    ensures { result ≡ false →
+        keys_above schema.now (option_map (λ over. over.node) (last_or None steps.now)) ≡ [] }
+{
+    match last_step(steps) {
+        Some(step) => match schema.node(step.node) {
+            Some(node) => !node.keys.is_empty(),
+            None => false,
+        },
+        None => false,
+    }
+}
+
+// Whether the node at these steps has neither a row nor keys.
+fn is_bare(alloc: Global, schema: &Schema, config: &Config, steps: &[Step]) -> Result<bool, Memory>
+    ensures { IfOk result (λ it. it ≡ true → inner.IsBare schema.now config.now steps.now) }
+{
+    if has_keys(schema, steps) {
+        return Ok(false);
+    }
+    let path = path_of(alloc, steps)?;
+    Ok(!config.has(&path))
+}
+
+// Whether each node above the one at these steps is so.
+fn are_bare(alloc: Global, schema: &Schema, config: &Config, steps: &[Step]) -> Result<bool, Memory>
+    ensures { IfOk result (λ it. it ≡ true → inner.AreBare schema.now config.now steps.now) }
+{
+    for at in 0..steps.len() {
+        if !is_bare(alloc, schema, config, &steps[..at])? {
+            return Ok(false);
+        }
+    }
+    Ok(true)
+}
+
+// Whether a row stands at a node or below it.
+fn is_below(steps: &[Step], row: &Row) -> bool
+    ensures { result ≡ is_at_or_below steps.now row.now.path }
+{
+    row.path.steps.as_slice().starts_with(steps)
+}
+
+// Whether the rows do.
+fn are_below(steps: &[Step], rows: &[&Row]) -> bool
+    ensures { result ≡ true → inner.AreBelow steps.now (map (λ row. row.now) rows.now) }
+{
+    for row in rows {
+        if !is_below(steps, *row) {
+            return false;
+        }
+    }
+    true
+}
+
+// The steps to the one instance in which the rows like a content match stand, where there is one and nothing
+// above it has a row or keys.
+fn lone<'a>(
+    alloc: Global,
+    schema: &Schema,
+    config: &Config,
+    likes: &[&'a Row],
+    depth: usize,
+) -> Result<Option<&'a [Step]>, Memory>
+    ensures { IfOk result (λ it. IfSome it (λ top. inner.IsLone schema.now config.now
+        (map (λ row. row.now) likes.now) depth top.now)) }
+{
+    let Some((first, _)) = likes.split_first() else {
+        return Ok(None);
+    };
+    let steps = first.path.steps.as_slice();
+    if steps.len() < depth {
+        return Ok(None);
+    }
+    let top = front(depth, steps);
+    if !are_below(top, likes) {
+        return Ok(None);
+    }
+    if !are_bare(alloc, schema, config, top)? {
+        return Ok(None);
+    }
+    Ok(Some(top))
+}
+
+// The rows of a configuration that are met: those of the one instance, where there is one, and else those that
+// are found by a look at each.
+#[tactic(auto, using(crate::proofs::LoneLemmas::lone_rows))]
+fn met_by<'a>(
+    alloc: Global,
+    schema: &Schema,
+    config: &'a Config,
+    likes: &[&'a Row],
+    depth: usize,
+    rows: &[&'a Row],
+) -> Result<Many<&'a Row>, Memory>
+    requires { map (λ row. row.now) rows.now ≡ config.now }
+    ensures { IfOk result (λ it. map (λ row. row.now) it
+        ≡ filter (inner.is_met schema.now (map (λ row. row.now) likes.now) depth) config.now) }
+{
+    if let Some(top) = lone(alloc, schema, config, likes, depth)? {
+        let path = path_of(alloc, top)?;
+        return config.rows_at(&path);
+    }
+    let places = Places::new(alloc, likes)?;
+    met(alloc, schema, &places, depth, rows)
+}
+
 /// Those of the rows of a configuration of which a filter keeps what it keeps of all: where containment nodes
 /// lead to content matches, the rows of the instances in which one of these is met, and those above them.
 pub(crate) fn met_rows<'a>(
     alloc: Global,
     schema: &Schema,
     filter: &'a Elem,
-    rows: Many<&'a Row>,
+    config: &'a Config,
 ) -> Result<Many<&'a Row>, Memory>
     ensures { IfOk result (λ it. meant.selected schema.now filter.now (map (λ row. row.now) it)
-        ≡ meant.selected schema.now filter.now (map (λ row. row.now) rows.entry)) }
+        ≡ meant.selected schema.now filter.now config.now) }
 {
+    let rows = config.rows(alloc)?;
     let way = lead(alloc, filter)?;
     if way.elems.is_empty() {
         return Ok(rows);
@@ -215,6 +338,12 @@ pub(crate) fn met_rows<'a>(
     if likes.len() > rows.len() / 4 {
         return Ok(rows);
     }
-    let places = Places::new(alloc, likes.as_slice())?;
-    met(alloc, schema, &places, way.elems.len(), rows.as_slice())
+    met_by(
+        alloc,
+        schema,
+        config,
+        likes.as_slice(),
+        way.elems.len(),
+        rows.as_slice(),
+    )
 }

@@ -142,6 +142,6 @@ pub fn select(
 ) -> Result<Many<Row>, Memory>
     ensures { IfOk result (λ it. it ≡ meant.selected schema.now filter.now config.now) }
 {
-    let rows = met_rows(alloc, schema, filter, config.rows(alloc)?)?;
+    let rows = met_rows(alloc, schema, filter, config)?;
     selected_rows(alloc, schema, filter, rows.as_slice())
 }

@@ -83,11 +83,15 @@ use_of a = record { prefix = a.prefix; space = a.name.space }
 abbrev pub uses : List Bound → List Attr → List Part → List Bound
 uses bounds attrs parts = map use_of attrs ++ (if list_any is_chars parts then bounds else [])
 
--- a start tag up to its end, below an element of the namespace `above`
-abbrev pub start_of : List ℕ → QName → List Bound → List Attr → List Part → List ℕ
-start_of above name bounds attrs parts =
+-- a start tag up to its end, below an element of the namespace `above`, which declares what these uses need
+abbrev pub start_tag : List ℕ → QName → List Attr → List Bound → List ℕ
+start_tag above name attrs used =
     signs.less_than ∷ name.name ++ default_declaration above name.space
-    ++ declarations [] (uses bounds attrs parts) ++ flat_map attribute attrs
+    ++ declarations [] used ++ flat_map attribute attrs
+
+-- that of an element
+abbrev pub start_of : List ℕ → QName → List Bound → List Attr → List Part → List ℕ
+start_of above name bounds attrs parts = start_tag above name attrs (uses bounds attrs parts)
 
 -- an end tag
 abbrev pub end_of : QName → List ℕ

@@ -32,8 +32,8 @@ fn push_value_char(byte: u8, out: &mut Bytes) -> Result<(), Memory>
     }
 }
 
-/// Appends a text.
-pub(crate) fn push_text(text: &str, out: &mut Bytes) -> Result<(), Memory>
+/// Appends a text as an element's content.
+pub fn write_chars(text: &str, out: &mut Bytes) -> Result<(), Memory>
     ensures { Appends result out.old out.new (flat_map text_char text.now) }
 {
     for byte in text.as_bytes() {

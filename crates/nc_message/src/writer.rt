@@ -3,13 +3,14 @@
 
 ghost use Rattle.std.specs.Prelude.{◌≡◌, ◌++◌, OnOk, OnErr};
 ghost use Rattle.nc_names.specs.Appending.{Appends};
+ghost use Rattle.nc_message.specs.Marks.{empty_end};
 ghost use Rattle.nc_message.specs.Unmarked.{HoldsNoMark};
 ghost use Rattle.nc_message.specs.Written.{end_of, written_part, written_elem, written};
 
-use crate::escape::push_text;
+use crate::escape::write_chars;
 use crate::start::push_start;
 use crate::{Elem, Part, Tree, marks};
-use nc_names::{Bytes, Memory};
+use nc_names::{Bytes, Memory, QName};
 
 /// Appends the text of a message: with no declaration and no white space added, each element in
 /// its default namespace, and the prefixes that its attributes or its text use declared on it. It
@@ -33,13 +34,13 @@ fn write_elem(above: &str, elem: &Elem, out: &mut Bytes) -> Result<(), Memory>
 {
     push_start(above, elem, out)?;
     if elem.parts.is_empty() {
-        return out.push_slice(marks::empty_end());
+        return write_empty_end(out);
     }
     out.push(b'>')?;
     for part in elem.parts.as_slice() {
         write_part(elem.name.space.as_str(), part, out)?;
     }
-    push_end(elem, out)
+    write_end(&elem.name, out)
 }
 
 #[cycle(write)]
@@ -48,15 +49,23 @@ fn write_part(space: &str, part: &Part, out: &mut Bytes) -> Result<(), Memory>
 {
     match part {
         Part::Child(elem) => write_elem(space, elem.get(), out),
-        Part::Chars(text) => push_text(text.as_str(), out),
+        Part::Chars(text) => write_chars(text.as_str(), out),
     }
 }
 
-fn push_end(elem: &Elem, out: &mut Bytes) -> Result<(), Memory>
-    ensures { Appends result out.old out.new (end_of elem.now.name) }
+/// Appends the end of a start tag of an element without content.
+pub fn write_empty_end(out: &mut Bytes) -> Result<(), Memory>
+    ensures { Appends result out.old out.new empty_end }
+{
+    out.push_slice(marks::empty_end())
+}
+
+/// Appends an end tag.
+pub fn write_end(name: &QName, out: &mut Bytes) -> Result<(), Memory>
+    ensures { Appends result out.old out.new (end_of name.now) }
 {
     out.push_slice(marks::end_tag())?;
-    out.push_slice(elem.name.name.as_str().as_bytes())?;
+    out.push_slice(name.name.as_str().as_bytes())?;
     out.push(b'>')
 }
 

@@ -1,7 +1,7 @@
 use Rattle.std.proofs.Common.{◌≡◌, ◌++◌, take}
 use Rattle.std.specs.List.{flat_map}
 use Rattle.nc_message.specs.Written.{text_char}
-use Rattle.nc_message.proofs.escape.push_text.Given as goal
+use Rattle.nc_message.proofs.escape.write_chars.Given as goal
 
 -- the bytes so far are written
 abbrev pub invariant-loop-byte : goal.invariant-loop-byte

@@ -1,5 +1,5 @@
 //! The requests of a session's bytes.
-ghost use Rattle.std.specs.Prelude.{◌≡◌, ◌++◌, ℕ, List, [], None, OnOk, OnErr};
+ghost use Rattle.std.specs.Prelude.{◌≡◌, ◌≢◌, ◌++◌, ℕ, List, [], None, OnOk, OnErr};
 ghost use Rattle.nc_protocol.specs.declared.request.Request.{Request};
 ghost use Rattle.nc_session.specs.declared.base.Base.{Base};
 ghost use Rattle.nc_session.specs.declared.session_core.Phase.TheVariants.{Greeting, Serving, Over as PhaseOver};
@@ -95,11 +95,12 @@ impl SessionCore {
     }
 
     /// Appends the reply of an entry that answers a request, framed as the session's version of the protocol
-    /// wants it. `Memory` changes nothing.
+    /// wants it; of a session that is not serving, nothing. `Memory` changes nothing.
     pub fn answer(&self, entry: &Entry, out: &mut Bytes) -> Result<(), Memory>
         requires { IsAnswered entry.now.outcome }
         ensures ok { (schema : Tables) (base : Base) → self.now.phase ≡ Serving base
             → OnOk result (out.new ≡ out.old ++ entry_text schema base entry.now.outcome) }
+        ensures idle { ((base : Base) → self.now.phase ≢ Serving base) → out.new ≡ out.old }
         ensures err { OnErr result (out.new ≡ out.old) }
     {
         let Phase::Serving { base } = self.phase else {

@@ -14,6 +14,7 @@ use Rattle.nc_schema.specs.Tables.{Tables}
 use Rattle.nc_protocol.specs.declared.asked.Asked.{Asked}
 use Rattle.nc_protocol.specs.declared.asked.Operation.{Operation}
 use Rattle.nc_protocol.specs.declared.request.Cause.{Cause}
+use Rattle.nc_protocol.specs.declared.reply.Shown.{Shown}
 use Rattle.nc_protocol.specs.declared.request.Request.{Request}
 use Rattle.nc_protocol.specs.declared.verdict.Verdict.{Verdict}
 use Rattle.nc_protocol.specs.declared.verdict.Verdict.TheVariants.{Done, Selected, Locked, Refused}
@@ -132,6 +133,15 @@ answer_parts tables sees named operation (Refused causes) = map (cause_part tabl
 abbrev pub reply_tree : List Part → Request → Tree
 reply_tree parts request =
     record { root = record (made_element (base_name w.rpc_reply_word) parts) { attrs = request.attributes } }
+
+-- a tree with `data` in it, and nothing else (RFC 6241 7.1, 7.7)
+abbrev pub with_data : Tree → List Part → Tree
+with_data tree parts = record { root = record tree.root { parts = base_part w.data_word parts ∷ [] } }
+
+-- a tree in which rows are shown, if there are any to be shown
+abbrev pub shown_in : Tree → Option Shown → Tree
+shown_in tree None = tree
+shown_in tree (Some shown) = with_data tree (printed shown.schema.value shown.rows)
 
 -- the paths that the payload of what is asked for names
 abbrev pub named_by : Tables → Result Asked Cause → Path → Bool

@@ -16,6 +16,7 @@ mod edit;
 mod laws;
 mod peer;
 mod position;
+mod reply;
 pub mod reply_words;
 mod request;
 pub mod request_words;
@@ -36,5 +37,6 @@ pub use laws::{
 };
 pub use peer::Peer;
 pub use position::{EditOperation, Position, Under};
+pub use reply::{Reply, Shown};
 pub use request::{Cause, Request};
 pub use verdict::Verdict;

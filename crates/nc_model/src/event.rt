@@ -1,6 +1,5 @@
 //! What happens to the server, and what comes of it.
-use nc_message::Tree;
-use nc_protocol::{Peer, Request, Verdict};
+use nc_protocol::{Peer, Reply, Request, Verdict};
 
 /// What happens to the server.
 #[derive(PartialEq, Eq, Debug, Drop)]
@@ -27,7 +26,7 @@ pub enum Event {
 }
 
 /// What comes of an event.
-#[derive(PartialEq, Eq, Debug, Drop)]
+#[derive(Drop)]
 pub enum Outcome {
     /// The session is live.
     Started {
@@ -46,7 +45,7 @@ pub enum Outcome {
         /// The verdict on it.
         verdict: Verdict,
         /// The `rpc-reply` (RFC 6241 4.2).
-        reply: Tree,
+        reply: Reply,
     },
     /// The session is not live.
     NotLive,

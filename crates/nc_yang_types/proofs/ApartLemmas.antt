@@ -2,24 +2,24 @@
 use Rattle.std.proofs.Common.{◌≡◌, ◌≢◌, ◌&&◌, ◌||◌, ◌++◌, ℕ, Bool, true, false, cond, List, [], ◌∷◌, map, Option, Some, None, refl, sym, ap, subst, arith}
 use Rattle.std.specs.Prelude.{ℤ, int_lt}
 use Rattle.std.specs.BTreeMap.{insert_entry}
-use Rattle.std.specs.List.{All, AllPairs}
+use Rattle.std.specs.List.{All, AllPairs, filter}
 use Rattle.std.specs.Ordering.{int_cmp, match_ordering}
 use Rattle.std.specs.declared.cmp.Ordering.TheVariants.{Less, Equal, Greater}
 use Rattle.std.specs.Cmp.Lexicographic.{bytes_decides}
 use Rattle.std.proofs.lemmas.List.Elements.{All-cons, All-nil}
-use Rattle.std.proofs.lemmas.List.Kept.{AllPairs-cons}
+use Rattle.std.proofs.lemmas.List.Kept.{AllPairs-cons, AllPairs-filter}
 use Rattle.nc_names.specs.Same.{is_same_text}
 use Rattle.nc_names.proofs.SameLemmas.{both_true}
 use Rattle.nc_yang_words.specs.declared.statement.Statement.{Statement}
 use Rattle.nc_yang_statements.specs.declared.fault.ModuleWhy.TheVariants.{Twice}
 use Rattle.nc_yang_statements.specs.Rules.{at_if}
 use Rattle.nc_yang_statements.specs.declared.built_in.BuiltIn.TheVariants.{Bits}
-use Rattle.nc_yang_statements.specs.Statements.{below, name}
+use Rattle.nc_yang_statements.specs.Statements.{below, has, name}
 use Rattle.nc_yang_types.specs.declared.member.Listed.TheVariants.{Flags}
 use Rattle.nc_yang_types.specs.Entries.{misused, own_faults}
 use Rattle.nc_yang_types.specs.Parts.{misshapen}
 use Rattle.nc_yang_types.specs.Patterns.{ill_patterns}
-use Rattle.nc_yang_types.specs.Members.{bit_names, gives_name, has_name, higher, ill_listed, is_member, misnumbered, number_at, numbered, renamed, with_bit, with_bits}
+use Rattle.nc_yang_types.specs.Members.{bit_names, chosen, gives_name, has_name, higher, ill_listed, is_chosen, is_member, member_word, misnumbered, number_at, numbered, renamed, with_bit, with_bits}
 
 abbrev names : List (ℤ × List ℕ) → List (List ℕ)
 names bits = map (λ entry. entry.1) bits
@@ -160,3 +160,11 @@ names_apart stands s off =
     let ill : ill_listed Flags (below s) ≡ [] = right_none (ill_patterns (below s)) (misused Bits (below s)) (right_none (misshapen Bits s) (ill_patterns (below s) ++ misused Bits (below s)) off) in
     all_apart (bit_names stands (below s))
     (more_apart stands (below s) [] None [] (left_none (renamed Flags [] (below s)) (misnumbered Flags [] (numbered Flags None (below s))) ill) tt tt)
+
+-- those that a type over bits leaves of its names are apart too
+pub chosen_apart : (stands : Statement → Bool) (ss : List Statement) (taken : List (List ℕ)) → AllPairs (λ one later. one ≢ later) taken → AllPairs (λ one later. one ≢ later) (chosen stands Flags ss taken)
+chosen_apart stands ss taken h = by (has (member_word Flags) ss)
+  where
+    by : (b : Bool) → AllPairs (λ one later. one ≢ later) (cond b (filter (is_chosen stands Flags ss) taken) taken)
+    by true = AllPairs-filter (λ one later. one ≢ later) (is_chosen stands Flags ss) taken h
+    by false = h

@@ -20,6 +20,7 @@ use Rattle.nc_yang_statements.specs.Keywords.{is_same_keyword}
 use Rattle.nc_yang_statements.specs.Rules.{at_if}
 use Rattle.nc_yang_statements.specs.Statements.{below, has, kind, name, part}
 use Rattle.nc_yang_types.specs.declared.bound.Counted.{Counted}
+use Rattle.nc_yang_types.specs.declared.member.Named.{Named}
 use Rattle.nc_yang_types.specs.declared.bound.Counted.TheVariants.{Units, Lengths}
 use Rattle.nc_yang_types.specs.Entries.{decimal, decimals, digits_by, digits_in, digits_of, ill_digits, ill_digits_by, integers, lengths, misnarrowed, misread_by, misread_units, misused, narrowed, narrowed_faults, own, own_faults, restricted_by}
 use Rattle.nc_yang_types.specs.Laws.{needs_names}
@@ -107,23 +108,23 @@ own_gives stands Uint32 s free e = integer_gives Uint32 (below s) (used Uint32 s
 own_gives stands Uint64 s free e = integer_gives Uint64 (below s) (used Uint64 s e)
 own_gives stands Union s free e = absurd (cc)
 
-narrow_used : (base : ValueType) (ss : List Statement) → narrowed_faults base ss ≡ [] → misnarrowed base ss ≡ []
-narrow_used base ss e = empty_right (ill_patterns ss) (misnarrowed base ss) (empty_right (foreign_over base ss) (ill_patterns ss ++ misnarrowed base ss) e)
+narrow_used : (base : ValueType) (names : List Named) (ss : List Statement) → narrowed_faults base names ss ≡ [] → misnarrowed base names ss ≡ []
+narrow_used base names ss e = empty_right (ill_patterns ss) (misnarrowed base names ss) (empty_right (foreign_over base ss) (ill_patterns ss ++ misnarrowed base names ss) e)
 
-pub narrowed_gives : (base : ValueType) (ss : List Statement) → narrowed_faults base ss ≡ [] → IsSome (narrowed base ss)
-narrowed_gives (Whole among) ss e = map_gives Whole (restricted_by (Units 0) among (part Range ss)) (misread_gives (Units 0) among (part Range ss) (narrow_used (Whole among) ss e))
-narrowed_gives (Decimal digits among) ss e = map_gives (λ more. Decimal digits more) (restricted_by (Units digits) among (part Range ss)) (misread_gives (Units digits) among (part Range ss) (narrow_used (Decimal digits among) ss e))
-narrowed_gives (String among starless patterns) ss e = map_gives (λ more. String more starless patterns) (restricted_by Lengths among (part Length ss)) (misread_gives Lengths among (part Length ss) (narrow_used (String among starless patterns) ss e))
-narrowed_gives (Octets among) ss e = map_gives Octets (restricted_by Lengths among (part Length ss)) (misread_gives Lengths among (part Length ss) (narrow_used (Octets among) ss e))
-narrowed_gives (Leafref target over need) ss e = refl
-narrowed_gives (Instance need) ss e = refl
-narrowed_gives Truth ss e = refl
-narrowed_gives (Names names) ss e = refl
-narrowed_gives (Flags names) ss e = refl
-narrowed_gives Nothing ss e = refl
-narrowed_gives (Members members) ss e = refl
-narrowed_gives (Identity among) ss e = refl
-narrowed_gives NodeInstance ss e = refl
+pub narrowed_gives : (stands : Statement → Bool) (base : ValueType) (names : List Named) (ss : List Statement) → narrowed_faults base names ss ≡ [] → IsSome (narrowed stands base ss)
+narrowed_gives stands (Whole among) names ss e = map_gives Whole (restricted_by (Units 0) among (part Range ss)) (misread_gives (Units 0) among (part Range ss) (narrow_used (Whole among) names ss e))
+narrowed_gives stands (Decimal digits among) names ss e = map_gives (λ more. Decimal digits more) (restricted_by (Units digits) among (part Range ss)) (misread_gives (Units digits) among (part Range ss) (narrow_used (Decimal digits among) names ss e))
+narrowed_gives stands (String among starless patterns) names ss e = map_gives (λ more. String more starless patterns) (restricted_by Lengths among (part Length ss)) (misread_gives Lengths among (part Length ss) (narrow_used (String among starless patterns) names ss e))
+narrowed_gives stands (Octets among) names ss e = map_gives Octets (restricted_by Lengths among (part Length ss)) (misread_gives Lengths among (part Length ss) (narrow_used (Octets among) names ss e))
+narrowed_gives stands (Leafref target over need) names ss e = refl
+narrowed_gives stands (Instance need) names ss e = refl
+narrowed_gives stands Truth names ss e = refl
+narrowed_gives stands (Names taken) names ss e = refl
+narrowed_gives stands (Flags taken) names ss e = refl
+narrowed_gives stands Nothing names ss e = refl
+narrowed_gives stands (Members members) names ss e = refl
+narrowed_gives stands (Identity among) names ss e = refl
+narrowed_gives stands NodeInstance names ss e = refl
 
 -- ranges
 left : (a b : Bool) → (a && b) ≡ true → a ≡ true

@@ -7,3 +7,4 @@ pub mod LawLemmas
 pub mod OrderLemmas
 pub mod ApartLemmas
 pub mod PatternLemmas
+pub mod ChoiceLemmas

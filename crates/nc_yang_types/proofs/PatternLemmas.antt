@@ -14,6 +14,7 @@ use Rattle.nc_yang_types.specs.Parts.{foreign_over, misshapen}
 use Rattle.nc_patterns.specs.Reading.{IsPattern, Reading, tokens}
 use Rattle.nc_patterns.specs.declared.fault.ReadFault.TheVariants.{BadArgument, Unsupported, Memory}
 use Rattle.nc_yang_statements.specs.declared.fault.ModuleWhy.TheVariants.{BadArgument as BadWhy, Unsupported as UnsupportedWhy}
+use Rattle.nc_yang_types.specs.declared.member.Named.{Named}
 use Rattle.nc_yang_types.specs.Patterns.{ill_patterns, why_ill, why_unread}
 
 whole : (r : Reading) → IsOk r → None ≡ why_unread r
@@ -71,5 +72,5 @@ are_read (s ∷ ss) e = (
 pub own_read : (one : BuiltIn) (s : Statement) → own_faults one s ≡ [] → AreRead (below s)
 own_read one s off = are_read (below s) (left_none (ill_patterns (below s)) (misused one (below s)) (right_none (misshapen one s) (ill_patterns (below s) ++ misused one (below s)) off))
 
-pub narrowed_read : (base : ValueType) (ss : List Statement) → narrowed_faults base ss ≡ [] → AreRead ss
-narrowed_read base ss off = are_read ss (left_none (ill_patterns ss) (misnarrowed base ss) (right_none (foreign_over base ss) (ill_patterns ss ++ misnarrowed base ss) off))
+pub narrowed_read : (base : ValueType) (names : List Named) (ss : List Statement) → narrowed_faults base names ss ≡ [] → AreRead ss
+narrowed_read base names ss off = are_read ss (left_none (ill_patterns ss) (misnarrowed base names ss) (right_none (foreign_over base ss) (ill_patterns ss ++ misnarrowed base names ss) off))

@@ -14,11 +14,12 @@ use Rattle.nc_yang_statements.specs.declared.keyword.Keyword.{Keyword}
 use Rattle.nc_yang_statements.specs.declared.keyword.Keyword.TheVariants.{Range, Length, FractionDigits, RequireInstance}
 use Rattle.nc_yang_statements.specs.Arguments.{is_true_text}
 use Rattle.nc_yang_statements.specs.Rules.{at_if}
-use Rattle.nc_yang_statements.specs.Statements.{below, name, part}
+use Rattle.nc_yang_statements.specs.Statements.{below, has, name, part}
 use Rattle.nc_yang_types.specs.declared.bound.Counted.{Counted}
 use Rattle.nc_yang_types.specs.declared.bound.Counted.TheVariants.{Units, Lengths}
 use Rattle.nc_yang_types.specs.declared.member.Listed.TheVariants.{Enums, Flags}
-use Rattle.nc_yang_types.specs.Members.{bit_names, enum_names, ill_listed}
+use Rattle.nc_yang_types.specs.declared.member.Named.{Named}
+use Rattle.nc_yang_types.specs.Members.{bit_names, chosen, enum_names, ill_choices, ill_listed, listing, member_word, still_listed}
 use Rattle.nc_yang_types.specs.Parts.{foreign_over, misshapen}
 use Rattle.nc_yang_types.specs.Patterns.{ill_patterns}
 use Rattle.nc_yang_types.specs.Ranges.{restriction}
@@ -137,24 +138,47 @@ own stands Chars ss = option_map (λ among. String among false []) (restricted L
 own stands Union ss = None
 own stands built_in ss = option_map Whole (restricted (Units 0) Range (integers built_in) ss)
 
--- the faults of a type over another, whose entry is given
-abbrev pub misnarrowed : ValueType → List Statement → List Fault
-misnarrowed (Whole among) ss = misread (Units 0) Range among ss
-misnarrowed (Decimal digits among) ss = misread (Units digits) Range among ss
-misnarrowed (String among starless patterns) ss = misread Lengths Length among ss
-misnarrowed (Octets among) ss = misread Lengths Length among ss
-misnarrowed base ss = []
+-- the names that a built-in type lists, with their numbers
+abbrev pub listing_of : BuiltIn → List Statement → List Named
+listing_of Enumeration ss = listing Enums ss
+listing_of Bits ss = listing Flags ss
+listing_of built_in ss = []
 
-abbrev pub narrowed_faults : ValueType → List Statement → List Fault
-narrowed_faults base ss = foreign_over base ss ++ (ill_patterns ss ++ misnarrowed base ss)
+-- the faults of a type over another, whose entry is given and the names that it lists
+abbrev pub misnarrowed : ValueType → List Named → List Statement → List Fault
+misnarrowed (Whole among) names ss = misread (Units 0) Range among ss
+misnarrowed (Decimal digits among) names ss = misread (Units digits) Range among ss
+misnarrowed (String among starless patterns) names ss = misread Lengths Length among ss
+misnarrowed (Octets among) names ss = misread Lengths Length among ss
+misnarrowed (Names taken) names ss = ill_choices Enums names ss
+misnarrowed (Set taken) names ss = ill_choices Flags names ss
+misnarrowed base names ss = []
+
+abbrev pub narrowed_faults : ValueType → List Named → List Statement → List Fault
+narrowed_faults base names ss = foreign_over base ss ++ (ill_patterns ss ++ misnarrowed base names ss)
 
 -- the entry of a type over another
-abbrev pub narrowed : ValueType → List Statement → Option ValueType
-narrowed (Whole among) ss = option_map Whole (restricted (Units 0) Range among ss)
-narrowed (Decimal digits among) ss = option_map (λ left. Decimal digits left) (restricted (Units digits) Range among ss)
-narrowed (String among starless patterns) ss =
+abbrev pub narrowed : (stands : Statement → Bool) → ValueType → List Statement → Option ValueType
+narrowed stands (Whole among) ss = option_map Whole (restricted (Units 0) Range among ss)
+narrowed stands (Decimal digits among) ss =
+    option_map (λ left. Decimal digits left) (restricted (Units digits) Range among ss)
+narrowed stands (String among starless patterns) ss =
     option_map (λ left. String left starless patterns) (restricted Lengths Length among ss)
-narrowed (Octets among) ss = option_map Octets (restricted Lengths Length among ss)
-narrowed (Leafref target above need) ss = Some (Leafref target above (required need ss))
-narrowed (Instance need) ss = Some (Instance (required need ss))
-narrowed base ss = Some base
+narrowed stands (Octets among) ss = option_map Octets (restricted Lengths Length among ss)
+narrowed stands (Names taken) ss = Some (Names (chosen stands Enums ss taken))
+narrowed stands (Set taken) ss = Some (Set (chosen stands Flags ss taken))
+narrowed stands (Leafref target above need) ss = Some (Leafref target above (required need ss))
+narrowed stands (Instance need) ss = Some (Instance (required need ss))
+narrowed stands base ss = Some base
+
+-- a type over another lists names of its own
+abbrev pub lists : ValueType → List Statement → Bool
+lists (Names taken) ss = has (member_word Enums) ss
+lists (Set taken) ss = has (member_word Flags) ss
+lists base ss = false
+
+-- the names that are left to those that it lists
+abbrev pub names_left : ValueType → List Named → List Statement → List Named
+names_left (Names taken) names ss = still_listed Enums ss names
+names_left (Set taken) names ss = still_listed Flags ss names
+names_left base names ss = names

@@ -13,6 +13,7 @@ use Rattle.nc_yang_types.specs.Entries.{narrowed, narrowed_faults, own, own_faul
 use Rattle.nc_yang_types.specs.Members.{bit_names, numbered, with_bits}
 use Rattle.nc_yang_types.specs.Ranges.{restriction}
 use Rattle.nc_yang_types.specs.declared.member.Listed.TheVariants.{Flags}
+use Rattle.nc_yang_types.specs.declared.member.Named.{Named}
 
 -- a range or a length admits no number that its base does not (RFC 7950 9.2.4, 9.4.4)
 abbrev pub RestrictionsNarrow : Type 0
@@ -35,7 +36,9 @@ OwnGives =
 
 -- so has a type over another
 abbrev pub NarrowedGives : Type 0
-NarrowedGives = (base : ValueType) (ss : List Statement) → narrowed_faults base ss ≡ [] → IsSome (narrowed base ss)
+NarrowedGives =
+    (stands : Statement → Bool) (base : ValueType) (names : List Named) (ss : List Statement) →
+    narrowed_faults base names ss ≡ [] → IsSome (narrowed stands base ss)
 
 -- each position is lower than the next
 abbrev pub is_before : ℤ → List (ℤ × List ℕ) → Bool

@@ -1,6 +1,6 @@
 -- The names of enumerations and of bits with their numbers (RFC 7950 9.6.4, 9.7.4).
-use Rattle.std.specs.Prelude.{ℕ, ◌&&◌, Bool, if◌then◌else◌, List, [], ◌∷◌, ◌++◌, map, ℤ, pos, negsuc, true, int_le, int_lt, ◌+ℤ◌, Option, Some, None}
-use Rattle.std.specs.List.{flat_map, list_any}
+use Rattle.std.specs.Prelude.{ℕ, ◌&&◌, not, Bool, if◌then◌else◌, List, [], ◌∷◌, ◌++◌, map, ℤ, pos, negsuc, true, int_le, int_lt, ◌+ℤ◌, Option, Some, None}
+use Rattle.std.specs.List.{filter, flat_map, fold, list_any}
 use Rattle.std.specs.Ordering.{int_cmp, int_eq}
 use Rattle.std.specs.BTreeMap.{insert_entry}
 use Rattle.nc_names.specs.Same.{is_same_text}
@@ -13,8 +13,9 @@ use Rattle.nc_yang_statements.specs.declared.keyword.Keyword.{Keyword}
 use Rattle.nc_yang_statements.specs.declared.keyword.Keyword.TheVariants.{EnumName, Bit, Value, Position}
 use Rattle.nc_yang_statements.specs.Keywords.{is_same_keyword}
 use Rattle.nc_yang_statements.specs.Rules.{at_if}
-use Rattle.nc_yang_statements.specs.Statements.{below, kind, name, part}
+use Rattle.nc_yang_statements.specs.Statements.{below, has, kind, name, part}
 use Rattle.nc_yang_types.specs.declared.member.Listed.{Listed}
+use Rattle.nc_yang_types.specs.declared.member.Named.{Named}
 use Rattle.nc_yang_types.specs.declared.member.Listed.TheVariants.{Enums, Flags}
 
 -- the statement of a name, and the one below it that gives the number
@@ -138,3 +139,55 @@ with_bits stands before (p ∷ ps) = with_bits stands (with_bit stands before p)
 -- the names of the bits whose conditions hold, in the order of their positions (RFC 7950 9.7.4.2)
 abbrev pub bit_names : (Statement → Bool) → List Statement → List (List ℕ)
 bit_names stands ss = map (λ entry. entry.1) (with_bits stands [] (numbered Flags None ss))
+
+-- ---- types over others that list names
+-- a name with its number, if it has one
+abbrev pub named_by : Statement × Option ℤ → List Named
+named_by (s, None) = []
+named_by (s, Some number) = record { name = name s; number = number } ∷ []
+
+-- the names that a built-in type lists, each with its number, whether its conditions hold or not
+abbrev pub listing : Listed → List Statement → List Named
+listing listed ss = flat_map named_by (numbered listed None ss)
+
+-- the number that one of these names has, the last of that name
+abbrev pub number_with : List ℕ → Option ℤ → Named → Option ℤ
+number_with text found n = if is_same_text n.name text then Some n.number else found
+
+abbrev pub number_in : List Named → List ℕ → Option ℤ
+number_in names text = fold (number_with text) None names
+
+-- the number that is written is another
+abbrev pub is_other : ℤ → Option ℤ → Bool
+is_other number None = true
+is_other number (Some written) = not (int_eq written number)
+
+abbrev pub renumbered : ℤ → Option Statement → List Fault
+renumbered number None = []
+renumbered number (Some given) = at_if (is_other number (number_of (name given))) given BadArgument
+
+-- the base has no such name, or with another number
+abbrev pub unlike : Listed → Option ℤ → Statement → List Fault
+unlike listed None s = at_if true s BadArgument
+unlike listed (Some number) s = renumbered number (part (number_word listed) (below s))
+
+abbrev pub ill_choice : Listed → List Named → Statement → List Fault
+ill_choice listed names s = if is_member listed s then unlike listed (number_in names (name s)) s else []
+
+-- all rules of the names of a type over one that lists these (RFC 7950 9.6.3, 9.7.3)
+abbrev pub ill_choices : Listed → List Named → List Statement → List Fault
+ill_choices listed names ss = renamed listed [] ss ++ flat_map (ill_choice listed names) ss
+
+-- a name is given by one of the statements whose conditions hold
+abbrev pub is_chosen : (Statement → Bool) → Listed → List Statement → List ℕ → Bool
+is_chosen stands listed ss text = list_any (λ s. gives_name listed text s && stands s) ss
+
+-- what is left of the names that the base takes, where a type over it lists some; else all are
+abbrev pub chosen : (Statement → Bool) → Listed → List Statement → List (List ℕ) → List (List ℕ)
+chosen stands listed ss names =
+    if has (member_word listed) ss then filter (is_chosen stands listed ss) names else names
+
+-- what is left of those that it lists, whether conditions hold or not
+abbrev pub still_listed : Listed → List Statement → List Named → List Named
+still_listed listed ss names =
+    if has (member_word listed) ss then filter (λ n. is_chosen (λ s. true) listed ss n.name) names else names

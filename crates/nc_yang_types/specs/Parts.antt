@@ -8,7 +8,7 @@ use Rattle.nc_yang_statements.specs.declared.built_in.BuiltIn.{BuiltIn}
 use Rattle.nc_yang_statements.specs.declared.built_in.BuiltIn.TheVariants.{Binary, Bits, Boolean, Decimal64, Empty, Enumeration, IdentityRef, InstanceIdentifier, LeafRef, Chars, Union}
 use Rattle.nc_yang_statements.specs.declared.fault.Fault.{Fault}
 use Rattle.nc_yang_statements.specs.declared.fault.ModuleWhy.{ModuleWhy}
-use Rattle.nc_yang_statements.specs.declared.fault.ModuleWhy.TheVariants.{UnknownStatement, Unsupported, Missing}
+use Rattle.nc_yang_statements.specs.declared.fault.ModuleWhy.TheVariants.{UnknownStatement, Missing}
 use Rattle.nc_yang_statements.specs.declared.keyword.Keyword.{Keyword}
 use Rattle.nc_yang_statements.specs.declared.keyword.Keyword.TheVariants.{Base, TypeName, Range, Length, Pattern, EnumName, Bit, FractionDigits, Path, RequireInstance}
 use Rattle.nc_yang_statements.specs.Keywords.{is_closed, is_same_keyword}
@@ -40,7 +40,8 @@ needs LeafRef = Some Path
 needs Union = Some TypeName
 needs built_in = None
 
--- the parts by which a type over this one may be narrower (RFC 7950 9.2.3, 9.3.3, 9.4.3, 9.8.1, 9.9.3, 9.13.1)
+-- the parts by which a type over this one may be narrower (RFC 7950 9.2.3, 9.3.3, 9.4.3, 9.6.3, 9.7.3, 9.8.1,
+-- 9.9.3, 9.13.1)
 abbrev pub narrows : ValueType → Keyword → Bool
 narrows (Whole among) keyword = is_same_keyword Range keyword
 narrows (Decimal digits among) keyword = is_same_keyword Range keyword
@@ -49,13 +50,9 @@ narrows (String lengths starless patterns) keyword =
 narrows (Octets lengths) keyword = is_same_keyword Length keyword
 narrows (Leafref target above required) keyword = is_same_keyword RequireInstance keyword
 narrows (Instance required) keyword = is_same_keyword RequireInstance keyword
+narrows (Names names) keyword = is_same_keyword EnumName keyword
+narrows (Flags names) keyword = is_same_keyword Bit keyword
 narrows base keyword = false
-
--- a choice among the names of another type, which the server does not have (RFC 7950 9.6.3, 9.7.3)
-abbrev pub chooses : ValueType → Keyword → Bool
-chooses (Names names) keyword = is_same_keyword EnumName keyword
-chooses (Flags names) keyword = is_same_keyword Bit keyword
-chooses base keyword = false
 
 -- why a part may not stand in a built-in type; nothing is asked of what is passed over
 abbrev pub why_foreign : BuiltIn → Keyword → Option ModuleWhy
@@ -79,8 +76,7 @@ misshapen built_in s = foreign built_in (below s) ++ lacking built_in s
 -- why a part may not stand in a type over another
 abbrev pub why_foreign_over : ValueType → Keyword → Option ModuleWhy
 why_foreign_over base keyword =
-    if is_closed keyword || narrows base keyword then None
-    else (if chooses base keyword then Some Unsupported else Some UnknownStatement)
+    if is_closed keyword || narrows base keyword then None else Some UnknownStatement
 
 abbrev pub foreign_over : ValueType → List Statement → List Fault
 foreign_over base ss = flat_map (λ t. at (why_foreign_over base (kind t)) t) ss

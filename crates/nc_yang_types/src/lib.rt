@@ -12,6 +12,7 @@
 #![tactic(auto)]
 
 mod bound;
+mod choice;
 mod conditions;
 mod inside;
 mod integer;
@@ -30,8 +31,9 @@ mod restricted;
 pub use bound::Counted;
 pub use conditions::{Always, Conditions};
 pub use laws::{bits_are_apart, bits_ascend, narrowed_gives, own_gives, restrictions_narrow};
-pub use over_built_in::own;
-pub use over_type::narrowed;
+pub use member::Named;
+pub use over_built_in::{listing_of, own};
+pub use over_type::{lists, names_left, narrowed};
 pub use part::{misshapen, narrows, needs, takes};
 pub use range::restriction;
 pub use restricted::required;

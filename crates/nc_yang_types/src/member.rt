@@ -4,6 +4,7 @@ ghost use Rattle.std.specs.Option.{option_copied};
 ghost use Rattle.nc_yang_statements.specs.Statements as statements;
 ghost use Rattle.nc_yang_types.specs.Members as members;
 
+use nc_names::Text;
 use nc_schema::read_number;
 use nc_yang_statements::{Keyword, is_same_keyword, kind, name, part};
 use nc_yang_words::Statement;
@@ -17,8 +18,17 @@ pub(crate) enum Listed {
     Flags,
 }
 
-// The statement of a name.
-fn member_word(listed: Listed) -> Keyword
+/// A name that a type lists, with its value or position (RFC 7950 9.6.4.2, 9.7.4.2).
+#[derive(Debug, Drop, PartialEq, Eq)]
+pub struct Named {
+    /// The name.
+    pub name: Text,
+    /// Its value or position.
+    pub number: i128,
+}
+
+/// The statement of a name.
+pub(crate) fn member_word(listed: Listed) -> Keyword
     ensures { result ≡ members.member_word listed }
 {
     match listed {

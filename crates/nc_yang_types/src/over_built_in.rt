@@ -10,14 +10,15 @@ ghost use Rattle.nc_yang_types.specs.Members as members;
 ghost use Rattle.nc_yang_statements.specs.Stops.{OnBroken};
 
 use crate::bound::Counted;
+use crate::choice::listing;
 use crate::conditions::Conditions;
 use crate::integer::{decimals, integers, lengths};
 use crate::listed::{bit_names, enum_names, ill_listed};
-use crate::member::Listed;
+use crate::member::{Listed, Named};
 use crate::part::misshapen;
 use crate::patterns::keep_patterns;
 use crate::restricted::{digits_of, required, restricted};
-use nc_names::{Many, Text};
+use nc_names::{Many, Memory, Text};
 use nc_schema::{Between, ValueType};
 use nc_yang_statements::{BuiltIn, Fault, Keyword, Stop};
 use nc_yang_words::Statement;
@@ -152,6 +153,22 @@ fn entry<'a, C: Conditions<'a>>(
         _ => Ok(Some(ValueType::Whole {
             among: integers_left(alloc, built_in, below)?,
         })),
+    }
+}
+
+/// The names with their numbers that an enumeration or bits list, whether their conditions hold or not; none of
+/// another type (RFC 7950 9.6.4.2, 9.7.4.2).
+pub fn listing_of(
+    alloc: Global,
+    built_in: BuiltIn,
+    below: &[Statement],
+) -> Result<Many<Named>, Memory>
+    ensures { IfOk result (λ it. it ≡ entries.listing_of built_in below.now) }
+{
+    match built_in {
+        BuiltIn::Enumeration => listing(alloc, Listed::Enums, below),
+        BuiltIn::Bits => listing(alloc, Listed::Flags, below),
+        _ => Ok(Many::new(alloc)),
     }
 }
 

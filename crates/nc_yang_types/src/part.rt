@@ -77,15 +77,6 @@ pub fn narrows(base: &ValueType, keyword: Keyword) -> bool
         ValueType::Leafref { .. } | ValueType::Instance { .. } => {
             is_same_keyword(Keyword::RequireInstance, keyword)
         }
-        _ => false,
-    }
-}
-
-// Whether the part chooses among the names of the type.
-fn chooses(base: &ValueType, keyword: Keyword) -> bool
-    ensures { result ≡ parts.chooses base.now keyword }
-{
-    match base {
         ValueType::Enumeration { .. } => is_same_keyword(Keyword::EnumName, keyword),
         ValueType::Bits { .. } => is_same_keyword(Keyword::Bit, keyword),
         _ => false,
@@ -144,10 +135,7 @@ fn why_foreign_over(base: &ValueType, keyword: Keyword) -> Option<ModuleWhy>
     ensures { result ≡ parts.why_foreign_over base.now keyword }
 {
     if is_closed(keyword) || narrows(base, keyword) {
-        return None;
-    }
-    if chooses(base, keyword) {
-        Some(ModuleWhy::Unsupported)
+        None
     } else {
         Some(ModuleWhy::UnknownStatement)
     }

@@ -1,14 +1,16 @@
 -- Names and numbers that were seen, in sets.
-use Rattle.std.specs.Prelude.{◌≡◌, [], ℕ, ℤ, List, take, drop, Option, None}
+use Rattle.std.specs.Prelude.{◌≡◌, [], ℕ, ℤ, Bool, List, take, drop, Option, None}
 use Rattle.std.specs.List.{list_any}
 use Rattle.std.proofs.Common.{Bor}
+use Rattle.std.specs.BTreeMap.{BTreeMap, get}
 use Rattle.std.specs.BTreeSet.{BTreeSet, contains}
 use Rattle.std.specs.Cmp.Lexicographic.{slice_cmp}
 use Rattle.std.specs.Ordering.{int_cmp, int_eq, nat_cmp}
 use Rattle.std.specs.declared.cmp.Ordering.{Ordering}
 use Rattle.nc_yang_words.specs.declared.statement.Statement.{Statement}
 use Rattle.nc_yang_types.specs.declared.member.Listed.{Listed}
-use Rattle.nc_yang_types.specs.Members.{has_name, misnumbered, numbered, renamed}
+use Rattle.nc_yang_types.specs.declared.member.Named.{Named}
+use Rattle.nc_yang_types.specs.Members.{has_name, is_chosen, misnumbered, number_in, numbered, renamed}
 
 abbrev pub text_order : Bor (List ℕ) → Bor (List ℕ) → Ordering
 text_order text other = slice_cmp nat_cmp text.now other.now
@@ -35,3 +37,15 @@ pub record NumbersKnown
   pub same :
       misnumbered listed [] (numbered listed None below)
       ≡ misnumbered listed before (numbered listed high (drop at below))
+
+abbrev pub has_text : BTreeSet (Bor (List ℕ)) → List ℕ → Bool
+has_text set text = contains text_order set (record { ref_ptr = (0, 0); now = text })
+
+-- the set has the names that are chosen by these statements and no other
+abbrev pub HasChosen : (Statement → Bool) → Listed → BTreeSet (Bor (List ℕ)) → List Statement → Type 0
+HasChosen stands listed set ss =
+    (key : Bor (List ℕ)) → contains text_order set key ≡ is_chosen stands listed ss key.now
+
+-- the map has the numbers of these names and no other
+abbrev pub HasListing : BTreeMap (Bor (List ℕ)) ℤ → List Named → Type 0
+HasListing map names = (key : Bor (List ℕ)) → get text_order map key ≡ number_in names key.now

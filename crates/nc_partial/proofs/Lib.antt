@@ -5,4 +5,5 @@ pub mod LowestLemmas
 pub mod OnceLemmas
 pub mod OrderLemmas
 pub mod SearchLemmas
+pub mod SeenLemmas
 pub mod SelectLemmas

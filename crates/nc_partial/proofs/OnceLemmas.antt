@@ -30,7 +30,7 @@ both : {X : Type 0} (x : X) (xs : List X) (taken kept : Bool) →
 both x xs true kept = refl
 both x xs false kept = refl
 
-filter_twice : {X : Type 0} (f g h : X → Bool) (xs : List X) → ((x : X) → (g x && f x) ≡ h x) → filter f (filter g xs) ≡ filter h xs
+pub filter_twice : {X : Type 0} (f g h : X → Bool) (xs : List X) → ((x : X) → (g x && f x) ≡ h x) → filter f (filter g xs) ≡ filter h xs
 filter_twice f g h [] same = refl
 filter_twice f g h (x ∷ xs) same =
     pulled f x (filter g xs) (g x) ∙ both x (filter f (filter g xs)) (g x) (f x)
@@ -50,7 +50,7 @@ same_turned a b = by (is_same_path a b) (is_same_path b a)
     by false false there back = refl
 
 -- the node that is looked at, and what comes after it
-abbrev other_than : Path → Path → Bool
+abbrev pub other_than : Path → Path → Bool
 other_than path other = not (is_same_path other.steps path.steps)
 
 was_seen : (seen : BTreeSet (List Step)) (path other : Path) → contains steps_cmp seen path.steps ≡ true →

@@ -10,8 +10,8 @@
 //! The nodes of all locks stand in one index besides, in the order of their steps. A look at a node is a
 //! binary search there for each node above it, and takes no memory.
 //!
-//! `paths_selected` reads the selects, and `nodes_among` gives those of the nodes that exist, each once: together they
-//! are `nodes_selected`.
+//! `paths_selected` reads the selects, and `nodes_seen` gives those of the nodes that exist and are seen,
+//! each once: together they are `nodes_selected`.
 #![tactic(auto)]
 
 mod entry;
@@ -20,9 +20,11 @@ mod index;
 mod laws;
 mod locks;
 mod lowest;
+mod seen;
 mod selects;
 
 pub use entry::Covered;
 pub use laws::refusal_as_stated;
 pub use locks::{PartialFault, PartialLocks};
-pub use selects::{nodes_among, paths_selected};
+pub use seen::nodes_seen;
+pub use selects::paths_selected;

@@ -1,22 +1,17 @@
 //! What the selects of a request for a partial lock name: nodes of the schema, by instance identifiers
-//! (RFC 5717 2.4.1, RFC 7950 9.13), and which of these nodes exist.
+//! (RFC 5717 2.4.1, RFC 7950 9.13).
 ghost use Rattle.std.specs.Prelude.{◌≡◌, IfOk};
-ghost use Rattle.std.specs.List.{filter};
-ghost use Rattle.nc_schema.specs.Blocks.{at_node};
-ghost use Rattle.nc_schema.specs.Kinds.{is_plain_container};
 ghost use Rattle.nc_schema.specs.Values as values;
 ghost use Rattle.nc_model.specs.Verdict as meant;
-ghost use Rattle.nc_partial.specs.Selects.{nodes_among, paths_of};
+ghost use Rattle.nc_partial.specs.Selects.{paths_of};
 
 use nc_message::Bounds;
-use nc_names::{Copies, Many, Memory, Path, Step, Text};
+use nc_names::{Many, Memory, Path, Step, Text};
 use nc_paths::{instance_path, key_nodes};
 use nc_protocol::Select;
-use nc_schema::{Kind, Schema};
-use nc_tree::{Config, node_of};
+use nc_schema::Schema;
 use nc_types::{TypeFault, canonical};
 use std::alloc::Global;
-use std::collections::BTreeSet;
 
 // The canonical text of a key at a node, where it is a value of the node's type.
 fn canonical_key(
@@ -155,73 +150,4 @@ pub fn paths_selected(
         paths.push(path)?;
     }
     Ok(Some(paths))
-}
-
-fn is_plain(kind: Kind) -> bool
-    ensures { result ≡ is_plain_container kind }
-{
-    match kind {
-        Kind::Container { presence } => !presence,
-        _ => false,
-    }
-}
-
-// Whether the path leads to a container without presence.
-fn leads_to_plain(schema: &Schema, path: &Path) -> bool
-    ensures { result ≡ at_node schema.now path.now is_plain_container }
-{
-    match node_of(schema, path.steps.as_slice()) {
-        Some(node) => is_plain(node.kind),
-        None => false,
-    }
-}
-
-// Whether the node at a path exists: a container without presence does where a row stands in it.
-fn is_matched(schema: &Schema, rows: &Config, path: &Path) -> bool
-    ensures { result ≡ meant.is_matched schema.now rows.now path.now }
-{
-    if leads_to_plain(schema, path) {
-        rows.exists(path)
-    } else {
-        rows.has(path)
-    }
-}
-
-// Those of the nodes that exist.
-fn matched(schema: &Schema, rows: &Config, paths: Many<Path>) -> Many<Path>
-    ensures { result ≡ filter (meant.is_matched schema.now rows.now) paths }
-{
-    let mut kept = paths.into_vec();
-    kept.retain(|path| is_matched(schema, rows, path));
-    Many::from_vec(kept)
-}
-
-// Each of the nodes once, where it stands first.
-#[tactic(auto, using(crate::proofs::OnceLemmas::again, crate::proofs::OnceLemmas::first, crate::proofs::OnceLemmas::all_once))]
-fn each_once(alloc: Global, paths: &[Path]) -> Result<Many<Path>, Memory>
-    ensures { IfOk result (λ it. it ≡ meant.each_once paths.now) }
-{
-    let mut seen = BTreeSet::new(alloc);
-    let mut nodes = Many::new(alloc);
-    for path in paths {
-        if seen.contains(&path.steps) {
-            continue;
-        }
-        seen.insert(path.steps.copy()?)?;
-        nodes.push(path.copy()?)?;
-    }
-    Ok(nodes)
-}
-
-/// Those of the nodes that exist in a configuration, each once, in their order. A container without presence
-/// exists where a row stands in it (RFC 7950 7.5.1).
-pub fn nodes_among(
-    alloc: Global,
-    schema: &Schema,
-    rows: &Config,
-    paths: Many<Path>,
-) -> Result<Many<Path>, Memory>
-    ensures { IfOk result (λ it. it ≡ nodes_among schema.now rows.now paths) }
-{
-    each_once(alloc, matched(schema, rows, paths).as_slice())
 }

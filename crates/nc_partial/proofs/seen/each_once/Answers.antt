@@ -5,7 +5,7 @@ use Rattle.nc_names.specs.declared.path.Path.{Path}
 use Rattle.nc_names.specs.declared.path.Step.{Step}
 use Rattle.nc_partial.specs.inner.Entries.{steps_cmp}
 use Rattle.nc_partial.proofs.OnceLemmas.{first, none_seen, rest_once}
-use Rattle.nc_partial.proofs.selects.each_once.Goals as goal
+use Rattle.nc_partial.proofs.seen.each_once.Goals as goal
 
 pub loop-path-init : goal.loop-path-init
 loop-path-init c = none_seen c.args.paths.now c.new-seen.result c.new-nodes.result c.new-seen.ensures.empty c.new-nodes.ensures

@@ -37,3 +37,5 @@ pub mod NodePaths
 pub mod InstancePathsBack
 pub mod CanonicalBack
 pub mod RowsBack
+pub mod TextLemmas
+pub mod WriteLemmas

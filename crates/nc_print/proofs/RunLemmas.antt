@@ -1,5 +1,7 @@
 -- The rows that stand first in one element, counted.
-use Rattle.std.proofs.Common.{◌≡◌, ◌≤◌, ℕ, zero, suc, Bool, true, false, cond, List, [], ◌∷◌, length, take, drop, refl, sym, ap, ◌∙◌, arith}
+use Rattle.std.proofs.Common.{◌≡◌, ◌≤◌, ◌-◌, ℕ, zero, suc, Bool, true, false, cond, List, [], ◌∷◌, length, map, take, drop, refl, sym, ap, subst, ◌∙◌, arith}
+use Rattle.std.proofs.lemmas.List.{drop-map, length-drop, length-map, take-map}
+use Rattle.std.proofs.Math.Seq.{take-length}
 use Rattle.nc_names.specs.declared.path.Row.{Row}
 use Rattle.nc_protocol.specs.Printed.{cut, onto_cut}
 use Rattle.nc_print.specs.inner.Runs.{IsRun, run_length}
@@ -56,3 +58,17 @@ is_run goes row rows whole count whole_is is = rw whole_is (record {
   within = rw is (length_within goes row rows);
   cut_is = cut_run goes row rows count is;
 })
+
+-- the first of some rows, and those after them, each where it stands
+pub front_is : {A B : Type 0} (f : A → B) (count : ℕ) (rows front : List A) → front ≡ take count rows →
+    map f front ≡ take count (map f rows)
+front_is f count rows front is = ap (map f) is ∙ sym (take-map f count rows)
+
+pub tail_is : {A B : Type 0} (f : A → B) (count : ℕ) (rows : List A) →
+    map f (take (length rows - count) (drop count rows)) ≡ drop count (map f rows)
+tail_is f count rows =
+    ap (map f) (ap (λ n. take n (drop count rows)) (sym (length-drop count rows)) ∙ take-length (drop count rows))
+    ∙ sym (drop-map f count rows)
+
+pub within_is : {A B : Type 0} (f : A → B) (count : ℕ) (rows : List A) → count ≤ length (map f rows) → count ≤ length rows
+within_is f count rows within = subst (λ n. count ≤ n) (length-map rows f) within

@@ -1,27 +1,15 @@
 //! The rows as elements.
-ghost use Rattle.std.specs.Prelude.{◌≡◌, ◌+◌, ◌^◌, ◌<◌, ◌≤◌, ◌++◌, length, take, drop, Some, IfOk};
+ghost use Rattle.std.specs.Prelude.{◌≡◌, ◌+◌, ◌^◌, ◌<◌, ◌++◌, map, Some, IfOk};
 ghost use Rattle.std.specs.Option.{option_copied};
 ghost use Rattle.nc_protocol.specs.Printed as printed;
 
 use crate::element::node_part;
 use crate::latest::Latest;
-use crate::runs::{ends_at, longest, run};
+use crate::runs::{front, longest, own_value, run, tail};
 use nc_message::Part;
 use nc_names::{Many, Memory, Row, Step, Text};
 use nc_schema::Schema;
 use std::alloc::Global;
-
-// The value of an element, where its first row is its own.
-fn own_value(depth: usize, row: &Row) -> Option<&Text>
-    requires { depth + 1 < 2 ^ 64 }
-    ensures { option_copied result ≡ printed.own_value depth row.now }
-{
-    if ends_at(depth, row) {
-        row.value.as_ref()
-    } else {
-        None
-    }
-}
 
 // Adds the element of a step, unless the schema has no such node.
 fn push_step(
@@ -49,13 +37,14 @@ fn push_run(
     schema: &Schema,
     levels: usize,
     depth: usize,
-    rows: &[Row],
+    rows: &[&Row],
     latest: &mut Latest,
     parts: &mut Many<Part>,
 ) -> Result<(), Memory>
     requires { depth + 1 + levels < 2 ^ 64 }
     ensures { IfOk result (λ _. parts.new ≡ parts.old
-        ++ printed.run_parts schema.now (printed.parts_at schema.now levels (depth + 1)) depth rows.now) }
+        ++ printed.run_parts schema.now (printed.parts_at schema.now levels (depth + 1)) depth
+        (map (λ row. row.now) rows.now)) }
 {
     let Some(row) = rows.first() else {
         return Ok(());
@@ -83,11 +72,12 @@ fn parts_at(
     schema: &Schema,
     levels: usize,
     depth: usize,
-    rows: &[Row],
+    rows: &[&Row],
     latest: &mut Latest,
 ) -> Result<Many<Part>, Memory>
     requires { depth + levels < 2 ^ 64 }
-    ensures { IfOk result (λ it. it ≡ printed.parts_at schema.now levels depth rows.now) }
+    ensures { IfOk result (λ it. it
+        ≡ printed.parts_at schema.now levels depth (map (λ row. row.now) rows.now)) }
 {
     let mut parts = Many::new(alloc);
     if levels == 0 {
@@ -110,20 +100,15 @@ fn parts_at(
     Ok(parts)
 }
 
-// The first rows, so many of them.
-fn front(rows: &[Row], count: usize) -> &[Row]
-    requires { count ≤ length rows.now }
-    ensures { result.now ≡ take count rows.now }
+// The rows, each where it stands.
+fn listed<'a>(alloc: Global, rows: &'a [Row]) -> Result<Many<&'a Row>, Memory>
+    ensures { IfOk result (λ it. map (λ row. row.now) it ≡ rows.now) }
 {
-    &rows[..count]
-}
-
-// The rows after the first, of which so many are left out.
-fn tail(rows: &[Row], count: usize) -> &[Row]
-    requires { count ≤ length rows.now }
-    ensures { result.now ≡ drop count rows.now }
-{
-    &rows[count..]
+    let mut found = Many::new(alloc);
+    for row in rows {
+        found.push(row)?;
+    }
+    Ok(found)
 }
 
 /// The rows of a configuration as elements, in document order (RFC 7950 7.5.7, 7.6.5, 7.7.8 and 7.8.5). Want of
@@ -131,6 +116,8 @@ fn tail(rows: &[Row], count: usize) -> &[Row]
 pub fn print(alloc: Global, schema: &Schema, rows: &[Row]) -> Result<Many<Part>, Memory>
     ensures { IfOk result (λ it. it ≡ printed.printed schema.now rows.now) }
 {
+    let rows = listed(alloc, rows)?;
+    let rows = rows.as_slice();
     let mut latest = Latest::new(alloc);
     parts_at(alloc, schema, longest(rows), 0, rows, &mut latest)
 }

@@ -3,6 +3,7 @@
 //! `print` gives exactly the elements that nc_protocol's definition `printed` has for rows in document order: one
 //! for each row, and for each container without presence that has a row below it. Where a value may have module
 //! names as prefixes these are bound on its element. Each row is looked at once for each step of its path.
+//! `write_reply` appends the text of a reply: that of these elements where it shows rows, which no elements are made of.
 //! `path_bounds` gives the bindings that a path text needs. The laws say that an element so made for a data node is
 //! read back as that node, by nc_protocol's definition of a payload, and that the elements of a whole configuration
 //! are read back as its rows.
@@ -16,6 +17,7 @@ mod module_names;
 mod paths;
 mod runs;
 mod value_types;
+mod writing;
 
 pub use elements::print;
 pub use laws::{
@@ -25,3 +27,4 @@ pub use laws::{
     printed_value_is_read,
 };
 pub use paths::path_bounds;
+pub use writing::write_reply;

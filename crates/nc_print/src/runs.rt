@@ -1,10 +1,11 @@
 //! The rows that stand in one element.
-ghost use Rattle.std.specs.Prelude.{◌≡◌, ◌+◌, ◌^◌, ◌<◌, length, max};
+ghost use Rattle.std.specs.Prelude.{◌≡◌, ◌+◌, ◌^◌, ◌<◌, ◌≤◌, length, take, drop, map, max, slice_get};
+ghost use Rattle.std.specs.Option.{option_copied};
 ghost use Rattle.nc_schema.specs.Children.{is_same_number};
 ghost use Rattle.nc_protocol.specs.Printed as printed;
 ghost use Rattle.nc_print.specs.inner.Runs.{IsRun, run_length};
 
-use nc_names::Row;
+use nc_names::{Row, Text};
 
 // The data node through which a row's path leads at a depth.
 fn node_at(depth: usize, row: &Row) -> Option<u32>
@@ -16,8 +17,8 @@ fn node_at(depth: usize, row: &Row) -> Option<u32>
     }
 }
 
-/// Whether a row's path ends at a depth.
-pub(crate) fn ends_at(depth: usize, row: &Row) -> bool
+// Whether a row's path ends at a depth.
+fn ends_at(depth: usize, row: &Row) -> bool
     requires { depth + 1 < 2 ^ 64 }
     ensures { result ≡ printed.ends_at depth row.now }
 {
@@ -43,9 +44,9 @@ fn goes_on(depth: usize, before: &Row, row: &Row) -> bool
 }
 
 // How many rows go on from the first one, that one with them.
-fn count_run(depth: usize, first: &Row, more: &[Row]) -> usize
+fn count_run(depth: usize, first: &Row, more: &[&Row]) -> usize
     requires { depth + 1 < 2 ^ 64 }
-    ensures { result ≡ run_length (printed.goes_on depth) first.now more.now }
+    ensures { result ≡ run_length (printed.goes_on depth) first.now (map (λ row. row.now) more.now) }
 {
     let mut count = 0;
     let mut before = first;
@@ -53,17 +54,17 @@ fn count_run(depth: usize, first: &Row, more: &[Row]) -> usize
         if !goes_on(depth, before, row) {
             return count + 1;
         }
-        before = row;
+        before = *row;
         count += 1;
     }
     count + 1
 }
 
 /// How many rows stand first in one element.
-pub(crate) fn run(depth: usize, rows: &[Row]) -> usize
+pub(crate) fn run(depth: usize, rows: &[&Row]) -> usize
     requires depth { depth + 1 < 2 ^ 64 }
     requires rows { 0 < length rows.now }
-    ensures { IsRun (printed.goes_on depth) rows.now result }
+    ensures { IsRun (printed.goes_on depth) (map (λ row. row.now) rows.now) result }
 {
     match rows.split_first() {
         Some((first, more)) => count_run(depth, first, more),
@@ -71,9 +72,37 @@ pub(crate) fn run(depth: usize, rows: &[Row]) -> usize
     }
 }
 
+/// The first row.
+pub(crate) fn first<'a>(rows: &[&'a Row]) -> Option<&'a Row>
+    ensures { option_copied result ≡ slice_get (map (λ row. row.now) rows.now) 0 }
+{
+    match rows.first() {
+        Some(row) => Some(*row),
+        None => None,
+    }
+}
+
+/// The first rows, so many of them.
+#[tactic(auto, using(crate::proofs::RunLemmas::front_is, crate::proofs::RunLemmas::tail_is, crate::proofs::RunLemmas::within_is))]
+pub(crate) fn front<'a, 'b>(rows: &'b [&'a Row], count: usize) -> &'b [&'a Row]
+    requires { count ≤ length (map (λ row. row.now) rows.now) }
+    ensures { map (λ row. row.now) result.now ≡ take count (map (λ row. row.now) rows.now) }
+{
+    &rows[..count]
+}
+
+/// The rows after the first, of which so many are left out.
+#[tactic(auto, using(crate::proofs::RunLemmas::front_is, crate::proofs::RunLemmas::tail_is, crate::proofs::RunLemmas::within_is))]
+pub(crate) fn tail<'a, 'b>(rows: &'b [&'a Row], count: usize) -> &'b [&'a Row]
+    requires { count ≤ length (map (λ row. row.now) rows.now) }
+    ensures { map (λ row. row.now) result.now ≡ drop count (map (λ row. row.now) rows.now) }
+{
+    &rows[count..]
+}
+
 /// How many steps the longest path has.
-pub(crate) fn longest(rows: &[Row]) -> usize
-    ensures { result ≡ printed.longest rows.now }
+pub(crate) fn longest(rows: &[&Row]) -> usize
+    ensures { result ≡ printed.longest (map (λ row. row.now) rows.now) }
 {
     let mut most = 0;
     for row in rows {
@@ -86,4 +115,16 @@ fn larger(one: usize, other: usize) -> usize
     ensures { result ≡ max one other }
 {
     one.max(other)
+}
+
+/// The value of an element, where its first row is its own.
+pub(crate) fn own_value(depth: usize, row: &Row) -> Option<&Text>
+    requires { depth + 1 < 2 ^ 64 }
+    ensures { option_copied result ≡ printed.own_value depth row.now }
+{
+    if ends_at(depth, row) {
+        row.value.as_ref()
+    } else {
+        None
+    }
 }

@@ -1,4 +1,5 @@
 use Rattle.std.proofs.Common.{◌≡◌, ◌*◌, ◌+◌, ◌-◌, ◌++◌, length}
+use Rattle.std.specs.Prelude.{map}
 use Rattle.std.specs.List.{flat_map}
 use Rattle.nc_protocol.specs.Printed as printed
 use Rattle.nc_print.proofs.elements.+print.Given as goal
@@ -12,8 +13,8 @@ decreases-push_run l = 2 * l.levels + 1
 abbrev pub invariant-parts_at-runs : goal.invariant-parts_at-runs
 invariant-parts_at-runs l =
     l.parts ++ flat_map (printed.run_parts l.schema (printed.parts_at l.schema (l.levels - 1) (l.depth + 1)) l.depth)
-    (printed.cut (printed.goes_on l.depth) l.rest)
-    ≡ printed.parts_at l.schema l.levels l.depth l.rows
+    (printed.cut (printed.goes_on l.depth) (map (λ row. row.now) l.rest))
+    ≡ printed.parts_at l.schema l.levels l.depth (map (λ row. row.now) l.rows)
 
 abbrev pub decreases-parts_at-runs : goal.decreases-parts_at-runs
-decreases-parts_at-runs l = length l.rest
+decreases-parts_at-runs l = length (map (λ row. row.now) l.rest)

@@ -12,11 +12,12 @@ use crate::named::Named;
 use crate::paths::path_part;
 use itoa::Buffer;
 use nc_message::{Bounds, Elem, Part, Tree};
-use nc_names::{Copies, Many, Memory, Path, QName, Row, Text};
-use nc_print::print;
-use nc_protocol::{Cause, Operation, Request, Sees, Verdict, reply_words, request_words};
+use nc_names::{Copies, Many, Memory, Path, QName, Text};
+use nc_protocol::{Cause, Operation, Reply, Request, Sees, Verdict, reply_words, request_words};
 use nc_schema::Schema;
+use nc_tree::Config;
 use std::alloc::Global;
+use std::sync::Arc;
 
 // One part alone.
 fn alone(alloc: Global, part: Part) -> Result<Many<Part>, Memory>
@@ -34,16 +35,6 @@ fn done(alloc: Global) -> Result<Many<Part>, Memory>
     alone(
         alloc,
         base_part(alloc, reply_words::ok(), Many::new(alloc))?,
-    )
-}
-
-// `<data>` with the rows.
-fn selected(alloc: Global, schema: &Schema, rows: &[Row]) -> Result<Many<Part>, Memory>
-    ensures { IfOk result (λ it. it ≡ reply.base_part w.data_word (printed schema.now rows.now) ∷ []) }
-{
-    alone(
-        alloc,
-        base_part(alloc, reply_words::data(), print(alloc, schema, rows)?)?,
     )
 }
 
@@ -117,47 +108,10 @@ fn refused<S: Sees, N: Named>(
     Ok(parts)
 }
 
-// What a reply says.
-fn answer<S: Sees, N: Named>(
-    alloc: Global,
-    schema: &Schema,
-    sees: &S,
-    named: &N,
-    operation: Option<Operation>,
-    verdict: &Verdict,
-) -> Result<Many<Part>, Memory>
-    ensures { IfOk result (λ it. it
-        ≡ reply.answer_parts schema.now (S.seen sees.now) (N.named named.now) operation verdict.now) }
+// The `rpc-reply` with these parts.
+fn reply_tree(alloc: Global, parts: Many<Part>, request: &Request) -> Result<Tree, Memory>
+    ensures { IfOk result (λ it. it ≡ reply.reply_tree parts request.now) }
 {
-    match verdict {
-        Verdict::Done => done(alloc),
-        Verdict::Selected { rows } => selected(alloc, schema, rows.as_slice()),
-        Verdict::Locked { lock, nodes } => locked(alloc, schema, *lock, nodes.as_slice()),
-        Verdict::Refused { causes } => refused(
-            alloc,
-            schema,
-            sees,
-            named,
-            operation,
-            causes.as_slice(),
-        ),
-    }
-}
-
-/// The reply to a request with its verdict (RFC 6241 4.2), for a session that sees what `sees` says, where `named`
-/// says which paths the request's payload names. Want of memory alone is an error.
-pub fn reply_naming<S: Sees, N: Named>(
-    alloc: Global,
-    schema: &Schema,
-    request: &Request,
-    verdict: &Verdict,
-    sees: &S,
-    named: &N,
-) -> Result<Tree, Memory>
-    ensures { IfOk result (λ it. it
-        ≡ reply.reply_naming schema.now (S.seen sees.now) (N.named named.now) request.now verdict.now) }
-{
-    let parts = answer(alloc, schema, sees, named, request.operation, verdict)?;
     Ok(Tree {
         root: Elem {
             name: QName {
@@ -169,4 +123,57 @@ pub fn reply_naming<S: Sees, N: Named>(
             parts,
         },
     })
+}
+
+// The reply that these parts are.
+fn said(alloc: Global, parts: Many<Part>, request: &Request) -> Result<Reply, Memory>
+    ensures { IfOk result (λ it. it ≡ reply.reply_tree parts request.now) }
+{
+    Ok(Reply::plain(reply_tree(alloc, parts, request)?))
+}
+
+// `<data>` with the rows, which are shared.
+fn selected(
+    alloc: Global,
+    schema: &Arc<Schema, Global>,
+    rows: &Config,
+    request: &Request,
+) -> Result<Reply, Memory>
+    ensures { IfOk result (λ it. it ≡ reply.with_data (reply.reply_tree [] request.now)
+        (printed schema.now.value rows.now)) }
+{
+    let tree = reply_tree(alloc, Many::new(alloc), request)?;
+    Ok(Reply::shown(tree, Arc::try_clone(schema)?, rows.copy()?))
+}
+
+/// The reply to a request with its verdict (RFC 6241 4.2), for a session that sees what `sees` says, where
+/// `named` says which paths the request's payload names. Rows are shared, and become elements where the
+/// reply is written. Want of memory alone is an error.
+pub fn reply_naming<S: Sees, N: Named>(
+    alloc: Global,
+    schema: &Arc<Schema, Global>,
+    request: &Request,
+    verdict: &Verdict,
+    sees: &S,
+    named: &N,
+) -> Result<Reply, Memory>
+    ensures { IfOk result (λ it. it
+        ≡ reply.reply_naming schema.now.value (S.seen sees.now) (N.named named.now) request.now verdict.now) }
+{
+    match verdict {
+        Verdict::Done => said(alloc, done(alloc)?, request),
+        Verdict::Selected { rows } => selected(alloc, schema, rows, request),
+        Verdict::Locked { lock, nodes } => {
+            said(
+                alloc,
+                locked(alloc, schema, *lock, nodes.as_slice())?,
+                request,
+            )
+        }
+        Verdict::Refused { causes } => {
+            let operation = request.operation;
+            let parts = refused(alloc, schema, sees, named, operation, causes.as_slice())?;
+            said(alloc, parts, request)
+        }
+    }
 }

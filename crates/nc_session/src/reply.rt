@@ -9,9 +9,10 @@ ghost use Rattle.nc_session.specs.inner.Turns.{Writes};
 use crate::{Base, SessionEnd};
 use itoa::Buffer;
 use nc_frames::{write_chunks, write_eom};
-use nc_message::{Tree, write};
 use nc_names::{Bytes, Memory, tail};
 use nc_outside::{Sink, write_all};
+use nc_print::write_reply;
+use nc_protocol::Reply;
 use std::alloc::Global;
 
 // How many octets the chunks have, but for the last of a reply.
@@ -30,14 +31,14 @@ fn push_chunks(body: &[u8], out: &mut Bytes) -> Result<(), Memory>
 pub(crate) fn push_reply(
     alloc: Global,
     base: Base,
-    reply: &Tree,
+    reply: &Reply,
     out: &mut Bytes,
 ) -> Result<(), Memory>
     ensures ok { OnOk result (out.new ≡ out.old ++ reply_text base reply.now) }
     ensures err { OnErr result (out.new ≡ out.old) }
 {
     let mut body = Bytes::new(alloc);
-    write(reply, &mut body)?;
+    write_reply(alloc, reply, &mut body)?;
     match base {
         Base::Base10 => write_eom(body.as_slice(), out),
         Base::Base11 => push_chunks(body.as_slice(), out),
@@ -107,7 +108,7 @@ fn send_chunks<K: Sink>(
 pub(crate) fn send_reply<K: Sink>(
     alloc: Global,
     base: Base,
-    reply: &Tree,
+    reply: &Reply,
     out: &mut Bytes,
     sink: &mut K,
 ) -> Result<(), SessionEnd>
@@ -115,7 +116,7 @@ pub(crate) fn send_reply<K: Sink>(
         (K.faults sink.old) (K.faults sink.new) result }
 {
     out.clear();
-    write(reply, out)?;
+    write_reply(alloc, reply, out)?;
     match base {
         Base::Base10 => {
             out.push_slice(b"]]>]]>")?;

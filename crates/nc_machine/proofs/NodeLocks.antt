@@ -6,7 +6,9 @@ use Rattle.std.specs.Option.{option_or}
 use Rattle.nc_names.specs.declared.cause.CauseKind.{CauseKind}
 use Rattle.nc_names.specs.declared.cause.CauseKind.TheVariants.{BadParameter, BadSelect, InUsePartial, Limit, LockPartial, LockPending, NoMatch}
 use Rattle.nc_names.specs.declared.path.Path.{Path}
+use Rattle.nc_names.specs.declared.path.Row.{Row}
 use Rattle.nc_schema.proofs.GivenLemmas.{item_there, nothing_left}
+use Rattle.nc_schema.specs.Tables.{Tables}
 use Rattle.nc_protocol.specs.declared.asked.Select.{Select}
 use Rattle.nc_protocol.specs.declared.changes.Changes.{Changes}
 use Rattle.nc_protocol.specs.declared.datastore.Datastore.{Datastore}
@@ -17,6 +19,7 @@ use Rattle.nc_protocol.specs.Asking.{plain_cause}
 use Rattle.nc_protocol.specs.Edited.{cause_where, first_cause}
 use Rattle.nc_protocol.specs.Words.{lock_id_word}
 use Rattle.nc_model.specs.Access.{visible}
+use Rattle.nc_model.specs.Sight.{Viewer, may_see}
 use Rattle.nc_model.specs.State.{NodeLock, Pending, State, last_lock_id, locks_of, locks_some, most_locks}
 use Rattle.nc_model.specs.Step.{with_partial, without_partial}
 use Rattle.nc_model.specs.Verdict.{are_selects, covers_path, has_lock, in_use_at, in_use_partial, is_none_of, is_running, lock_of_other, nodes_selected, partial_lock_cause, partial_lock_checks, partial_lock_refusal, partial_unlock_refusal, partly_locked, pending_cause, pending_of_other, selected_path}
@@ -26,10 +29,11 @@ use Rattle.nc_partial.specs.declared.locks.PartialFault.{PartialFault}
 use Rattle.nc_partial.specs.declared.locks.PartialFault.TheVariants.{Taken, TooMany, IdsSpent, Memory as NoMemory}
 use Rattle.nc_partial.specs.Granted.{Granted, IsTold, covered_cause, covered_of, granted_of, lock_given, refusal}
 use Rattle.nc_partial.specs.inner.Given.{told_of}
-use Rattle.nc_partial.specs.Selects.{nodes_among, paths_of}
+use Rattle.nc_partial.specs.Selects.{nodes_among, nodes_seen, paths_of}
 use Rattle.nc_machine.specs.declared.course.Change.TheVariants.{Nothing, GrantNodes, ReleaseNodes}
 use Rattle.nc_machine.specs.declared.course.Course.{Course}
 use Rattle.nc_machine.specs.declared.course.Course.TheVariants.{Answer}
+use Rattle.nc_machine.specs.inner.Governing.{viewer_of}
 use Rattle.nc_machine.specs.inner.Courses.{done_unless, held_refusal, made, nodes_course, partial_lock_course, partly_granted, partly_hindered, partly_released, refused_course, running_opposed, running_refusal, selects_course, told_course, unless_refused, wants_memory, with_given}
 
 -- ---- running's lock
@@ -158,6 +162,17 @@ some_pends s pending is = ap (option_map (pending_cause LockPending)) is
 
 pub none_pends : (s : State) → None ≡ s.pending → None ≡ option_map (pending_cause LockPending) s.pending
 none_pends s is = ap (option_map (pending_cause LockPending)) is
+
+-- the nodes that a session's access shows are those among the rows that it sees
+pub nodes_looked : (s : State) (session : ℕ) (tables : Tables) (viewer : Viewer) (rows : List Row) (paths nodes : List Path) (c : Course) →
+    tables ≡ s.schema → viewer ≡ viewer_of s session → rows ≡ s.running →
+    nodes ≡ nodes_seen tables (λ path. may_see viewer.tables viewer.policy viewer.peer path.steps) rows paths →
+    c ≡ nodes_course s session nodes → c ≡ selects_course s session (Some paths)
+nodes_looked s session tables viewer rows paths nodes c by sees are found told =
+    told ∙ ap (nodes_course s session) (found
+    ∙ (ap (λ (t : Tables). nodes_seen t (λ path. may_see viewer.tables viewer.policy viewer.peer path.steps) rows paths) by
+    ∙ (ap (λ (rs : List Row). nodes_seen s.schema (λ path. may_see viewer.tables viewer.policy viewer.peer path.steps) rs paths) are
+    ∙ ap (λ (v : Viewer). nodes_seen s.schema (λ path. may_see v.tables v.policy v.peer path.steps) s.running paths) sees)))
 
 pub named_all : (s : State) (session : ℕ) (selects : List Select) (paths : List Path) (c : Course) →
     Some paths ≡ paths_of s.schema selects → c ≡ selects_course s session (Some paths) →

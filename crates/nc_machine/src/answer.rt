@@ -10,11 +10,10 @@ use crate::course::Change;
 use crate::own::reply;
 use crate::reach::Reach;
 use crate::server::Server;
-use nc_message::Tree;
 use nc_model::Outcome;
 use nc_nacm::Policy;
 use nc_names::Memory;
-use nc_protocol::{Request, Verdict};
+use nc_protocol::{Reply, Request, Verdict};
 
 // With more causes than that a session's access is looked up in an index.
 const FEW_CAUSES: usize = 8;
@@ -39,12 +38,12 @@ impl Server {
 
     // The reply to a request with a verdict.
     #[tactic(auto, using(crate::proofs::Replies::reply_is))]
-    fn reply_to(&self, session: u32, request: &Request, verdict: &Verdict) -> Result<Tree, Memory>
+    fn reply_to(&self, session: u32, request: &Request, verdict: &Verdict) -> Result<Reply, Memory>
         ensures { IfOk result (λ it. it ≡
             reply_of self.now.schema (sees_of self.now session) request.now verdict.now) }
     {
         let sees = self.sight(session, verdict)?;
-        let reply = reply(self.alloc(), self.schema(), request, verdict, &sees)?;
+        let reply = reply(self.alloc(), self.shared_schema(), request, verdict, &sees)?;
         Ok(reply)
     }
 

@@ -8,28 +8,25 @@ use crate::datastores::unsupported_source;
 use crate::server::Server;
 use nc_filter::select;
 use nc_message::Elem;
-use nc_names::{Many, Memory, Row};
+use nc_names::Memory;
 use nc_protocol::{Datastore, Verdict};
 use nc_tree::Config;
 
 impl Server {
     // The rows that the filter keeps, or all without one.
-    fn filtered(&self, rows: Config, filter: &Option<Elem>) -> Result<Many<Row>, Memory>
+    fn filtered(&self, rows: Config, filter: &Option<Elem>) -> Result<Config, Memory>
         ensures { IfOk result (λ it. it ≡ meant.filtered self.now.schema filter.now rows) }
     {
         match filter {
-            None => rows.into_rows(),
-            Some(filter) => select(self.alloc(), self.schema(), filter, &rows),
+            None => Ok(rows),
+            Some(filter) => {
+                Config::from_rows(select(self.alloc(), self.schema(), filter, &rows)?)
+            }
         }
     }
 
     // What a session is shown of a datastore: what it does not see goes before the filter looks.
-    fn shown(
-        &self,
-        session: u32,
-        store: Datastore,
-        filter: &Option<Elem>,
-    ) -> Result<Many<Row>, Memory>
+    fn shown(&self, session: u32, store: Datastore, filter: &Option<Elem>) -> Result<Config, Memory>
         ensures { IfOk result (λ it. it ≡ meant.shown self.now session store filter.now) }
     {
         let seen = self.visible(session, self.stored(store))?;

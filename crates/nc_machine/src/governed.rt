@@ -80,6 +80,13 @@ impl Governed {
         &self.schema
     }
 
+    /// The schema, to be shared.
+    pub(crate) fn shared_schema(&self) -> &Arc<Schema, Global>
+        ensures { result.now.value ≡ self.now.tables }
+    {
+        &self.schema
+    }
+
     /// The configuration that is running.
     pub(crate) fn running(&self) -> &Config
         ensures { result.now ≡ self.now.running }

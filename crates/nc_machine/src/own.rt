@@ -6,12 +6,12 @@ ghost use Rattle.nc_errors.specs.Hidden as hidden;
 ghost use Rattle.nc_machine.specs.inner.Own.{own_names};
 
 use nc_errors::{Named, hides_path, reply_naming};
-use nc_message::Tree;
 use nc_names::{Memory, Path};
 use nc_payload::Names;
-use nc_protocol::{Asked, Cause, Request, Sees, Verdict};
+use nc_protocol::{Asked, Cause, Reply, Request, Sees, Verdict};
 use nc_schema::Schema;
 use std::alloc::Global;
+use std::sync::Arc;
 
 // The paths that a request names: those of its payload, if it has one.
 #[derive(Drop)]
@@ -48,13 +48,14 @@ fn named(alloc: Global, schema: &Schema, asked: &Result<Asked, Cause>) -> Result
 #[tactic(auto, using(nc_errors::proofs::NamedLemmas::naming_same))]
 fn unnamed<S: Sees>(
     alloc: Global,
-    schema: &Schema,
+    schema: &Arc<Schema, Global>,
     request: &Request,
     verdict: &Verdict,
     sees: &S,
-) -> Result<Tree, Memory>
+) -> Result<Reply, Memory>
     requires { hidden.hides_path (S.seen sees.now) verdict.now ≡ false }
-    ensures { IfOk result (λ it. it ≡ reply.reply_of schema.now (S.seen sees.now) request.now verdict.now) }
+    ensures { IfOk result (λ it. it
+        ≡ reply.reply_of schema.now.value (S.seen sees.now) request.now verdict.now) }
 {
     let none = Own { names: None };
     reply_naming(alloc, schema, request, verdict, sees, &none)
@@ -65,12 +66,13 @@ fn unnamed<S: Sees>(
 /// memory alone is an error.
 pub(crate) fn reply<S: Sees>(
     alloc: Global,
-    schema: &Schema,
+    schema: &Arc<Schema, Global>,
     request: &Request,
     verdict: &Verdict,
     sees: &S,
-) -> Result<Tree, Memory>
-    ensures { IfOk result (λ it. it ≡ reply.reply_of schema.now (S.seen sees.now) request.now verdict.now) }
+) -> Result<Reply, Memory>
+    ensures { IfOk result (λ it. it
+        ≡ reply.reply_of schema.now.value (S.seen sees.now) request.now verdict.now) }
 {
     if !hides_path(sees, verdict) {
         return unnamed(alloc, schema, request, verdict, sees);

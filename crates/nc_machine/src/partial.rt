@@ -16,7 +16,7 @@ use itoa::Buffer;
 use nc_changes::changes;
 use nc_model::server_words::{lock_ids, partial_locks};
 use nc_names::{CauseKind, Copies, Many, Memory, Path, Text};
-use nc_partial::{Covered, PartialFault, nodes_among, paths_selected};
+use nc_partial::{Covered, PartialFault, nodes_seen, paths_selected};
 use nc_protocol::request_words::lock_id;
 use nc_protocol::{Cause, Changes, Datastore, Select, Verdict};
 use nc_tree::Config;
@@ -235,13 +235,21 @@ impl Server {
         self.told_course(session, nodes)
     }
 
-    // What the nodes come to that selects name.
+    // What the nodes come to that selects name. Each is looked up by itself.
+    #[tactic(auto, using(crate::proofs::NodeLocks::nodes_looked))]
     fn paths_course(&self, session: u32, paths: Many<Path>) -> Result<Course, Memory>
         ensures { IfOk result (λ it. it ≡ course.selects_course self.now session (Some paths)) }
     {
-        let rows = self.visible(session, self.running())?;
-        let nodes = nodes_among(self.alloc(), self.schema(), &rows, paths)?;
-        self.nodes_course(session, nodes)
+        let reach = self.reach(session)?;
+        let nodes = nodes_seen(
+            self.alloc(),
+            self.schema(),
+            &reach,
+            self.running(),
+            paths.as_slice(),
+        )?;
+        let course = self.nodes_course(session, nodes)?;
+        Ok(course)
     }
 
     // What selects come to.

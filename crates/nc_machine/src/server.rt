@@ -101,6 +101,13 @@ impl Server {
         self.governed.schema()
     }
 
+    /// The schema, to be shared.
+    pub(crate) fn shared_schema(&self) -> &Arc<Schema, Global>
+        ensures { result.now.value ≡ self.now.schema }
+    {
+        self.governed.shared_schema()
+    }
+
     /// The configuration of running.
     pub(crate) fn running(&self) -> &Config
         ensures { result.now ≡ self.now.running }

@@ -4,5 +4,5 @@ use Rattle.nc_machine.proofs.server.Server.reply_to.Goals as goal
 
 pub returns : goal.returns
 returns c =
-    reply_is c.args.self.now c.args.session c.args.request.now c.args.verdict.now c.schema.result.now c.in_ok-sees.sees
-    c.in_ok-reply.reply c.schema.ensures c.in_ok-sees.ensures c.in_ok-reply.ensures
+    reply_is c.args.self.now c.args.session c.args.request.now c.args.verdict.now c.shared_schema.result.now.value c.in_ok-sees.sees
+    c.in_ok-reply.reply c.shared_schema.ensures c.in_ok-sees.ensures c.in_ok-reply.ensures

@@ -24,11 +24,12 @@ ghost use Rattle.trials_machine.specs.Sample.{sample};
 use crate::laws::sample_is_proper;
 use crate::sample::schema;
 use nc_machine::Machine;
-use nc_message::{Tree, Why, write};
+use nc_message::{Tree, Why};
 use nc_message_read::{MessageFault, read_message};
 use nc_model::{Entry, Event, Outcome};
 use nc_names::{Boxed, Bytes, MOST_REQUESTS, Many, Text};
-use nc_protocol::{Cause, Peer, Request, Verdict, decoded_is_proper};
+use nc_print::write_reply;
+use nc_protocol::{Cause, Peer, Reply, Request, Verdict, decoded_is_proper};
 use nc_requests::decode;
 use nc_schema::Schema;
 use nc_tree::{Config, MemKeeper};
@@ -157,9 +158,9 @@ fn start(rt: &impl Abort, alloc: Global) -> Event
 
 // ---- what is answered
 
-fn put_reply(rt: &impl Abort, alloc: Global, shown: &mut String, reply: &Tree) {
+fn put_reply(rt: &impl Abort, alloc: Global, shown: &mut String, reply: &Reply) {
     let mut out = Bytes::new(alloc);
-    write(reply, &mut out).expect(rt, "memory");
+    write_reply(alloc, reply, &mut out).expect(rt, "memory");
     put(
         rt,
         shown,

@@ -6,8 +6,10 @@ use nc_errors::{Named, reply_naming};
 use nc_names::{Boxed, CauseKind, Many, Memory, Module, Path, QName, Row, Step, Text};
 use nc_protocol::{Cause, Request, Sees, Verdict};
 use nc_schema::{Deny, Kind, Node, Schema, ValueType};
+use nc_tree::Config;
 use std::alloc::Global;
 use std::process::Abort;
+use std::sync::Arc;
 
 // Every path or none: what a session sees, and what a payload names.
 #[derive(Clone, Copy, Debug)]
@@ -109,15 +111,14 @@ const TOP: (&str, &str, u32, Option<u32>, Kind) = (
 
 const NOTE: (&str, &str, u32, Option<u32>, Kind) = ("urn:more", "note", 1, Some(0), Kind::Leaf);
 
-// The schema, on the heap: what lets it go there is proved once.
-fn two_modules(rt: &impl Abort, alloc: Global) -> Boxed<Schema> {
+fn two_modules(rt: &impl Abort, alloc: Global) -> Arc<Schema, Global> {
     let mut schema = Schema::new(alloc);
     put_module(rt, alloc, &mut schema, "ex", "urn:ex");
     put_module(rt, alloc, &mut schema, "more", "urn:more");
     put_type(rt, alloc, &mut schema);
     put_node(rt, alloc, &mut schema, TOP);
     put_node(rt, alloc, &mut schema, NOTE);
-    Boxed::new(alloc, schema).expect(rt, "memory")
+    Arc::new(alloc, schema).expect(rt, "memory")
 }
 
 // The path of nodes without keys.
@@ -173,16 +174,16 @@ fn refused(
 fn has_reply(
     rt: &impl Abort,
     alloc: Global,
-    schema: &Schema,
+    schema: &Arc<Schema, Global>,
     request: &Request,
     verdict: &Verdict,
     sees: Paths,
     names: Paths,
     content: &str,
 ) {
-    let tree = reply_naming(alloc, schema, request, verdict, &sees, &names).expect(rt, "memory");
+    let reply = reply_naming(alloc, schema, request, verdict, &sees, &names).expect(rt, "memory");
     let mut found = String::new(alloc);
-    put_reply(rt, alloc, &mut found, &tree);
+    put_reply(rt, alloc, &mut found, &reply);
     let mut wanted = String::new(alloc);
     put(
         rt,
@@ -382,7 +383,7 @@ fn causes_to_come_have_their_errors(rt: HostRuntime) {
         has_reply(
             &rt,
             alloc,
-            schema.get(),
+            &schema,
             request.get(),
             verdict.get(),
             ALL,
@@ -409,7 +410,7 @@ fn an_outstanding_commit_has_its_tag_at_a_partial_lock(rt: HostRuntime) {
     has_reply(
         &rt,
         alloc,
-        schema.get(),
+        &schema,
         request.get(),
         verdict.get(),
         ALL,
@@ -460,7 +461,7 @@ fn what_is_not_seen_is_left_out(rt: HostRuntime) {
         has_reply(
             &rt,
             alloc,
-            schema.get(),
+            &schema,
             request.get(),
             verdict.get(),
             *sees,
@@ -485,6 +486,7 @@ fn selected(rt: &impl Abort, alloc: Global) -> Boxed<Verdict> {
         value: Some(text(rt, alloc, "ex:fast")),
     };
     rows.push(row).expect(rt, "memory");
+    let rows = Config::from_rows(rows).expect(rt, "memory");
     Boxed::new(alloc, Verdict::Selected { rows }).expect(rt, "memory")
 }
 
@@ -496,7 +498,7 @@ fn nodes_of_two_modules_are_named_and_written(rt: HostRuntime) {
     has_reply(
         &rt,
         alloc,
-        schema.get(),
+        &schema,
         request.get(),
         locked(&rt, alloc).get(),
         ALL,
@@ -510,7 +512,7 @@ fn nodes_of_two_modules_are_named_and_written(rt: HostRuntime) {
     has_reply(
         &rt,
         alloc,
-        schema.get(),
+        &schema,
         request.get(),
         selected(&rt, alloc).get(),
         ALL,

@@ -6,7 +6,7 @@ use nc_message::Tree;
 use nc_message_read::read_message;
 use nc_model::{Desk, DeskFault, Entry, Event, Outcome, Spent};
 use nc_names::Memory;
-use nc_protocol::Verdict;
+use nc_protocol::{Reply, Verdict};
 use std::alloc::Global;
 
 // What goes wrong at the desk. Its calls are counted from 1.
@@ -39,7 +39,7 @@ fn read(alloc: Global, text: &[u8]) -> Result<Tree, Memory> {
 }
 
 fn answered(alloc: Global) -> Result<Outcome, Memory> {
-    let reply = read(alloc, REPLY.as_bytes())?;
+    let reply = Reply::plain(read(alloc, REPLY.as_bytes())?);
     Ok(Outcome::Answered {
         verdict: Verdict::Done,
         reply,

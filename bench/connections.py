@@ -4,11 +4,13 @@ A session is a bare connection of base:1.0, whose first line names its peer as n
 """
 import os
 import resource
+import shutil
 import socket
 import subprocess
+import tempfile
 import time
 
-from payloads import BASE
+from payloads import BASE, TOP, interfaces
 
 MARK = b"]]>]]>"
 HELLO = (f'<hello xmlns="{BASE}"><capabilities><capability>urn:ietf:params:netconf:base:1.0</capability></capabilities>'
@@ -22,12 +24,26 @@ def many_files():
     resource.setrlimit(resource.RLIMIT_NOFILE, (most, most))
 
 
-class Server:
-    """A server of a folder, which listens once it is made, and is ended where the block is left."""
+def demo_device(room, count):
+    """A folder of demo/device with so many interfaces in place of its own."""
+    folder = tempfile.mkdtemp(dir=room)
+    shutil.copytree(f"{TOP}/demo/device", folder, dirs_exist_ok=True)
+    with open(f"{folder}/initial.xml") as file:
+        text = file.read()
+    begin = text.index("<interfaces")
+    end = text.index("</interfaces>") + len("</interfaces>")
+    with open(f"{folder}/initial.xml", "w") as file:
+        file.write(text[:begin] + interfaces(count) + text[end:])
+    return folder
 
-    def __init__(self, program, folder):
+
+class Server:
+    """A server of a folder, which listens once it is made, and is ended where the block is left. It begins without a store,
+    or over the one that is there."""
+
+    def __init__(self, program, folder, keeps=False):
         self.path = f"{folder}/sock"
-        if os.path.exists(f"{folder}/running.nc"):
+        if os.path.exists(f"{folder}/running.nc") and not keeps:
             os.remove(f"{folder}/running.nc")
         self.process = subprocess.Popen([program, "serve", folder, f"unix:{self.path}"], stdin=subprocess.DEVNULL,
                                         stdout=subprocess.DEVNULL, stderr=subprocess.PIPE)

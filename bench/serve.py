@@ -5,27 +5,14 @@ killed session stays. These are times of the clock, since others wait for them.
 A number after the program divides all sizes, for a trial.
 Usage: bench/serve.py [PROGRAM [DIVISOR]]
 """
-import shutil
 import tempfile
 import threading
 import time
 
-from connections import Server, Session, many_files
-from payloads import TOP, edit, get_config, head, interfaces, kb, ms, row, words
+from connections import Server, Session, demo_device, many_files
+from payloads import edit, get_config, head, kb, ms, row, words
 
 ONE = '<system xmlns="urn:example:device"><hostname/></system>'
-
-
-def device(room, count):
-    folder = tempfile.mkdtemp(dir=room)
-    shutil.copytree(f"{TOP}/demo/device", folder, dirs_exist_ok=True)
-    with open(f"{folder}/initial.xml") as file:
-        text = file.read()
-    begin = text.index("<interfaces")
-    end = text.index("</interfaces>") + len("</interfaces>")
-    with open(f"{folder}/initial.xml", "w") as file:
-        file.write(text[:begin] + interfaces(count) + text[end:])
-    return folder
 
 
 def beside_one_another(sessions, work):
@@ -94,13 +81,13 @@ def main():
     many_files()
     head("What", "How many", "Time", "Memory")
     with tempfile.TemporaryDirectory() as room:
-        with Server(program, device(room, 100)) as server:
+        with Server(program, demo_device(room, 100)) as server:
             time_sessions(server, 2_000 // by)
             for many in [1, 8, 64]:
                 time_requests(server, many, 6_400 // by // many * many)
             time_commits(server, 8, 400 // by)
             time_kill(server)
-        with Server(program, device(room, 10_000 // by)) as server:
+        with Server(program, demo_device(room, 10_000 // by)) as server:
             time_readers(server, 64)
 
 

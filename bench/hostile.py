@@ -2,7 +2,7 @@
 """Sends what a hostile or a careless client would, and prints what the program takes for it: messages of up to 4 MB with
 many attributes, prefixes, matches and entries, long keys, references, rules and locks; and connections that stop reading or
 say nothing, beside a session that goes on. A time is processor time of the program; memory is its peak.
-A session that takes more than half a minute is ended. A number after the program divides all sizes, for a trial.
+A session that takes more than half a minute of processor time is ended. A number after the program divides all sizes, for a trial.
 Usage: bench/hostile.py [PROGRAM [DIVISOR]]
 """
 import tempfile

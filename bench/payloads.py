@@ -4,6 +4,7 @@ The program is crates/netconfd/out/netconfd, or the one that a script's first wo
 program alone; that of a request is what a session with it takes beyond one without, over the number of requests.
 """
 import os
+import resource
 import subprocess
 import sys
 import tempfile
@@ -121,7 +122,8 @@ def read_to(stream, end, number):
 
 class Ran:
     """A session that is over, on a device without a store: its seconds of processor time, the peak of memory in kB, the bytes
-    that it wrote, how many errors they have, the line of a refused run, and whether it was ended after `limit` seconds."""
+    that it wrote, how many errors they have, the line of a refused run, and whether it was ended, after `limit` seconds of
+    processor time."""
 
     def __init__(self, program, folder, requests=(), framing=0, limit=3600):
         if os.path.exists(f"{folder}/running.nc"):
@@ -130,8 +132,7 @@ class Ran:
                                stderr=subprocess.PIPE)
         writer = threading.Thread(target=send, args=(run.stdin, session(framing, requests)))
         writer.start()
-        killer = threading.Timer(limit, run.kill)
-        killer.start()
+        resource.prlimit(run.pid, resource.RLIMIT_CPU, (limit, limit))
         text = read_to(run.stdout, b"</rpc-reply>", len(requests)) if requests else read_to(run.stdout, b"</hello>", 1)
         writer.join()
         memory = 0
@@ -144,12 +145,11 @@ class Ran:
             pass
         run.stdout.read()
         self.told = run.stderr.read().decode().strip()
-        _, _, usage = os.wait4(run.pid, 0)
+        _, ended, usage = os.wait4(run.pid, 0)
         run.returncode = 0
         self.seconds = usage.ru_utime + usage.ru_stime
         self.memory = memory or usage.ru_maxrss
-        self.cut = not killer.is_alive()
-        killer.cancel()
+        self.cut = os.WIFSIGNALED(ended)
         self.size = len(text)
         self.errors = text.count(b"<rpc-error>")
 

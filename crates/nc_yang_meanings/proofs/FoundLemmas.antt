@@ -19,6 +19,7 @@ use Rattle.nc_yang_order.proofs.Lists.{take_next}
 use Rattle.nc_yang_scopes.specs.Scopes.{Located, Scoping}
 use Rattle.nc_yang_scopes.specs.inner.Naming.{HasNumber}
 use Rattle.nc_yang_types.specs.Entries.{own, own_faults}
+use Rattle.nc_yang_types.specs.declared.member.Named.{Named}
 use Rattle.nc_yang_statements.specs.Stops.{OnBroken}
 use Rattle.nc_yang_statements.specs.declared.stop.Stop.{Stop}
 use Rattle.nc_yang_statements.specs.declared.stop.Stop.TheVariants.{Broken as BrokenType}
@@ -48,38 +49,42 @@ said_is on LeafRef l = refl
 said_is on one l = refl
 
 -- what is planned in a text is of what is meant there
-access_is : (located : List Located) (entry : ValueType) (ns : List ℕ) (ps : List Located) → AreNumbers located ns ps → IsPlan located (plan_of_access entry ns) (of_access entry ps)
-access_is located (Instance need) ns ps are = (refl, are)
-access_is located (String among starless none) [] [] are = (refl, are)
-access_is located (String among starless none) [] (p ∷ ps) are = absurd (cc)
-access_is located (String among starless none) (n ∷ ns) [] are = absurd (cc)
-access_is located (String among starless none) (n ∷ ns) (p ∷ ps) are = (refl, refl)
-access_is located entry ns ps are = (refl, are)
+access_is : (located : List Located) (entry : ValueType) (ns : List ℕ) (ps : List Located) (names : List Named) → AreNumbers located ns ps → IsPlan located (plan_of_access entry ns names) (of_access entry ps names)
+access_is located (Instance need) ns ps names are = (refl, are, refl)
+access_is located (String among starless none) [] [] names are = (refl, are, refl)
+access_is located (String among starless none) [] (p ∷ ps) names are = absurd (cc)
+access_is located (String among starless none) (n ∷ ns) [] names are = absurd (cc)
+access_is located (String among starless none) (n ∷ ns) (p ∷ ps) names are = (refl, refl, refl)
+access_is located entry ns ps names are = (refl, are, refl)
 
 -- a string with patterns, and one without
-pub plan_of_some : (among : List Between) (starless : Bool) (none ns : List ℕ) → (ns ≡ [] → ⊥) → Finished (String among true none) [] ≡ plan_of_access (String among starless none) ns
-plan_of_some among starless none [] h = absurd (h refl)
-plan_of_some among starless none (n ∷ ns) h = refl
+pub plan_of_some : (among : List Between) (starless : Bool) (none ns : List ℕ) (names : List Named) → (ns ≡ [] → ⊥) →
+    Finished (String among true none) [] names ≡ plan_of_access (String among starless none) ns names
+plan_of_some among starless none [] names h = absurd (h refl)
+plan_of_some among starless none (n ∷ ns) names h = refl
 
-pub plan_of_none : (among : List Between) (starless : Bool) (none ns : List ℕ) → ns ≡ [] → Finished (String among starless none) ns ≡ plan_of_access (String among starless none) ns
-plan_of_none among starless none [] h = refl
-plan_of_none among starless none (n ∷ ns) h = absurd (cc)
+pub plan_of_none : (among : List Between) (starless : Bool) (none ns : List ℕ) (names : List Named) → ns ≡ [] →
+    Finished (String among starless none) ns names ≡ plan_of_access (String among starless none) ns names
+plan_of_none among starless none [] names h = refl
+plan_of_none among starless none (n ∷ ns) names h = absurd (cc)
 
 plan_in : (located : List Located) (text : ℕ) (planned : Planned) (m : Meaning) → IsPlan located planned m → IsPlan located (planned_in text planned) (in_text text m)
 plan_in located (suc text) planned m is = is
-plan_in located zero (Finished entry ns) (Entry other ps) is = subst (λ z. IsPlan located (plan_of_access entry ns) (of_access z ps)) is.0 (access_is located entry ns ps is.1)
-plan_in located zero (Finished entry ns) (OneOf ls) is = absurd is
-plan_in located zero (Finished entry ns) (DerivedFrom ls) is = absurd is
-plan_in located zero (Finished entry ns) (Refers path need) is = absurd is
-plan_in located zero (Members ns) (Entry other ps) is = absurd is
+plan_in located zero (Finished entry ns names) (Entry other ps others) is =
+    subst (λ z. IsPlan located (plan_of_access entry ns names) (of_access other ps z)) is.2
+    (subst (λ z. IsPlan located (plan_of_access entry ns names) (of_access z ps names)) is.0 (access_is located entry ns ps names is.1))
+plan_in located zero (Finished entry ns names) (OneOf ls) is = absurd is
+plan_in located zero (Finished entry ns names) (DerivedFrom ls) is = absurd is
+plan_in located zero (Finished entry ns names) (Refers path need) is = absurd is
+plan_in located zero (Members ns) (Entry other ps others) is = absurd is
 plan_in located zero (Members ns) (OneOf ls) is = is
 plan_in located zero (Members ns) (DerivedFrom ls) is = absurd is
 plan_in located zero (Members ns) (Refers path need) is = absurd is
-plan_in located zero (Bases ns) (Entry other ps) is = absurd is
+plan_in located zero (Bases ns) (Entry other ps others) is = absurd is
 plan_in located zero (Bases ns) (OneOf ls) is = absurd is
 plan_in located zero (Bases ns) (DerivedFrom ls) is = is
 plan_in located zero (Bases ns) (Refers path need) is = absurd is
-plan_in located zero (Leafref n b) (Entry other ps) is = absurd is
+plan_in located zero (Leafref n b) (Entry other ps others) is = absurd is
 plan_in located zero (Leafref n b) (OneOf ls) is = absurd is
 plan_in located zero (Leafref n b) (DerivedFrom ls) is = absurd is
 plan_in located zero (Leafref n b) (Refers path need) is = is
@@ -91,12 +96,16 @@ plans_in located text (Some planned) None are = absurd are
 plans_in located text (Some planned) (Some m) are = plan_in located text planned m are
 
 module _ (scoping : Scoping) (n : ℕ) (s : Statement) (number : HasNumber scoping n s) where
+  -- its text is that of the number
+  its_text : (text : ℕ) → StandsInText scoping n text → (l : Located) → slice_get scoping.located n ≡ Some l → l.place.text ≡ text
+  its_text text stands_there l here = let e : Some l.place.text ≡ Some text = sym (ap (option_map (λ (k : Located). k.place.text)) here) ∙ stands_there in cc
+
   pub plan_is : (text : ℕ) → StandsInText scoping n text → (on : ℕ → List ℕ → Bool) (one : BuiltIn) (entry : Option ValueType) (it planned : Option Planned) → own (stands on text) one (below s) ≡ entry →
       OnNumber scoping n (λ l. ArePlan scoping.located it (meant_with entry one l)) → planned ≡ option_map (planned_in text) it →
       OnNumber scoping n (λ l. ArePlan scoping.located planned (meant on one l))
   plan_is text stands_there on one entry it planned is plan moved = λ l here.
       let same = statement_is scoping n s l number here in
-      let text_is : l.place.text ≡ text = (let e : Some l.place.text ≡ Some text = sym (ap (option_map (λ (k : Located). k.place.text)) here) ∙ stands_there in cc) in
+      let text_is : l.place.text ≡ text = its_text text stands_there l here in
       let entry_is : entry ≡ own (stands on l.place.text) one (below l.statement) = sym (ap (λ t. own (stands on t) one (below l.statement)) text_is ∙ ap (λ z. own (stands on text) one (below z)) same ∙ is) in
       let as_said = subst (ArePlan scoping.located it) (ap (λ e. meant_with e one l) entry_is ∙ sym (said_is on one l)) (plan l here) in
       subst (λ z. ArePlan scoping.located z (meant on one l)) (sym (moved ∙ ap (λ t. option_map (planned_in t) it) (sym text_is)))
@@ -117,15 +126,16 @@ module _ (scoping : Scoping) (n : ℕ) (s : Statement) (number : HasNumber scopi
         (subst (λ z. first (own_faults one z) ≡ Some fault) (sym (statement_is scoping n s l number here)) (subst (λ z. OnBroken (λ (f : Fault). first (own_faults one s) ≡ Some f) z) field_is is))
 
   -- of a type over another
-  pub look_type : (on : ℕ → List ℕ → Bool) (meanings : Meanings) (base : ℕ) (footing : Footing) → footing ≡ OnType base → (own : List ℕ) →
-      OnNumber scoping n (λ l. AreNumbers scoping.located own (parts_of Pattern l)) → (ss : List Statement) → ss ≡ below s → (r : Result Found Memory) → IfOk r (IsOverBase meanings base own ss) →
+  pub look_type : (text : ℕ) → StandsInText scoping n text → (on : ℕ → List ℕ → Bool) (meanings : Meanings) (base : ℕ) (footing : Footing) → footing ≡ OnType base → (own : List ℕ) →
+      OnNumber scoping n (λ l. AreNumbers scoping.located own (parts_of Pattern l)) → (ss : List Statement) → ss ≡ below s → (r : Result Found Memory) → IfOk r (IsOverBase (stands on text) meanings base own ss) →
       IfOk r (λ it. OnNumber scoping n (λ l. IsFooting scoping l footing → HasBase on scoping meanings footing → IsFound on scoping meanings.plans l it))
-  look_type on meanings base footing is own are ss ss_is (Err e) h = tt
-  look_type on meanings base footing is own are ss ss_is (Ok it) h = λ l here foot has.
+  look_type text stands_there on meanings base footing is own are ss ss_is (Err e) h = tt
+  look_type text stands_there on meanings base footing is own are ss ss_is (Ok it) h = λ l here foot has.
       let f = subst (IsFooting scoping l) is foot in
       let same = statement_is scoping n s l number here in
       over_number on scoping l f.1.0 f.1.2 own (are l here) meanings base it
-      (subst (λ z. IsOverBase meanings base own z it) (ss_is ∙ ap below (sym same)) h)
+      (subst (λ t. IsOverBase (stands on t) meanings base own (below l.statement) it) (sym (its_text text stands_there l here))
+      (subst (λ z. IsOverBase (stands on text) meanings base own z it) (ss_is ∙ ap below (sym same)) h))
       (subst (HasBase on scoping meanings) is has f.1.0 f.1.1)
 
 pub look_nothing : (on : ℕ → List ℕ → Bool) (scoping : Scoping) (meanings : Meanings) (n : ℕ) (footing : Footing) → footing ≡ OnNothing →

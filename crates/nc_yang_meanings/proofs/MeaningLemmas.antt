@@ -1,7 +1,7 @@
 -- Meanings and faults of `type` statements.
 use Rattle.std.proofs.Common.{inl, inr, ◌≡◌, ℕ, true, false, cond, List, [], ◌++◌, map, refl, sym, ap, ◌∙◌, subst}
 use Rattle.std.specs.Prelude.{Bool, is_some, Option, Some, None, IsSomeAnd, option_map, slice_get, Contains, ◌⊎◌}
-use Rattle.std.proofs.lemmas.List.{map-append}
+use Rattle.std.proofs.lemmas.List.{append-nil, map-append}
 use Rattle.nc_schema.specs.declared.value_type.ValueType.{ValueType}
 use Rattle.nc_yang_words.specs.declared.statement.Statement.{Statement}
 use Rattle.nc_yang_statements.specs.declared.built_in.BuiltIn.{BuiltIn}
@@ -14,12 +14,15 @@ use Rattle.nc_yang_statements.specs.Statements.{below, kind, name}
 use Rattle.nc_yang_statements.proofs.Firsts.{first_contains}
 use Rattle.nc_yang_order.proofs.Lists.{contains_none}
 use Rattle.nc_yang_scopes.specs.Scopes.{Located, Scoping}
-use Rattle.nc_yang_types.specs.Entries.{narrowed, narrowed_faults, own_faults, required}
-use Rattle.nc_yang_meanings.specs.Meanings.{Breaks, DerivedFrom, Entry, Meaning, Means, OneOf, Refers, by_itself, in_itself, meant, over, over_base, shape, with_parts}
+use Rattle.nc_yang_types.specs.declared.member.Named.{Named}
+use Rattle.nc_yang_types.proofs.ChoiceLemmas.{names_kept}
+use Rattle.nc_yang_types.specs.Entries.{lists, names_left, narrowed, narrowed_faults, own_faults, required}
+use Rattle.nc_yang_meanings.specs.Features.{stands}
+use Rattle.nc_yang_meanings.specs.Meanings.{Breaks, DerivedFrom, Entry, Meaning, Means, OneOf, Refers, by_itself, in_itself, meant, names_of, over, over_base, shape, with_parts}
 use Rattle.nc_yang_meanings.specs.Numbers.{AreNumbers}
 use Rattle.nc_yang_meanings.specs.Places.{base_of, built_in, of_typedef, parts_of}
 use Rattle.nc_yang_meanings.specs.Plans.{IsFinding, IsPlan, MeansNothing}
-use Rattle.nc_yang_meanings.specs.inner.Planning.{ArePlan, IsFound, IsOver, IsOverBase, planned_over, shape_of}
+use Rattle.nc_yang_meanings.specs.inner.Planning.{ArePlan, IsFound, IsOver, IsOverBase, names_in, planned_over, shape_of}
 use Rattle.nc_yang_meanings.specs.declared.found.Found.{Found}
 use Rattle.nc_yang_meanings.specs.declared.found.Found.TheVariants.{New, Same}
 use Rattle.nc_yang_meanings.specs.declared.planned.Finding.{Finding}
@@ -48,8 +51,8 @@ pub record OverBase (on : ℕ → List ℕ → Bool) (texts : List Statement) (l
   pub base_is : base_of texts l ≡ Some base
   pub meaning : Meaning
   pub means : Means on texts base meaning
-  pub kept : narrowed_faults (shape meaning) (below l.statement) ≡ []
-  pub is : with_parts meaning l ≡ Some m
+  pub kept : narrowed_faults (shape meaning) (names_of meaning) (below l.statement) ≡ []
+  pub is : with_parts on meaning l ≡ Some m
 
 pub how_means : (on : ℕ → List ℕ → Bool) (texts : List Statement) (l : Located) (m : Meaning) → Means on texts l m → ByItself on texts l m ⊎ OverBase on texts l m
 how_means on texts _ _ (by_itself l one m built kept is) = inl (record { one = one; built = built; kept = kept; is = is })
@@ -66,7 +69,7 @@ means_one on texts _ _ n (over l base k m base_is means kept is) other = elim (h
   | inr z ↦
       let same : z.base ≡ base = (let a = z.base_is in cc) in
       let one : k ≡ z.meaning = means_one on texts base k z.meaning means (subst (λ b. Means on texts b z.meaning) same z.means) in
-      let e : with_parts z.meaning l ≡ Some m = subst (λ j. with_parts j l ≡ Some m) one is in
+      let e : with_parts on z.meaning l ≡ Some m = subst (λ j. with_parts on j l ≡ Some m) one is in
       let f = z.is in cc
 ]
 
@@ -80,7 +83,7 @@ pub record BreaksOver (on : ℕ → List ℕ → Bool) (texts : List Statement) 
   pub base_is : base_of texts l ≡ Some base
   pub meaning : Meaning
   pub means : Means on texts base meaning
-  pub breaks : Contains (narrowed_faults (shape meaning) (below l.statement)) fault
+  pub breaks : Contains (narrowed_faults (shape meaning) (names_of meaning) (below l.statement)) fault
 
 pub how_breaks : (on : ℕ → List ℕ → Bool) (texts : List Statement) (l : Located) (fault : Fault) → Breaks on texts l fault → BreaksItself l fault ⊎ BreaksOver on texts l fault
 how_breaks on texts _ _ (in_itself l one fault built breaks) = inl (record { one = one; built = built; breaks = breaks })
@@ -104,7 +107,7 @@ means_keeps on texts l m fault means breaks = elim (how_means on texts l m means
     | inr b ↦
         let same : b.base ≡ z.base = (let p = b.base_is in let q = z.base_is in cc) in
         let one : b.meaning ≡ z.meaning = means_one on texts z.base b.meaning z.meaning (subst (λ k. Means on texts k b.meaning) same b.means) z.means in
-        no_fault (narrowed_faults (shape z.meaning) (below l.statement)) fault z.kept (subst (λ k. Contains (narrowed_faults (shape k) (below l.statement)) fault) one b.breaks)
+        no_fault (narrowed_faults (shape z.meaning) (names_of z.meaning) (below l.statement)) fault z.kept (subst (λ k. Contains (narrowed_faults (shape k) (names_of k) (below l.statement)) fault) one b.breaks)
   ]
 ]
 
@@ -140,22 +143,40 @@ module _ (on : ℕ → List ℕ → Bool) (scoping : Scoping) (l : Located) (one
 
 -- a plan over another
 pub same_shape : (located : List Located) (planned : Planned) (m : Meaning) → IsPlan located planned m → shape_of planned ≡ shape m
-same_shape located (Finished entry ns) (Entry other ps) is = is.0
-same_shape located (Finished entry ns) (OneOf ls) is = absurd is
-same_shape located (Finished entry ns) (DerivedFrom ls) is = absurd is
-same_shape located (Finished entry ns) (Refers path need) is = absurd is
-same_shape located (Members ns) (Entry other ps) is = absurd is
+same_shape located (Finished entry ns names) (Entry other ps others) is = is.0
+same_shape located (Finished entry ns names) (OneOf ls) is = absurd is
+same_shape located (Finished entry ns names) (DerivedFrom ls) is = absurd is
+same_shape located (Finished entry ns names) (Refers path need) is = absurd is
+same_shape located (Members ns) (Entry other ps others) is = absurd is
 same_shape located (Members ns) (OneOf ls) is = refl
 same_shape located (Members ns) (DerivedFrom ls) is = absurd is
 same_shape located (Members ns) (Refers path need) is = absurd is
-same_shape located (Bases ns) (Entry other ps) is = absurd is
+same_shape located (Bases ns) (Entry other ps others) is = absurd is
 same_shape located (Bases ns) (OneOf ls) is = absurd is
 same_shape located (Bases ns) (DerivedFrom ls) is = refl
 same_shape located (Bases ns) (Refers path need) is = absurd is
-same_shape located (Leafref n b) (Entry other ps) is = absurd is
+same_shape located (Leafref n b) (Entry other ps others) is = absurd is
 same_shape located (Leafref n b) (OneOf ls) is = absurd is
 same_shape located (Leafref n b) (DerivedFrom ls) is = absurd is
 same_shape located (Leafref n b) (Refers path need) is = ap (λ z. shape (Refers path z)) is.1
+
+pub same_names : (located : List Located) (planned : Planned) (m : Meaning) → IsPlan located planned m → names_in planned ≡ names_of m
+same_names located (Finished entry ns names) (Entry other ps others) is = is.2
+same_names located (Finished entry ns names) (OneOf ls) is = absurd is
+same_names located (Finished entry ns names) (DerivedFrom ls) is = absurd is
+same_names located (Finished entry ns names) (Refers path need) is = absurd is
+same_names located (Members ns) (Entry other ps others) is = absurd is
+same_names located (Members ns) (OneOf ls) is = refl
+same_names located (Members ns) (DerivedFrom ls) is = absurd is
+same_names located (Members ns) (Refers path need) is = absurd is
+same_names located (Bases ns) (Entry other ps others) is = absurd is
+same_names located (Bases ns) (OneOf ls) is = absurd is
+same_names located (Bases ns) (DerivedFrom ls) is = refl
+same_names located (Bases ns) (Refers path need) is = absurd is
+same_names located (Leafref n b) (Entry other ps others) is = absurd is
+same_names located (Leafref n b) (OneOf ls) is = absurd is
+same_names located (Leafref n b) (DerivedFrom ls) is = absurd is
+same_names located (Leafref n b) (Refers path need) is = refl
 
 -- the numbers of statements, and of others after them
 numbers_more : (located : List Located) (ns ms : List ℕ) (ls ks : List Located) → AreNumbers located ns ls → AreNumbers located ms ks → AreNumbers located (ns ++ ms) (ls ++ ks)
@@ -164,37 +185,50 @@ numbers_more located ns ms ls ks first more =
     ∙ sym (map-append Some ls ks)
 
 -- with the patterns and the parts of a type over it
-with_plan : (located : List Located) (l : Located) (own : List ℕ) (planned other : Planned) (n : Meaning) → AreNumbers located own (parts_of Pattern l) → IsPlan located planned n →
-    planned_over planned own (below l.statement) ≡ Some other → (m : Meaning) × (with_parts n l ≡ Some m) × IsPlan located other m
-with_plan located l own (Finished entry ns) other (Entry base ps) are is e = by (narrowed entry (below l.statement)) refl e
+with_plan : (on : ℕ → List ℕ → Bool) (located : List Located) (l : Located) (own : List ℕ) (planned other : Planned) (n : Meaning) → AreNumbers located own (parts_of Pattern l) → IsPlan located planned n →
+    planned_over (stands on l.place.text) planned own (below l.statement) ≡ Some other → (m : Meaning) × (with_parts on n l ≡ Some m) × IsPlan located other m
+with_plan on located l own (Finished entry ns names) other (Entry base ps others) are is e = by (narrowed (stands on l.place.text) entry (below l.statement)) refl e
   where
-    by : (o : Option ValueType) → narrowed entry (below l.statement) ≡ o → option_map (λ left. Finished left (ns ++ own)) o ≡ Some other →
-        (m : Meaning) × (with_parts (Entry base ps) l ≡ Some m) × IsPlan located other m
+    ss : List Statement
+    ss = below l.statement
+
+    by : (o : Option ValueType) → narrowed (stands on l.place.text) entry (below l.statement) ≡ o → option_map (λ left. Finished left (ns ++ own) (names_left entry names (below l.statement))) o ≡ Some other →
+        (m : Meaning) × (with_parts on (Entry base ps others) l ≡ Some m) × IsPlan located other m
     by None f e = absurd (cc)
     by (Some v) f e =
-        let same : Finished v (ns ++ own) ≡ other = cc in
-        let all : List Located = ps ++ parts_of Pattern l in (
-          Entry v all,
-          ap (λ z. option_map (λ left. Entry left all) (narrowed z (below l.statement))) (sym is.0) ∙ ap (option_map (λ left. Entry left all)) f,
-          subst (λ z. IsPlan located z (Entry v all)) same (refl, numbers_more located ns own ps (parts_of Pattern l) is.1 are),
+        let same : Finished v (ns ++ own) (names_left entry names ss) ≡ other = cc in
+        let all : List Located = ps ++ parts_of Pattern l in
+        let kept : names_left entry names ss ≡ names_left base others ss = (λ i. names_left (is.0 i) (is.2 i) ss) in (
+          Entry v all (names_left base others ss),
+          ap (λ z. option_map (λ left. Entry left all (names_left base others ss)) (narrowed (stands on l.place.text) z ss)) (sym is.0) ∙ ap (option_map (λ left. Entry left all (names_left base others ss))) f,
+          subst (λ z. IsPlan located z (Entry v all (names_left base others ss))) same (refl, numbers_more located ns own ps (parts_of Pattern l) is.1 are, kept),
         )
-with_plan located l own (Finished entry ns) other (OneOf ls) are is e = absurd is
-with_plan located l own (Finished entry ns) other (DerivedFrom ls) are is e = absurd is
-with_plan located l own (Finished entry ns) other (Refers path need) are is e = absurd is
-with_plan located l own (Members ns) other (Entry base ps) are is e = absurd is
-with_plan located l own (Members ns) other (OneOf ls) are is e = let same : Members ns ≡ other = cc in (OneOf ls, refl, subst (λ z. IsPlan located z (OneOf ls)) same is)
-with_plan located l own (Members ns) other (DerivedFrom ls) are is e = absurd is
-with_plan located l own (Members ns) other (Refers path need) are is e = absurd is
-with_plan located l own (Bases ns) other (Entry base ps) are is e = absurd is
-with_plan located l own (Bases ns) other (OneOf ls) are is e = absurd is
-with_plan located l own (Bases ns) other (DerivedFrom ls) are is e = let same : Bases ns ≡ other = cc in (DerivedFrom ls, refl, subst (λ z. IsPlan located z (DerivedFrom ls)) same is)
-with_plan located l own (Bases ns) other (Refers path need) are is e = absurd is
-with_plan located l own (Leafref n b) other (Entry base ps) are is e = absurd is
-with_plan located l own (Leafref n b) other (OneOf ls) are is e = absurd is
-with_plan located l own (Leafref n b) other (DerivedFrom ls) are is e = absurd is
-with_plan located l own (Leafref n b) other (Refers path need) are is e =
+with_plan on located l own (Finished entry ns names) other (OneOf ls) are is e = absurd is
+with_plan on located l own (Finished entry ns names) other (DerivedFrom ls) are is e = absurd is
+with_plan on located l own (Finished entry ns names) other (Refers path need) are is e = absurd is
+with_plan on located l own (Members ns) other (Entry base ps others) are is e = absurd is
+with_plan on located l own (Members ns) other (OneOf ls) are is e = let same : Members ns ≡ other = cc in (OneOf ls, refl, subst (λ z. IsPlan located z (OneOf ls)) same is)
+with_plan on located l own (Members ns) other (DerivedFrom ls) are is e = absurd is
+with_plan on located l own (Members ns) other (Refers path need) are is e = absurd is
+with_plan on located l own (Bases ns) other (Entry base ps others) are is e = absurd is
+with_plan on located l own (Bases ns) other (OneOf ls) are is e = absurd is
+with_plan on located l own (Bases ns) other (DerivedFrom ls) are is e = let same : Bases ns ≡ other = cc in (DerivedFrom ls, refl, subst (λ z. IsPlan located z (DerivedFrom ls)) same is)
+with_plan on located l own (Bases ns) other (Refers path need) are is e = absurd is
+with_plan on located l own (Leafref n b) other (Entry base ps others) are is e = absurd is
+with_plan on located l own (Leafref n b) other (OneOf ls) are is e = absurd is
+with_plan on located l own (Leafref n b) other (DerivedFrom ls) are is e = absurd is
+with_plan on located l own (Leafref n b) other (Refers path need) are is e =
     let same : Leafref n (required b (below l.statement)) ≡ other = cc in
     (Refers path (required need (below l.statement)), refl, subst (λ z. IsPlan located z (Refers path (required need (below l.statement)))) same (is.0, ap (λ z. required z (below l.statement)) is.1))
+
+-- where it adds nothing
+pub over_same : (holds : Statement → Bool) (entry : ValueType) (patterns own : List ℕ) (names : List Named) (ss : List Statement) → narrowed holds entry ss ≡ Some entry → (own ≡ []) × (lists entry ss ≡ false) →
+    planned_over holds (Finished entry patterns names) own ss ≡ Some (Finished entry patterns names)
+over_same holds entry patterns own names ss e adds =
+    ap (option_map (λ left. Finished left (patterns ++ own) (names_left entry names ss))) e
+    ∙ ap (λ more. Some (Finished entry (patterns ++ more) (names_left entry names ss))) adds.0
+    ∙ ap (λ all. Some (Finished entry all (names_left entry names ss))) (append-nil patterns)
+    ∙ ap (λ left. Some (Finished entry patterns left)) (names_kept entry names ss adds.1)
 
 -- what is found of a type over another, whose own `pattern` statements have these numbers
 module _ (on : ℕ → List ℕ → Bool) (scoping : Scoping) (l base : Located) (base_is : base_of scoping.texts l ≡ Some base) (own : List ℕ) (are : AreNumbers scoping.located own (parts_of Pattern l)) where
@@ -218,27 +252,30 @@ module _ (on : ℕ → List ℕ → Bool) (scoping : Scoping) (l base : Located)
   )
 
   module _ (plans : List Planned) (place : ℕ) (planned : Planned) (there : slice_get plans place ≡ Some planned) (n : Meaning) (is : IsPlan scoping.located planned n) (means : Means on scoping.texts base n) where
-    kept_too : narrowed_faults (shape_of planned) (below l.statement) ≡ [] → narrowed_faults (shape n) (below l.statement) ≡ []
-    kept_too kept = subst (λ k. narrowed_faults k (below l.statement) ≡ []) (same_shape scoping.located planned n is) kept
+    same_faults : narrowed_faults (shape_of planned) (names_in planned) (below l.statement) ≡ narrowed_faults (shape n) (names_of n) (below l.statement)
+    same_faults = λ i. narrowed_faults (same_shape scoping.located planned n is i) (same_names scoping.located planned n is i) (below l.statement)
 
-    new_plan : (other : Planned) → planned_over planned own (below l.statement) ≡ Some other → narrowed_faults (shape_of planned) (below l.statement) ≡ [] →
+    kept_too : narrowed_faults (shape_of planned) (names_in planned) (below l.statement) ≡ [] → narrowed_faults (shape n) (names_of n) (below l.statement) ≡ []
+    kept_too kept = sym same_faults ∙ kept
+
+    new_plan : (other : Planned) → planned_over (stands on l.place.text) planned own (below l.statement) ≡ Some other → narrowed_faults (shape_of planned) (names_in planned) (below l.statement) ≡ [] →
         (m : Meaning) × IsPlan scoping.located other m × Means on scoping.texts l m
     new_plan other e kept =
-        let w = with_plan scoping.located l own planned other n are is e in
+        let w = with_plan on scoping.located l own planned other n are is e in
         (w.0, w.2, over l base n w.0 base_is means (kept_too kept) w.1)
 
-    broken : (fault : Fault) → first (narrowed_faults (shape_of planned) (below l.statement)) ≡ Some fault → IsFinding on scoping plans l (Broken fault)
+    broken : (fault : Fault) → first (narrowed_faults (shape_of planned) (names_in planned) (below l.statement)) ≡ Some fault → IsFinding on scoping plans l (Broken fault)
     broken fault e =
-        let e' : first (narrowed_faults (shape n) (below l.statement)) ≡ Some fault = subst (λ k. first (narrowed_faults k (below l.statement)) ≡ Some fault) (same_shape scoping.located planned n is) e in (
-          over_base l base n fault base_is means (first_contains (narrowed_faults (shape n) (below l.statement)) fault e'),
+        let e' : first (narrowed_faults (shape n) (names_of n) (below l.statement)) ≡ Some fault = sym (ap first same_faults) ∙ e in (
+          over_base l base n fault base_is means (first_contains (narrowed_faults (shape n) (names_of n) (below l.statement)) fault e'),
           (λ m other.
               let z = means_over m other in
               let same : z.base ≡ base = (let p = z.base_is in cc) in
               let one : z.meaning ≡ n = means_one on scoping.texts base z.meaning n (subst (λ k. Means on scoping.texts k z.meaning) same z.means) means in
-              first_some_not_none (narrowed_faults (shape n) (below l.statement)) fault e' (subst (λ k. narrowed_faults (shape k) (below l.statement) ≡ []) one z.kept)),
+              first_some_not_none (narrowed_faults (shape n) (names_of n) (below l.statement)) fault e' (subst (λ k. narrowed_faults (shape k) (names_of k) (below l.statement) ≡ []) one z.kept)),
         )
 
-    pub over_plan : (found : Found) → IsOver place planned own (below l.statement) found → IsFound on scoping plans l found
+    pub over_plan : (found : Found) → IsOver (stands on l.place.text) place planned own (below l.statement) found → IsFound on scoping plans l found
     over_plan (New other) h = new_plan other h.0 h.1
     over_plan (Same Nothing) h = absurd h
     over_plan (Same (Broken fault)) h = broken fault h
@@ -247,14 +284,14 @@ module _ (on : ℕ → List ℕ → Bool) (scoping : Scoping) (l base : Located)
         record { plan = planned; there = subst (λ z. slice_get plans z ≡ Some planned) (sym h.0) there; meaning = w.0; is = w.1; means = w.2 }
 
   -- a base of which it is known what was found
-  pub over_number : (meanings : Meanings) (number : ℕ) (found : Found) → IsOverBase meanings number own (below l.statement) found →
+  pub over_number : (meanings : Meanings) (number : ℕ) (found : Found) → IsOverBase (stands on l.place.text) meanings number own (below l.statement) found →
       IsSomeAnd (slice_get meanings.findings number) (IsFinding on scoping meanings.plans base) → IsFound on scoping meanings.plans l found
   over_number meanings number found h known = by (slice_get meanings.findings number) refl known h
     where
       lacking : (found : Found) → found ≡ Same Nothing → MeansNothing on scoping base → IsFound on scoping meanings.plans l found
       lacking found same none = subst (IsFound on scoping meanings.plans l) (sym same) (over_nothing none)
 
-      by : (o : Option Finding) → slice_get meanings.findings number ≡ o → IsSomeAnd o (IsFinding on scoping meanings.plans base) → IsOverBase meanings number own (below l.statement) found → IsFound on scoping meanings.plans l found
+      by : (o : Option Finding) → slice_get meanings.findings number ≡ o → IsSomeAnd o (IsFinding on scoping meanings.plans base) → IsOverBase (stands on l.place.text) meanings number own (below l.statement) found → IsFound on scoping meanings.plans l found
       by None e known h = absurd known
       by (Some Nothing) e known (inl p) = absurd (let f = p.2.0 in cc)
       by (Some Nothing) e known (inr none) = lacking found none.1 known.1

@@ -19,7 +19,6 @@ use Rattle.nc_yang_scopes.proofs.Lists.{get_within}
 use Rattle.nc_yang_scopes.proofs.PartLemmas.{statement_is}
 use Rattle.nc_yang_meanings.specs.Faults.{MeansReference, RefersInUnion, is_reference}
 use Rattle.nc_yang_meanings.specs.Meanings.{Meaning, Means, shape}
-use Rattle.nc_yang_meanings.specs.Places.{built_in}
 use Rattle.nc_yang_meanings.specs.Plans.{AreMeanings, IsFinding}
 use Rattle.nc_yang_meanings.specs.inner.Judging.{is_referring, is_union, is_union_type, refers_at, refers_by}
 use Rattle.nc_yang_meanings.specs.inner.Planning.{shape_of}

@@ -12,7 +12,8 @@ use Rattle.nc_yang_meanings.specs.Numbers.{AreNumbers}
 
 -- a plan is of a meaning
 abbrev pub IsPlan : List Located → Planned → Meaning → Type 0
-IsPlan located (Finished entry numbers) (Entry other patterns) = (entry ≡ other) × AreNumbers located numbers patterns
+IsPlan located (Finished entry numbers names) (Entry other patterns others) =
+    (entry ≡ other) × AreNumbers located numbers patterns × (names ≡ others)
 IsPlan located (Members numbers) (OneOf members) = AreNumbers located numbers members
 IsPlan located (Bases numbers) (DerivedFrom bases) = AreNumbers located numbers bases
 IsPlan located (Leafref number required) (Refers path need) = (slice_get located number ≡ Some path) × (required ≡ need)

@@ -7,7 +7,7 @@ use Rattle.nc_yang_meanings.specs.Meanings.{DerivedFrom, Entry, Meaning, Means, 
 -- the `type` statements of a union's members
 abbrev pub members_of : Meaning → List Located
 members_of (OneOf members) = members
-members_of (Entry entry patterns) = []
+members_of (Entry entry patterns names) = []
 members_of (DerivedFrom bases) = []
 members_of (Refers path need) = []
 

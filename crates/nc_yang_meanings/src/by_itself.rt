@@ -17,7 +17,7 @@ use nc_names::{Many, Memory};
 use nc_schema::{Between, ValueType};
 use nc_yang_scopes::{Scopes, part_of, parts_of};
 use nc_yang_statements::{BuiltIn, Fault, Keyword, Stop};
-use nc_yang_types::{own, required};
+use nc_yang_types::{Named, listing_of, own, required};
 use nc_yang_words::Statement;
 use std::alloc::Global;
 
@@ -31,8 +31,9 @@ fn plan_of_name(
     starless: bool,
     numbers: Many<u32>,
     patterns: Many<usize>,
+    names: Many<Named>,
 ) -> Planned
-    ensures { result ≡ plan_of_access (Chars lengths starless numbers) patterns }
+    ensures { result ≡ plan_of_access (Chars lengths starless numbers) patterns names }
 {
     if patterns.is_empty() {
         return Planned::Finished {
@@ -42,6 +43,7 @@ fn plan_of_name(
                 patterns: numbers,
             },
             patterns,
+            names,
         };
     }
     Planned::Finished {
@@ -51,24 +53,35 @@ fn plan_of_name(
             patterns: numbers,
         },
         patterns: Many::new(alloc),
+        names,
     }
 }
 
 // The plan of an entry of ietf-netconf-acm (RFC 8341 3.5.2).
-fn plan_of_access(alloc: Global, entry: ValueType, patterns: Many<usize>) -> Planned
-    ensures { result ≡ plan_of_access entry patterns }
+fn plan_of_access(
+    alloc: Global,
+    entry: ValueType,
+    patterns: Many<usize>,
+    names: Many<Named>,
+) -> Planned
+    ensures { result ≡ plan_of_access entry patterns names }
 {
     match entry {
         ValueType::Instance { .. } => Planned::Finished {
             entry: ValueType::NodeInstance,
             patterns,
+            names,
         },
         ValueType::Chars {
             lengths,
             starless,
             patterns: numbers,
-        } => plan_of_name(alloc, lengths, starless, numbers, patterns),
-        entry => Planned::Finished { entry, patterns },
+        } => plan_of_name(alloc, lengths, starless, numbers, patterns, names),
+        entry => Planned::Finished {
+            entry,
+            patterns,
+            names,
+        },
     }
 }
 
@@ -80,7 +93,11 @@ fn planned_in(alloc: Global, text: usize, planned: Planned) -> Planned
         return planned;
     }
     match planned {
-        Planned::Finished { entry, patterns } => plan_of_access(alloc, entry, patterns),
+        Planned::Finished {
+            entry,
+            patterns,
+            names,
+        } => plan_of_access(alloc, entry, patterns, names),
         other => other,
     }
 }
@@ -137,6 +154,7 @@ fn plan_of(
             Some(entry) => Ok(Some(Planned::Finished {
                 entry,
                 patterns: parts_of(alloc, scopes, number, Keyword::Pattern)?,
+                names: listing_of(alloc, one, statement.below.as_slice())?,
             })),
             None => Ok(None),
         },

@@ -1,6 +1,7 @@
 //! What is found of one `type` statement.
 ghost use Rattle.std.specs.Prelude.{◌≡◌, List, slice_get, IfOk, MatchOption};
 ghost use Rattle.nc_yang_scopes.specs.inner.Naming.{HasNumber};
+ghost use Rattle.nc_yang_meanings.specs.Features as definitions;
 ghost use Rattle.nc_yang_meanings.specs.Numbers.{OnNumber};
 ghost use Rattle.nc_yang_meanings.specs.declared.footing.Footing.TheVariants.{OnBuiltIn as RestsOnBuiltIn};
 ghost use Rattle.nc_yang_meanings.specs.declared.planned.Planned.{Planned};
@@ -8,7 +9,7 @@ ghost use Rattle.nc_yang_meanings.specs.inner.Footings.{IsFooting};
 ghost use Rattle.nc_yang_meanings.specs.inner.Planning.{FindsPlan, HasBase, IsFound, IsOver, IsOverBase, LacksPlan, StandsInText};
 
 use crate::by_itself::by_itself;
-use crate::features::Features;
+use crate::features::{Features, InText};
 use crate::footing::Footing;
 use crate::over::over;
 use crate::planned::{Finding, Meanings, Planned};
@@ -65,16 +66,18 @@ fn plan<'b>(meanings: &'b Meanings, number: usize) -> Option<(usize, &'b Planned
 }
 
 // What is found of a type over one of this plan.
-fn on_plan(
+fn on_plan<'a, F: Features<'a>>(
     alloc: Global,
+    conditions: &InText<F>,
     place: usize,
     planned: &Planned,
     own: Many<usize>,
-    below: &[Statement],
+    below: &'a [Statement],
 ) -> Result<Found, Memory>
-    ensures { IfOk result (IsOver place planned.now own below.now) }
+    ensures { IfOk result (IsOver (definitions.stands (F.on conditions.now.features.now) conditions.now.text)
+        place planned.now own below.now) }
 {
-    match over(alloc, planned, own, below) {
+    match over(alloc, conditions, planned, own, below) {
         Ok(Some(planned)) => Ok(Found::New(planned)),
         Ok(None) => Ok(Found::Same(Finding::Plan(place))),
         Err(Stop::Broken(fault)) => Ok(Found::Same(Finding::Broken(fault))),
@@ -83,17 +86,19 @@ fn on_plan(
 }
 
 // What is found of a type with the `pattern` statements of these numbers over that of a number.
-fn on_type(
+fn on_type<'a, F: Features<'a>>(
     alloc: Global,
+    conditions: &InText<F>,
     meanings: &Meanings,
     base: usize,
     own: Many<usize>,
-    below: &[Statement],
+    below: &'a [Statement],
 ) -> Result<Found, Memory>
-    ensures { IfOk result (IsOverBase meanings.now base own below.now) }
+    ensures { IfOk result (IsOverBase (definitions.stands (F.on conditions.now.features.now) conditions.now.text)
+        meanings.now base own below.now) }
 {
     match plan(meanings, base) {
-        Some((place, planned)) => on_plan(alloc, place, planned, own, below),
+        Some((place, planned)) => on_plan(alloc, conditions, place, planned, own, below),
         None => Ok(Found::Same(Finding::Nothing)),
     }
 }
@@ -123,7 +128,15 @@ pub(crate) fn look<'a, F: Features<'a>>(
         }
         Footing::OnType(base) => {
             let own = parts_of(alloc, scopes, number, Keyword::Pattern)?;
-            on_type(alloc, meanings, base, own, statement.below.as_slice())
+            let conditions = InText { features, text };
+            on_type(
+                alloc,
+                &conditions,
+                meanings,
+                base,
+                own,
+                statement.below.as_slice(),
+            )
         }
         Footing::OnNothing => Ok(Found::Same(Finding::Nothing)),
     }

@@ -11,7 +11,8 @@ use Rattle.nc_yang_statements.specs.declared.keyword.Keyword.TheVariants.{Base, 
 use Rattle.nc_yang_statements.specs.Rules.{first}
 use Rattle.nc_yang_statements.specs.Statements.{below}
 use Rattle.nc_yang_scopes.specs.Scopes.{Located, Scoping}
-use Rattle.nc_yang_types.specs.Entries.{narrowed, narrowed_faults, required}
+use Rattle.nc_yang_types.specs.Entries.{listing_of, names_left, narrowed, narrowed_faults, required}
+use Rattle.nc_yang_types.specs.declared.member.Named.{Named}
 use Rattle.nc_yang_meanings.specs.declared.footing.Footing.{Footing}
 use Rattle.nc_yang_meanings.specs.declared.footing.Footing.TheVariants.{OnBuiltIn, OnNothing, OnType}
 use Rattle.nc_yang_meanings.specs.declared.found.Found.{Found}
@@ -33,14 +34,14 @@ abbrev pub StandsInText : Scoping → ℕ → ℕ → Type 0
 StandsInText scoping number text = option_map (λ l. l.place.text) (slice_get scoping.located number) ≡ Some text
 
 -- the plan of an entry of ietf-netconf-acm
-abbrev pub plan_of_access : ValueType → (patterns : List ℕ) → Planned
-plan_of_access (Instance need) patterns = Finished NodeInstance patterns
-plan_of_access (String among starless none) (number ∷ patterns) = Finished (String among true none) []
-plan_of_access entry patterns = Finished entry patterns
+abbrev pub plan_of_access : ValueType → (patterns : List ℕ) → List Named → Planned
+plan_of_access (Instance need) patterns names = Finished NodeInstance patterns names
+plan_of_access (String among starless none) (number ∷ patterns) names = Finished (String among true none) [] names
+plan_of_access entry patterns names = Finished entry patterns names
 
 -- what is planned in the text of a number
 abbrev pub planned_in : (text : ℕ) → Planned → Planned
-planned_in zero (Finished entry patterns) = plan_of_access entry patterns
+planned_in zero (Finished entry patterns names) = plan_of_access entry patterns names
 planned_in zero planned = planned
 planned_in (suc text) planned = planned
 
@@ -49,7 +50,7 @@ abbrev pub meant_with : Option ValueType → BuiltIn → Located → Option Mean
 meant_with entry Union l = Some (OneOf (parts_of TypeName l))
 meant_with entry IdentityRef l = Some (DerivedFrom (parts_of Base l))
 meant_with entry LeafRef l = option_map (λ path. Refers path (required true (below l.statement))) (part_of Path l)
-meant_with entry one l = option_map (λ it. Entry it (parts_of Pattern l)) entry
+meant_with entry one l = option_map (λ it. Entry it (parts_of Pattern l) (listing_of one (below l.statement))) entry
 
 abbrev pub ArePlan : List Located → Option Planned → Option Meaning → Type 0
 ArePlan located None None = Unit {0}
@@ -58,17 +59,25 @@ ArePlan located planned m = ⊥
 
 -- its kind, by which it is known which parts may stand in a type over it
 abbrev pub shape_of : Planned → ValueType
-shape_of (Finished entry patterns) = entry
+shape_of (Finished entry patterns names) = entry
 shape_of (Members numbers) = UnionType []
 shape_of (Bases numbers) = IdentityType []
 shape_of (Leafref path need) = LeafrefType 0 None need
 
+-- the names that it lists
+abbrev pub names_in : Planned → List Named
+names_in (Finished entry patterns names) = names
+names_in (Members numbers) = []
+names_in (Bases numbers) = []
+names_in (Leafref path need) = []
+
 -- the plan of a type over it, with the `pattern` statements of these numbers and these parts
-abbrev pub planned_over : Planned → (own : List ℕ) → List Statement → Option Planned
-planned_over (Finished entry patterns) own ss = option_map (λ left. Finished left (patterns ++ own)) (narrowed entry ss)
-planned_over (Members numbers) own ss = Some (Members numbers)
-planned_over (Bases numbers) own ss = Some (Bases numbers)
-planned_over (Leafref path need) own ss = Some (Leafref path (required need ss))
+abbrev pub planned_over : (holds : Statement → Bool) → Planned → (own : List ℕ) → List Statement → Option Planned
+planned_over holds (Finished entry patterns names) own ss =
+    option_map (λ left. Finished left (patterns ++ own) (names_left entry names ss)) (narrowed holds entry ss)
+planned_over holds (Members numbers) own ss = Some (Members numbers)
+planned_over holds (Bases numbers) own ss = Some (Bases numbers)
+planned_over holds (Leafref path need) own ss = Some (Leafref path (required need ss))
 
 -- what was found of a statement, whose plan may be new
 abbrev pub IsFound : (on : ℕ → List ℕ → Bool) → Scoping → List Planned → Located → Found → Type 0
@@ -90,18 +99,20 @@ abbrev pub LacksPlan : Meanings → ℕ → Type 0
 LacksPlan meanings number = (place : ℕ) (planned : Planned) → FindsPlan meanings number place planned → ⊥
 
 -- what is found of a type with these patterns and parts over one of a plan
-abbrev pub IsOver : ℕ → Planned → (own : List ℕ) → List Statement → Found → Type 0
-IsOver place planned own ss (New other) =
-    (planned_over planned own ss ≡ Some other) × (narrowed_faults (shape_of planned) ss ≡ [])
-IsOver place planned own ss (Same Nothing) = ⊥
-IsOver place planned own ss (Same (Broken fault)) = first (narrowed_faults (shape_of planned) ss) ≡ Some fault
-IsOver place planned own ss (Same (Plan number)) =
-    (number ≡ place) × (planned_over planned own ss ≡ Some planned) × (narrowed_faults (shape_of planned) ss ≡ [])
+abbrev pub IsOver : (holds : Statement → Bool) → ℕ → Planned → (own : List ℕ) → List Statement → Found → Type 0
+IsOver holds place planned own ss (New other) =
+    (planned_over holds planned own ss ≡ Some other) × (narrowed_faults (shape_of planned) (names_in planned) ss ≡ [])
+IsOver holds place planned own ss (Same Nothing) = ⊥
+IsOver holds place planned own ss (Same (Broken fault)) =
+    first (narrowed_faults (shape_of planned) (names_in planned) ss) ≡ Some fault
+IsOver holds place planned own ss (Same (Plan number)) =
+    (number ≡ place) × (planned_over holds planned own ss ≡ Some planned)
+    × (narrowed_faults (shape_of planned) (names_in planned) ss ≡ [])
 
 -- over that of a number
-abbrev pub IsOverBase : Meanings → ℕ → (own : List ℕ) → List Statement → Found → Type 0
-IsOverBase meanings base own ss found =
-    ((place : ℕ) × (planned : Planned) × FindsPlan meanings base place planned × IsOver place planned own ss found)
+abbrev pub IsOverBase : (holds : Statement → Bool) → Meanings → ℕ → (own : List ℕ) → List Statement → Found → Type 0
+IsOverBase holds meanings base own ss found =
+    ((place : ℕ) × (planned : Planned) × FindsPlan meanings base place planned × IsOver holds place planned own ss found)
     ⊎ (LacksPlan meanings base × (found ≡ Same Nothing))
 
 -- with what was found of a number

@@ -114,7 +114,7 @@ module _ (derived : List Located → List QName → Type 0) (on : ℕ → List �
 
       by : (planned : Planned) (m : Meaning) → IsPlan w.scoping.located planned m → Means on w.scoping.texts l m → ((member : Located) → Contains (members_of m) member → Closes member) →
           Fits derived w table.known planned entry.0 → One l given
-      by (Finished one ns) (Entry t ps) is means members fits = record { m = Entry t ps; entry = entry.0; means_it = means; at = entry.1; is_it = patterned w.scoping.located ns ps one t entry.0 is.0 is.1 fits; members = none }
+      by (Finished one ns listed) (Entry t ps taken) is means members fits = record { m = Entry t ps taken; entry = entry.0; means_it = means; at = entry.1; is_it = patterned w.scoping.located ns ps one t entry.0 is.0 is.1 fits; members = none }
       by (Members numbers) (OneOf ls) is means members fits = record {
         m = OneOf ls;
         entry = UnionType fits.0;
@@ -132,16 +132,16 @@ module _ (derived : List Located → List QName → Type 0) (on : ℕ → List �
         is_it = (fits.leads l is.0, is.1);
         members = none;
       }
-      by (Finished one ns) (OneOf ls) is means members fits = absurd is
-      by (Finished one ns) (DerivedFrom ls) is means members fits = absurd is
-      by (Finished one ns) (Refers l other) is means members fits = absurd is
-      by (Members numbers) (Entry t ps) is means members fits = absurd is
+      by (Finished one ns listed) (OneOf ls) is means members fits = absurd is
+      by (Finished one ns listed) (DerivedFrom ls) is means members fits = absurd is
+      by (Finished one ns listed) (Refers l other) is means members fits = absurd is
+      by (Members numbers) (Entry t ps taken) is means members fits = absurd is
       by (Members numbers) (DerivedFrom ls) is means members fits = absurd is
       by (Members numbers) (Refers l other) is means members fits = absurd is
-      by (Bases bases) (Entry t ps) is means members fits = absurd is
+      by (Bases bases) (Entry t ps taken) is means members fits = absurd is
       by (Bases bases) (OneOf ls) is means members fits = absurd is
       by (Bases bases) (Refers l other) is means members fits = absurd is
-      by (Leafref path need) (Entry t ps) is means members fits = absurd is
+      by (Leafref path need) (Entry t ps taken) is means members fits = absurd is
       by (Leafref path need) (OneOf ls) is means members fits = absurd is
       by (Leafref path need) (DerivedFrom ls) is means members fits = absurd is
 

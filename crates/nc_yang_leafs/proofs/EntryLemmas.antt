@@ -10,14 +10,15 @@ use Rattle.nc_yang_meanings.specs.declared.planned.Planned.TheVariants.{Bases, F
 use Rattle.nc_yang_scopes.specs.Numbers.{AreNumbers}
 use Rattle.nc_yang_scopes.specs.declared.naming.TextFault.{TextFault}
 use Rattle.nc_yang_statements.specs.declared.stop.Stop.{Stop}
+use Rattle.nc_yang_types.specs.declared.member.Named.{Named}
 use Rattle.nc_yang_leafs.specs.declared.table.Table.{Table}
 use Rattle.nc_yang_leafs.specs.Patterns.{with_numbers}
 use Rattle.nc_yang_leafs.specs.inner.Tables.{Enters, IsLeafref, Work}
 use Rattle.nc_yang_leafs.proofs.AskLemmas.{asked_none}
 
 module _ (derived : List Located → List QName → Type 0) (w : Work) (table : Table) (planned : Planned) where
-  pub enters_finished : (one entry : ValueType) (ns : List ℕ) → planned ≡ Finished one ns → entry ≡ with_numbers ns one → Enters derived w planned table table entry
-  enters_finished one entry ns is same = subst (λ z. Enters derived w z table table entry) (sym is) (record { numbers = []; asked = asked_none w table; fits = same })
+  pub enters_finished : (one entry : ValueType) (ns : List ℕ) (listed : List Named) → planned ≡ Finished one ns listed → entry ≡ with_numbers ns one → Enters derived w planned table table entry
+  enters_finished one entry ns listed is same = subst (λ z. Enters derived w z table table entry) (sym is) (record { numbers = []; asked = asked_none w table; fits = same })
 
   pub enters_bases : (bases slice : List ℕ) (names : List QName) (located : List Located) → planned ≡ Bases bases → slice ≡ bases → located ≡ w.scoping.located →
       ((ls : List Located) → AreNumbers located slice ls → derived ls names) → Enters derived w planned table table (IdentityType names)

@@ -73,7 +73,7 @@ module _ (scoping : Scoping) (given : Tables) (meanings : Meanings) (marks : Lis
     HaveFirsts = AreFirsts derived scoping.located meanings.plans marks firsts
 
     fits_later : HaveFirsts → (known : List (Option Slot)) (k n : ℕ) (planned : Planned) (entry : ValueType) → is_plain meanings.findings marks planned ≡ true → Fits derived (at_node k) known planned entry → Fits derived (at_node n) known planned entry
-    fits_later shared known k n (Finished one patterns) entry plain h = h
+    fits_later shared known k n (Finished one patterns listed) entry plain h = h
     fits_later shared known k n (Bases bases) entry plain h = h
     fits_later shared known k n (Leafref path need) entry plain h = absurd (cc)
     fits_later shared known k n (Members members) entry plain h = (

@@ -25,10 +25,11 @@ use Rattle.nc_yang_scopes.specs.declared.naming.TextFault.{TextFault}
 use Rattle.nc_yang_scopes.specs.Numbers.{AreNumbers}
 use Rattle.nc_yang_scopes.specs.Parts.{in_it, part_of, parts_of}
 use Rattle.nc_yang_scopes.specs.Scopes.{Located}
-use Rattle.nc_yang_types.specs.Entries.{narrowed, own, required}
+use Rattle.nc_yang_types.specs.declared.member.Named.{Named}
+use Rattle.nc_yang_types.specs.Entries.{listing_of, names_left, narrowed, own, required}
 use Rattle.nc_yang_types.proofs.PatternLemmas.{AreRead, narrowed_read, own_read}
 use Rattle.nc_yang_meanings.specs.Features.{stands}
-use Rattle.nc_yang_meanings.specs.Meanings.{DerivedFrom, Entry, Meaning, Means, OneOf, Refers, by_itself, in_text, meant, of_access, over, said, shape, with_parts}
+use Rattle.nc_yang_meanings.specs.Meanings.{DerivedFrom, Entry, Meaning, Means, OneOf, Refers, by_itself, in_text, meant, names_of, of_access, over, said, shape, with_parts}
 use Rattle.nc_yang_meanings.specs.Wholes.{members_of}
 use Rattle.nc_yang_leafs.specs.declared.bare.Typed.{Typed}
 use Rattle.nc_yang_leafs.specs.Bases.{Basis, leads}
@@ -120,7 +121,7 @@ module _ (derived : List Located → List QName → Type 0) (leads : Located →
   same_patterned one ps e plain is = is
 
   same_named : (m : Meaning) (e : ValueType) → is_string e ≡ false → IsEntry derived named leads m e → IsEntry derived later leads m e
-  same_named (Entry one ps) e plain is = same_patterned one ps e plain is
+  same_named (Entry one ps taken) e plain is = same_patterned one ps e plain is
   same_named (OneOf members) (UnionType numbers) plain is = is
   same_named (DerivedFrom bases) (IdentityType names) plain is = is
   same_named (Refers path need) (LeafrefType target above required) plain is = is
@@ -128,7 +129,7 @@ module _ (derived : List Located → List QName → Type 0) (leads : Located →
 
   string_named : (m : Meaning) (lengths : List Between) (starless : Bool) (old numbers : List ℕ) → ((ps : List Located) → named old ps → later numbers ps) → IsEntry derived named leads m (String lengths starless old) →
       IsEntry derived later leads m (String lengths starless numbers)
-  string_named (Entry one ps) lengths starless old numbers names is = by one is
+  string_named (Entry one ps taken) lengths starless old numbers names is = by one is
     where
       by : (one : ValueType) → IsPatterned named one ps (String lengths starless old) → IsPatterned later one ps (String lengths starless numbers)
       by (String others also blank) is =
@@ -210,7 +211,7 @@ all_parts l (s ∷ ss) h = by (is_same_keyword Pattern (kind s)) refl (all_parts
     by false e rest = rest
 
 abbrev pub ReadsAll : Meaning → Type 0
-ReadsAll (Entry entry patterns) = All (λ (p : Located). IsPattern (name p.statement)) patterns
+ReadsAll (Entry entry patterns taken) = All (λ (p : Located). IsPattern (name p.statement)) patterns
 ReadsAll (OneOf members) = Unit {0}
 ReadsAll (DerivedFrom bases) = Unit {0}
 ReadsAll (Refers path need) = Unit {0}
@@ -226,15 +227,15 @@ said_reads : (on : ℕ → List ℕ → Bool) (one : BuiltIn) (l : Located) (m :
 said_reads on Union l m h e = is_read (OneOf (parts_of TypeName l)) m tt e
 said_reads on IdentityRef l m h e = is_read (DerivedFrom (parts_of Base l)) m tt e
 said_reads on LeafRef l m h e = as_read (λ path. Refers path (required true (below l.statement))) (part_of Path l) m (λ path. tt) e
-said_reads on one l m h e = as_read (λ entry. Entry entry (parts_of Pattern l)) (own (stands on l.place.text) one (below l.statement)) m (λ entry. h) e
+said_reads on one l m h e = as_read (λ entry. Entry entry (parts_of Pattern l) (listing_of one (below l.statement))) (own (stands on l.place.text) one (below l.statement)) m (λ entry. h) e
 
-access_reads : (entry : ValueType) (patterns : List Located) → All (λ (p : Located). IsPattern (name p.statement)) patterns → ReadsAll (of_access entry patterns)
-access_reads (Instance need) patterns h = h
-access_reads (String among starless blank) (p ∷ patterns) h = All-nil (λ (p : Located). IsPattern (name p.statement))
-access_reads entry patterns h = h
+access_reads : (entry : ValueType) (patterns : List Located) (taken : List Named) → All (λ (p : Located). IsPattern (name p.statement)) patterns → ReadsAll (of_access entry patterns taken)
+access_reads (Instance need) patterns taken h = h
+access_reads (String among starless blank) (p ∷ patterns) taken h = All-nil (λ (p : Located). IsPattern (name p.statement))
+access_reads entry patterns taken h = h
 
 text_reads : (text : ℕ) (m : Meaning) → ReadsAll m → ReadsAll (in_text text m)
-text_reads zero (Entry entry patterns) h = access_reads entry patterns h
+text_reads zero (Entry entry patterns taken) h = access_reads entry patterns taken h
 text_reads zero (OneOf members) h = h
 text_reads zero (DerivedFrom bases) h = h
 text_reads zero (Refers path need) h = h
@@ -247,24 +248,25 @@ meant_reads on one l m h e = by (said on one l) refl e
     by None is e = absurd (cc)
     by (Some n) is e = let same : in_text l.place.text n ≡ m = cc in subst ReadsAll same (text_reads l.place.text n (said_reads on one l n h is))
 
-parts_read : (n m : Meaning) (l : Located) → ReadsAll n → All (λ (p : Located). IsPattern (name p.statement)) (parts_of Pattern l) → with_parts n l ≡ Some m → ReadsAll m
-parts_read (Entry base patterns) m l before h e =
-    as_read (λ left. Entry left (patterns ++ parts_of Pattern l)) (narrowed base (below l.statement)) m
+parts_read : (on : ℕ → List ℕ → Bool) (n m : Meaning) (l : Located) → ReadsAll n → All (λ (p : Located). IsPattern (name p.statement)) (parts_of Pattern l) → with_parts on n l ≡ Some m → ReadsAll m
+parts_read on (Entry base patterns taken) m l before h e =
+    as_read (λ left. Entry left (patterns ++ parts_of Pattern l) (names_left base taken (below l.statement))) (narrowed (stands on l.place.text) base (below l.statement)) m
     (λ left. All-append (λ (p : Located). IsPattern (name p.statement)) patterns (parts_of Pattern l) before h) e
-parts_read (OneOf members) m l before h e = is_read (OneOf members) m tt e
-parts_read (DerivedFrom bases) m l before h e = is_read (DerivedFrom bases) m tt e
-parts_read (Refers path need) m l before h e = is_read (Refers path (required need (below l.statement))) m tt e
+parts_read on (OneOf members) m l before h e = is_read (OneOf members) m tt e
+parts_read on (DerivedFrom bases) m l before h e = is_read (DerivedFrom bases) m tt e
+parts_read on (Refers path need) m l before h e = is_read (Refers path (required need (below l.statement))) m tt e
 
 means_reads : (on : ℕ → List ℕ → Bool) (texts : List Statement) (l : Located) (m : Meaning) → Means on texts l m → ReadsAll m
 means_reads on texts _ _ (by_itself l one m built kept is) = meant_reads on one l m (all_parts l (below l.statement) (own_read one l.statement kept)) is
 means_reads on texts _ _ (over l base n m base_is means kept is) =
-    parts_read n m l (means_reads on texts base n means) (all_parts l (below l.statement) (narrowed_read (shape n) (below l.statement) kept)) is
+    parts_read on n m l (means_reads on texts base n means) (all_parts l (below l.statement) (narrowed_read (shape n) (names_of n) (below l.statement) kept)) is
 
 -- an entry that names `pattern` statements is of a meaning that has them
 record HoldsThem (located : List Located) (m : Meaning) (e : ValueType) : Type 0 where
   entry : ValueType
   patterns : List Located
-  is : m ≡ Entry entry patterns
+  names : List Named
+  is : m ≡ Entry entry patterns names
   are : AreNumbers located (numbers_in e) patterns
 
 module _ (derived : List Located → List QName → Type 0) (located : List Located) (leads : Located → Option LeafrefEnd) where
@@ -276,7 +278,7 @@ module _ (derived : List Located → List QName → Type 0) (located : List Loca
       one_of_them one ps is = absurd (cc)
 
       by : (m : Meaning) → IsEntry derived (AreNumbers located) leads m (String lengths starless old) → HoldsThem located m (String lengths starless old)
-      by (Entry one ps) is = record { entry = one; patterns = ps; is = refl; are = one_of_them one ps is }
+      by (Entry one ps taken) is = record { entry = one; patterns = ps; names = taken; is = refl; are = one_of_them one ps is }
       by (OneOf members) is = absurd is
       by (DerivedFrom bases) is = absurd is
       by (Refers path need) is = absurd is
@@ -298,7 +300,7 @@ module _ (derived : List Located → List QName → Type 0) (b : Basis) (tables 
       let h = holds_them derived b.scoping.located (leads b.scoping b.given u.0) one.m e place s
       (subst (IsEntry derived (AreNumbers b.scoping.located) (leads b.scoping b.given u.0) one.m) same one.is_it) there in
       let found = number_in_place (slice_get b.scoping.located) (numbers_in e) h.patterns h.are place s there in
-      let means : Means b.on b.scoping.texts u.3.one (Entry h.entry h.patterns) = subst (Means b.on b.scoping.texts u.3.one) h.is one.means_it in
+      let means : Means b.on b.scoping.texts u.3.one (Entry h.entry h.patterns h.names) = subst (Means b.on b.scoping.texts u.3.one) h.is one.means_it in
       record {
         pattern = found.0;
         at = found.2;
@@ -313,10 +315,11 @@ module _ (derived : List Located → List QName → Type 0) (b : Basis) (tables 
           among = u.3.among;
           entry = h.entry;
           patterns = h.patterns;
+          names = h.names;
           means = means;
           holds = contains_at h.patterns place found.0 found.1;
         };
-        read = all_at (λ (p : Located). IsPattern (name p.statement)) h.patterns place found.0 (means_reads b.on b.scoping.texts u.3.one (Entry h.entry h.patterns) means) found.1;
+        read = all_at (λ (p : Located). IsPattern (name p.statement)) h.patterns place found.0 (means_reads b.on b.scoping.texts u.3.one (Entry h.entry h.patterns h.names) means) found.1;
       }
 
   each_readable : (k : ℕ) (e : ValueType) → slice_get tables.types k ≡ Some e → All (IsReadable b.scoping.located) (numbers_in e)

@@ -100,8 +100,8 @@ module _ (derived : List Located → List QName → Type 0) (b : Basis) (tables 
     -- where a leafref of a meaning ends
     leafref_is : (number : ℕ) (l : Located) (m : Meaning) (target : ℕ) (above : Option ℕ) (need : Bool) → Means b.on b.scoping.texts l m →
         IsEntry derived (NameEach tables.patterns) (leads b.scoping b.given number) m (Leafref target above need) → IsEnd b.given number (record { target = target; above = above })
-    leafref_is number l (Entry entry ps) target above need means is =
-        absurd (patterned_apart (NameEach tables.patterns) entry ps target above need (means_sound b.on b.scoping.texts l (Entry entry ps) means) is)
+    leafref_is number l (Entry entry ps taken) target above need means is =
+        absurd (patterned_apart (NameEach tables.patterns) entry ps target above need (means_sound b.on b.scoping.texts l (Entry entry ps taken) means) is)
     leafref_is number l (OneOf members) target above need means is = absurd is
     leafref_is number l (DerivedFrom bases) target above need means is = absurd is
     leafref_is number l (Refers path required) target above need means is =
@@ -118,7 +118,7 @@ module _ (derived : List Located → List QName → Type 0) (b : Basis) (tables 
     module _ (named : (bases : List Located) (names : List QName) → derived bases names → All (IsIdentityOf tables) names) where
       entry_proper : (number : ℕ) (l : Located) (m : Meaning) (entry : ValueType) → Means b.on b.scoping.texts l m → IsEntry derived (NameEach tables.patterns) (leads b.scoping b.given number) m entry →
           HasTypes (Means b.on b.scoping.texts) (IsEntry derived (NameEach tables.patterns) (leads b.scoping b.given number)) tables.types (members_of m) (numbers_of m entry) → IsProperType tables entry
-      entry_proper number l (Entry one ps) entry means is members = patterned_proper (NameEach tables.patterns) tables one ps entry (means_sound b.on b.scoping.texts l (Entry one ps) means) is
+      entry_proper number l (Entry one ps taken) entry means is members = patterned_proper (NameEach tables.patterns) tables one ps entry (means_sound b.on b.scoping.texts l (Entry one ps taken) means) is
       entry_proper number l (OneOf ls) (Members numbers) means is members = all_there (Means b.on b.scoping.texts) (IsEntry derived (NameEach tables.patterns) (leads b.scoping b.given number)) tables.types ls numbers members
       entry_proper number l (OneOf ls) (Whole among) means is members = absurd is
       entry_proper number l (OneOf ls) (Decimal digits among) means is members = absurd is

@@ -14,13 +14,14 @@ use Rattle.nc_yang_statements.specs.declared.keyword.Keyword.TheVariants.{Base, 
 use Rattle.nc_yang_statements.specs.Statements.{below, name, part}
 use Rattle.nc_yang_scopes.specs.Scopes.{Located}
 use Rattle.nc_yang_types.specs.declared.bound.Counted.TheVariants.{Units, Lengths}
-use Rattle.nc_yang_types.specs.Entries.{decimal, decimals, digits_by, digits_in, digits_of, integers, lengths, narrowed, own, own_faults, required, restricted}
+use Rattle.nc_yang_types.specs.Entries.{decimal, decimals, digits_by, digits_in, digits_of, integers, lengths, listing_of, names_left, narrowed, own, own_faults, required, restricted}
+use Rattle.nc_yang_types.specs.declared.member.Named.{Named}
 use Rattle.nc_yang_types.specs.Members.{bit_names, enum_names}
 use Rattle.nc_yang_meanings.specs.Features.{stands}
 use Rattle.nc_yang_meanings.specs.Meanings.{DerivedFrom, Entry, Meaning, Means, OneOf, Refers, by_itself, in_text, meant, of_access, over, said, with_parts}
 use Rattle.nc_yang_meanings.specs.Places.{part_of, parts_of}
 use Rattle.nc_yang_leafs.specs.Typings.{IsPatterned}
-use Rattle.nc_yang_types.proofs.ApartLemmas.{names_apart}
+use Rattle.nc_yang_types.proofs.ApartLemmas.{chosen_apart, names_apart}
 
 -- an entry that names no other is in order
 abbrev pub IsSound : ValueType → Type 0
@@ -79,25 +80,32 @@ own_sound holds Uint32 s entry off e = made Whole (λ among. tt) (restricted (Un
 own_sound holds Uint64 s entry off e = made Whole (λ among. tt) (restricted (Units 0) Range (integers Uint64) (below s)) entry e
 own_sound holds Union s entry off e = absurd (cc)
 
+-- those that take names
+enumeration_sound : (names : List (List ℕ)) (entry : ValueType) → Some (Names names) ≡ Some entry → IsSound entry
+enumeration_sound names entry e = given (Names names) entry tt e
+
+bits_sound : (names : List (List ℕ)) (entry : ValueType) → Some (Set names) ≡ Some entry → AllPairs (λ name later. name ≢ later) names → IsSound entry
+bits_sound names entry e apart = given (Set names) entry apart e
+
 -- of a type over another
-narrowed_sound : (base entry : ValueType) (ss : List Statement) → IsSound base → narrowed base ss ≡ Some entry → IsSound entry
-narrowed_sound (Whole among) entry ss h e = made Whole (λ left. tt) (restricted (Units 0) Range among ss) entry e
-narrowed_sound (Decimal digits among) entry ss h e = made (λ left. Decimal digits left) (λ left. h) (restricted (Units digits) Range among ss) entry e
-narrowed_sound (String among starless patterns) entry ss h e = made (λ left. String left starless patterns) (λ left. tt) (restricted Lengths Length among ss) entry e
-narrowed_sound (Octets among) entry ss h e = made Octets (λ left. tt) (restricted Lengths Length among ss) entry e
-narrowed_sound (Leafref target above need) entry ss h e = absurd h
-narrowed_sound (Instance need) entry ss h e = given (Instance (required need ss)) entry tt e
-narrowed_sound Truth entry ss h e = given Truth entry tt e
-narrowed_sound (Names names) entry ss h e = given (Names names) entry tt e
-narrowed_sound (Set names) entry ss h e = given (Set names) entry h e
-narrowed_sound Nothing entry ss h e = given Nothing entry tt e
-narrowed_sound (Members members) entry ss h e = absurd h
-narrowed_sound (Identity among) entry ss h e = absurd h
-narrowed_sound NodeInstance entry ss h e = given NodeInstance entry tt e
+narrowed_sound : (holds : Statement → Bool) (base entry : ValueType) (ss : List Statement) → IsSound base → narrowed holds base ss ≡ Some entry → IsSound entry
+narrowed_sound holds (Whole among) entry ss h e = made Whole (λ left. tt) (restricted (Units 0) Range among ss) entry e
+narrowed_sound holds (Decimal digits among) entry ss h e = made (λ left. Decimal digits left) (λ left. h) (restricted (Units digits) Range among ss) entry e
+narrowed_sound holds (String among starless patterns) entry ss h e = made (λ left. String left starless patterns) (λ left. tt) (restricted Lengths Length among ss) entry e
+narrowed_sound holds (Octets among) entry ss h e = made Octets (λ left. tt) (restricted Lengths Length among ss) entry e
+narrowed_sound holds (Leafref target above need) entry ss h e = absurd h
+narrowed_sound holds (Instance need) entry ss h e = given (Instance (required need ss)) entry tt e
+narrowed_sound holds Truth entry ss h e = given Truth entry tt e
+narrowed_sound holds (Names taken) entry ss h e = enumeration_sound _ entry e
+narrowed_sound holds (Set taken) entry ss h e = bits_sound _ entry e (chosen_apart holds ss taken h)
+narrowed_sound holds Nothing entry ss h e = given Nothing entry tt e
+narrowed_sound holds (Members members) entry ss h e = absurd h
+narrowed_sound holds (Identity among) entry ss h e = absurd h
+narrowed_sound holds NodeInstance entry ss h e = given NodeInstance entry tt e
 
 -- of a meaning
 abbrev pub IsSoundMeaning : Meaning → Type 0
-IsSoundMeaning (Entry entry patterns) = IsSound entry
+IsSoundMeaning (Entry entry patterns names) = IsSound entry
 IsSoundMeaning (OneOf members) = Unit {0}
 IsSoundMeaning (DerivedFrom bases) = Unit {0}
 IsSoundMeaning (Refers path need) = Unit {0}
@@ -113,30 +121,30 @@ said_sound : (on : ℕ → List ℕ → Bool) (one : BuiltIn) (l : Located) (m :
 said_sound on Union l m off e = is_meant (OneOf (parts_of TypeName l)) m tt e
 said_sound on IdentityRef l m off e = is_meant (DerivedFrom (parts_of Base l)) m tt e
 said_sound on LeafRef l m off e = as_meant (λ path. Refers path (required true (below l.statement))) (part_of Path l) m (λ path f. tt) e
-said_sound on Binary l m off e = as_meant (λ entry. Entry entry (parts_of Pattern l)) (own (stands on l.place.text) Binary (below l.statement)) m (λ entry f. own_sound (stands on l.place.text) Binary l.statement entry off f) e
-said_sound on Bits l m off e = as_meant (λ entry. Entry entry (parts_of Pattern l)) (own (stands on l.place.text) Bits (below l.statement)) m (λ entry f. own_sound (stands on l.place.text) Bits l.statement entry off f) e
-said_sound on Boolean l m off e = as_meant (λ entry. Entry entry (parts_of Pattern l)) (own (stands on l.place.text) Boolean (below l.statement)) m (λ entry f. own_sound (stands on l.place.text) Boolean l.statement entry off f) e
-said_sound on Decimal64 l m off e = as_meant (λ entry. Entry entry (parts_of Pattern l)) (own (stands on l.place.text) Decimal64 (below l.statement)) m (λ entry f. own_sound (stands on l.place.text) Decimal64 l.statement entry off f) e
-said_sound on Empty l m off e = as_meant (λ entry. Entry entry (parts_of Pattern l)) (own (stands on l.place.text) Empty (below l.statement)) m (λ entry f. own_sound (stands on l.place.text) Empty l.statement entry off f) e
-said_sound on Enumeration l m off e = as_meant (λ entry. Entry entry (parts_of Pattern l)) (own (stands on l.place.text) Enumeration (below l.statement)) m (λ entry f. own_sound (stands on l.place.text) Enumeration l.statement entry off f) e
-said_sound on InstanceIdentifier l m off e = as_meant (λ entry. Entry entry (parts_of Pattern l)) (own (stands on l.place.text) InstanceIdentifier (below l.statement)) m (λ entry f. own_sound (stands on l.place.text) InstanceIdentifier l.statement entry off f) e
-said_sound on Int8 l m off e = as_meant (λ entry. Entry entry (parts_of Pattern l)) (own (stands on l.place.text) Int8 (below l.statement)) m (λ entry f. own_sound (stands on l.place.text) Int8 l.statement entry off f) e
-said_sound on Int16 l m off e = as_meant (λ entry. Entry entry (parts_of Pattern l)) (own (stands on l.place.text) Int16 (below l.statement)) m (λ entry f. own_sound (stands on l.place.text) Int16 l.statement entry off f) e
-said_sound on Int32 l m off e = as_meant (λ entry. Entry entry (parts_of Pattern l)) (own (stands on l.place.text) Int32 (below l.statement)) m (λ entry f. own_sound (stands on l.place.text) Int32 l.statement entry off f) e
-said_sound on Int64 l m off e = as_meant (λ entry. Entry entry (parts_of Pattern l)) (own (stands on l.place.text) Int64 (below l.statement)) m (λ entry f. own_sound (stands on l.place.text) Int64 l.statement entry off f) e
-said_sound on Chars l m off e = as_meant (λ entry. Entry entry (parts_of Pattern l)) (own (stands on l.place.text) Chars (below l.statement)) m (λ entry f. own_sound (stands on l.place.text) Chars l.statement entry off f) e
-said_sound on Uint8 l m off e = as_meant (λ entry. Entry entry (parts_of Pattern l)) (own (stands on l.place.text) Uint8 (below l.statement)) m (λ entry f. own_sound (stands on l.place.text) Uint8 l.statement entry off f) e
-said_sound on Uint16 l m off e = as_meant (λ entry. Entry entry (parts_of Pattern l)) (own (stands on l.place.text) Uint16 (below l.statement)) m (λ entry f. own_sound (stands on l.place.text) Uint16 l.statement entry off f) e
-said_sound on Uint32 l m off e = as_meant (λ entry. Entry entry (parts_of Pattern l)) (own (stands on l.place.text) Uint32 (below l.statement)) m (λ entry f. own_sound (stands on l.place.text) Uint32 l.statement entry off f) e
-said_sound on Uint64 l m off e = as_meant (λ entry. Entry entry (parts_of Pattern l)) (own (stands on l.place.text) Uint64 (below l.statement)) m (λ entry f. own_sound (stands on l.place.text) Uint64 l.statement entry off f) e
+said_sound on Binary l m off e = as_meant (λ entry. Entry entry (parts_of Pattern l) (listing_of Binary (below l.statement))) (own (stands on l.place.text) Binary (below l.statement)) m (λ entry f. own_sound (stands on l.place.text) Binary l.statement entry off f) e
+said_sound on Bits l m off e = as_meant (λ entry. Entry entry (parts_of Pattern l) (listing_of Bits (below l.statement))) (own (stands on l.place.text) Bits (below l.statement)) m (λ entry f. own_sound (stands on l.place.text) Bits l.statement entry off f) e
+said_sound on Boolean l m off e = as_meant (λ entry. Entry entry (parts_of Pattern l) (listing_of Boolean (below l.statement))) (own (stands on l.place.text) Boolean (below l.statement)) m (λ entry f. own_sound (stands on l.place.text) Boolean l.statement entry off f) e
+said_sound on Decimal64 l m off e = as_meant (λ entry. Entry entry (parts_of Pattern l) (listing_of Decimal64 (below l.statement))) (own (stands on l.place.text) Decimal64 (below l.statement)) m (λ entry f. own_sound (stands on l.place.text) Decimal64 l.statement entry off f) e
+said_sound on Empty l m off e = as_meant (λ entry. Entry entry (parts_of Pattern l) (listing_of Empty (below l.statement))) (own (stands on l.place.text) Empty (below l.statement)) m (λ entry f. own_sound (stands on l.place.text) Empty l.statement entry off f) e
+said_sound on Enumeration l m off e = as_meant (λ entry. Entry entry (parts_of Pattern l) (listing_of Enumeration (below l.statement))) (own (stands on l.place.text) Enumeration (below l.statement)) m (λ entry f. own_sound (stands on l.place.text) Enumeration l.statement entry off f) e
+said_sound on InstanceIdentifier l m off e = as_meant (λ entry. Entry entry (parts_of Pattern l) (listing_of InstanceIdentifier (below l.statement))) (own (stands on l.place.text) InstanceIdentifier (below l.statement)) m (λ entry f. own_sound (stands on l.place.text) InstanceIdentifier l.statement entry off f) e
+said_sound on Int8 l m off e = as_meant (λ entry. Entry entry (parts_of Pattern l) (listing_of Int8 (below l.statement))) (own (stands on l.place.text) Int8 (below l.statement)) m (λ entry f. own_sound (stands on l.place.text) Int8 l.statement entry off f) e
+said_sound on Int16 l m off e = as_meant (λ entry. Entry entry (parts_of Pattern l) (listing_of Int16 (below l.statement))) (own (stands on l.place.text) Int16 (below l.statement)) m (λ entry f. own_sound (stands on l.place.text) Int16 l.statement entry off f) e
+said_sound on Int32 l m off e = as_meant (λ entry. Entry entry (parts_of Pattern l) (listing_of Int32 (below l.statement))) (own (stands on l.place.text) Int32 (below l.statement)) m (λ entry f. own_sound (stands on l.place.text) Int32 l.statement entry off f) e
+said_sound on Int64 l m off e = as_meant (λ entry. Entry entry (parts_of Pattern l) (listing_of Int64 (below l.statement))) (own (stands on l.place.text) Int64 (below l.statement)) m (λ entry f. own_sound (stands on l.place.text) Int64 l.statement entry off f) e
+said_sound on Chars l m off e = as_meant (λ entry. Entry entry (parts_of Pattern l) (listing_of Chars (below l.statement))) (own (stands on l.place.text) Chars (below l.statement)) m (λ entry f. own_sound (stands on l.place.text) Chars l.statement entry off f) e
+said_sound on Uint8 l m off e = as_meant (λ entry. Entry entry (parts_of Pattern l) (listing_of Uint8 (below l.statement))) (own (stands on l.place.text) Uint8 (below l.statement)) m (λ entry f. own_sound (stands on l.place.text) Uint8 l.statement entry off f) e
+said_sound on Uint16 l m off e = as_meant (λ entry. Entry entry (parts_of Pattern l) (listing_of Uint16 (below l.statement))) (own (stands on l.place.text) Uint16 (below l.statement)) m (λ entry f. own_sound (stands on l.place.text) Uint16 l.statement entry off f) e
+said_sound on Uint32 l m off e = as_meant (λ entry. Entry entry (parts_of Pattern l) (listing_of Uint32 (below l.statement))) (own (stands on l.place.text) Uint32 (below l.statement)) m (λ entry f. own_sound (stands on l.place.text) Uint32 l.statement entry off f) e
+said_sound on Uint64 l m off e = as_meant (λ entry. Entry entry (parts_of Pattern l) (listing_of Uint64 (below l.statement))) (own (stands on l.place.text) Uint64 (below l.statement)) m (λ entry f. own_sound (stands on l.place.text) Uint64 l.statement entry off f) e
 
-access_sound : (entry : ValueType) (patterns : List Located) → IsSound entry → IsSoundMeaning (of_access entry patterns)
-access_sound (Instance need) patterns h = tt
-access_sound (String among starless none) (p ∷ patterns) h = tt
-access_sound entry patterns h = h
+access_sound : (entry : ValueType) (patterns : List Located) (names : List Named) → IsSound entry → IsSoundMeaning (of_access entry patterns names)
+access_sound (Instance need) patterns names h = tt
+access_sound (String among starless none) (p ∷ patterns) names h = tt
+access_sound entry patterns names h = h
 
 text_sound : (text : ℕ) (m : Meaning) → IsSoundMeaning m → IsSoundMeaning (in_text text m)
-text_sound zero (Entry entry patterns) h = access_sound entry patterns h
+text_sound zero (Entry entry patterns names) h = access_sound entry patterns names h
 text_sound zero (OneOf members) h = h
 text_sound zero (DerivedFrom bases) h = h
 text_sound zero (Refers path need) h = h
@@ -148,16 +156,17 @@ meant_sound on one l m off e = by (said on one l) refl e
     by : (o : Option Meaning) → said on one l ≡ o → option_map (in_text l.place.text) o ≡ Some m → IsSoundMeaning m
     by o is e = as_meant (in_text l.place.text) o m (λ n f. text_sound l.place.text n (said_sound on one l n off (is ∙ f))) e
 
-parts_sound : (n m : Meaning) (l : Located) → IsSoundMeaning n → with_parts n l ≡ Some m → IsSoundMeaning m
-parts_sound (Entry base patterns) m l h e =
-    as_meant (λ left. Entry left (patterns ++ parts_of Pattern l)) (narrowed base (below l.statement)) m (λ entry f. narrowed_sound base entry (below l.statement) h f) e
-parts_sound (OneOf members) m l h e = is_meant (OneOf members) m tt e
-parts_sound (DerivedFrom bases) m l h e = is_meant (DerivedFrom bases) m tt e
-parts_sound (Refers path need) m l h e = is_meant (Refers path (required need (below l.statement))) m tt e
+parts_sound : (on : ℕ → List ℕ → Bool) (n m : Meaning) (l : Located) → IsSoundMeaning n → with_parts on n l ≡ Some m → IsSoundMeaning m
+parts_sound on (Entry base patterns names) m l h e =
+    as_meant (λ left. Entry left (patterns ++ parts_of Pattern l) (names_left base names (below l.statement))) (narrowed (stands on l.place.text) base (below l.statement)) m
+    (λ entry f. narrowed_sound (stands on l.place.text) base entry (below l.statement) h f) e
+parts_sound on (OneOf members) m l h e = is_meant (OneOf members) m tt e
+parts_sound on (DerivedFrom bases) m l h e = is_meant (DerivedFrom bases) m tt e
+parts_sound on (Refers path need) m l h e = is_meant (Refers path (required need (below l.statement))) m tt e
 
 pub means_sound : (on : ℕ → List ℕ → Bool) (texts : List Statement) (l : Located) (m : Meaning) → Means on texts l m → IsSoundMeaning m
 means_sound on texts _ _ (by_itself l one m built kept is) = meant_sound on one l m kept is
-means_sound on texts _ _ (over l base n m base_is means kept is) = parts_sound n m l (means_sound on texts base n means) is
+means_sound on texts _ _ (over l base n m base_is means kept is) = parts_sound on n m l (means_sound on texts base n means) is
 
 -- an entry of such a meaning is in order, whatever the numbers of its patterns
 pub patterned_proper : (named : List ℕ → List Located → Type 0) (tables : Tables) (one : ValueType) (patterns : List Located) (entry : ValueType) → IsSound one → IsPatterned named one patterns entry →

@@ -70,10 +70,10 @@ module _ (on : ℕ → List ℕ → Bool) (w : Work) (are : AreMeanings on w.sco
   -- a member of a union that is used is used
   member_used : (statement : Located) (planned : Planned) (meaning : Meaning) → IsPlan w.scoping.located planned meaning → Means on w.scoping.texts statement meaning →
       IsAmong on w.scoping.texts top statement → (m q : ℕ) → Contains (members_in planned) m → plan_for w.meanings.findings w.firsts m ≡ Some q → IsUsed on w top q
-  member_used statement (Finished entry ns) meaning is means among m q c at = absurd (contains_none m c)
+  member_used statement (Finished entry ns listed) meaning is means among m q c at = absurd (contains_none m c)
   member_used statement (Bases bases) meaning is means among m q c at = absurd (contains_none m c)
   member_used statement (Leafref path need) meaning is means among m q c at = absurd (contains_none m c)
-  member_used statement (Members members) (Entry entry ps) is means among m q c at = absurd is
+  member_used statement (Members members) (Entry entry ps taken) is means among m q c at = absurd is
   member_used statement (Members members) (DerivedFrom bases) is means among m q c at = absurd is
   member_used statement (Members members) (Refers path need) is means among m q c at = absurd is
   member_used statement (Members members) (OneOf ls) is means among m q c at =
@@ -106,7 +106,7 @@ module _ (on : ℕ → List ℕ → Bool) (w : Work) (are : AreMeanings on w.sco
     ]
       where
         by : (meaning : Meaning) → IsPlan w.scoping.located (Leafref loses.lost.path loses.lost.need) meaning → Means on w.scoping.texts u.statement meaning → LosesPath on w top fault
-        by (Entry entry ps) is means = absurd is
+        by (Entry entry ps taken) is means = absurd is
         by (OneOf members) is means = absurd is
         by (DerivedFrom bases) is means = absurd is
         by (Refers path need) is means = record {
@@ -118,7 +118,7 @@ module _ (on : ℕ → List ℕ → Bool) (w : Work) (are : AreMeanings on w.sco
 
 module _ (derived : List Located → List QName → Type 0) (w : Work) where
   pub fits_kept : (old new : List (Option Slot)) → Kept w old new → (planned : Planned) (entry : ValueType) → Fits derived w old planned entry → Fits derived w new planned entry
-  fits_kept old new kept (Finished entry ns) other h = h
+  fits_kept old new kept (Finished entry ns listed) other h = h
   fits_kept old new kept (Bases bases) other h = h
   fits_kept old new kept (Leafref path need) other h = h
   fits_kept old new kept (Members members) other h = (h.0, h.1, map_kept w old new kept members h.0 h.2)

@@ -28,7 +28,7 @@ abbrev pub are_unmarked : List Finding → List Bool → List ℕ → Bool
 are_unmarked findings marks members = list_all (is_unmarked_at findings marks) members
 
 abbrev pub is_plain : List Finding → List Bool → Planned → Bool
-is_plain findings marks (Finished entry patterns) = true
+is_plain findings marks (Finished entry patterns names) = true
 is_plain findings marks (Bases numbers) = true
 is_plain findings marks (Leafref path required) = false
 is_plain findings marks (Members numbers) = are_unmarked findings marks numbers

@@ -15,6 +15,7 @@ use Rattle.nc_yang_statements.specs.Statements.{line, name}
 use Rattle.nc_yang_scopes.specs.declared.naming.TextFault.{TextFault}
 use Rattle.nc_yang_scopes.specs.Numbers.{AreNumbers}
 use Rattle.nc_yang_scopes.specs.Scopes.{Located}
+use Rattle.nc_yang_types.specs.declared.member.Named.{Named}
 use Rattle.nc_yang_meanings.specs.Meanings.{Entry, Means}
 use Rattle.nc_yang_leafs.specs.declared.bare.Typed.{Typed}
 use Rattle.nc_yang_leafs.specs.Bases.{Basis, type_of}
@@ -121,7 +122,8 @@ pub record IsPatternInUse (b : Basis) (pattern : Located) : Type 0 where
   pub among : IsAmong b.on b.scoping.texts of_type one
   pub entry : ValueType
   pub patterns : List Located
-  pub means : Means b.on b.scoping.texts one (Entry entry patterns)
+  pub names : List Named
+  pub means : Means b.on b.scoping.texts one (Entry entry patterns names)
   pub holds : Contains patterns pattern
 
 -- the maker refused the pattern of a statement that is in use

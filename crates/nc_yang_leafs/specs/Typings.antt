@@ -32,7 +32,7 @@ IsPatterned named entry patterns other = entry ≡ other
 -- derived from each that some `base` statements name (RFC 7950 9.10.2), `leads` where a `path` statement leads
 abbrev pub IsEntry : (derived : List Located → List QName → Type 0) → (named : List ℕ → List Located → Type 0) →
     (leads : Located → Option LeafrefEnd) → Meaning → ValueType → Type 0
-IsEntry derived named leads (Entry entry patterns) other = IsPatterned named entry patterns other
+IsEntry derived named leads (Entry entry patterns names) other = IsPatterned named entry patterns other
 IsEntry derived named leads (OneOf members) (UnionType numbers) = Unit {0}
 IsEntry derived named leads (DerivedFrom bases) (IdentityType names) = derived bases names
 IsEntry derived named leads (Refers path need) (LeafrefType target above required) =

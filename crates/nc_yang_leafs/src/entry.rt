@@ -122,6 +122,7 @@ pub(crate) fn entry<D: Derives>(
         Planned::Finished {
             entry: one,
             patterns,
+            ..
         } => Ok(finished(alloc, one, patterns.as_slice())?),
         Planned::Members(members) => Ok(ValueType::Union {
             members: table.ask_all(alloc, site, node, members.as_slice())?,

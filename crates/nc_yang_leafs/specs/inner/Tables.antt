@@ -94,7 +94,7 @@ pub record IsLeafref (w : Work) (path : ℕ) (required : Bool) (entry : ValueTyp
 
 -- an entry is of a plan, with the numbers of its `pattern` statements or those that its members have
 abbrev pub Fits : (derived : List Located → List QName → Type 0) → Work → List (Option Slot) → Planned → ValueType → Type 0
-Fits derived w known (Finished entry patterns) other = other ≡ with_numbers patterns entry
+Fits derived w known (Finished entry patterns names) other = other ≡ with_numbers patterns entry
 Fits derived w known (Members members) other =
     (numbers : List ℕ) × (other ≡ UnionType numbers) × (map (number_at w known) members ≡ map Some numbers)
 Fits derived w known (Bases bases) other =

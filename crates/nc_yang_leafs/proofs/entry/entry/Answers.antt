@@ -6,7 +6,7 @@ use Rattle.nc_yang_leafs.proofs.entry.entry.Goals as goal
 
 pub returns-in_ok-finished-in-Finished-clause-ok : goal.returns-in_ok-finished-in-Finished-clause-ok
 returns-in_ok-finished-in-Finished-clause-ok g c =
-    enters_finished (g.D.Derives.derived c.args.identities.now) (work c.args.site.now c.args.node) c.args.table.now c.args.planned.now _ c.in_ok-finished-in-Finished.field-0 _
+    enters_finished (g.D.Derives.derived c.args.identities.now) (work c.args.site.now c.args.node) c.args.table.now c.args.planned.now _ c.in_ok-finished-in-Finished.field-0 _ _
     c.in-Finished.is (subst (λ z. c.in_ok-finished-in-Finished.field-0 ≡ with_numbers z c.in-Finished.one) c.as_slice.ensures c.in_ok-finished-in-Finished.ensures)
 
 pub returns-in_ok-names-in-Bases-clause-ok : goal.returns-in_ok-names-in-Bases-clause-ok

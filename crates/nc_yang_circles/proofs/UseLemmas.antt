@@ -43,7 +43,7 @@ module _ (on : ℕ → List ℕ → Bool) (scoping : Scoping) (meanings : Meanin
     where
       by : (m : Meaning) → IsPlan scoping.located (Leafref number p.0) m → Means on scoping.texts l m → (path : Located) × (slice_get scoping.located number ≡ Some path) × UsesPath on scoping.texts l path
       by (Refers path need) is means = (path, is.0, itself l path need means)
-      by (Entry entry patterns) is means = absurd is
+      by (Entry entry patterns names) is means = absurd is
       by (OneOf ls) is means = absurd is
       by (DerivedFrom ls) is means = absurd is
   uses_path _ _ (inner plan next number m uses) l h =
@@ -54,7 +54,7 @@ module _ (on : ℕ → List ℕ → Bool) (scoping : Scoping) (meanings : Meanin
           ((one : Located) → HasPlan on scoping meanings.plans one next → (path : Located) × (slice_get scoping.located number ≡ Some path) × UsesPath on scoping.texts one path) →
           (path : Located) × (slice_get scoping.located number ≡ Some path) × UsesPath on scoping.texts l path
       by (Refers path need) is means rest = absurd is
-      by (Entry entry patterns) is means rest = absurd is
+      by (Entry entry patterns names) is means rest = absurd is
       by (DerivedFrom ls) is means rest = absurd is
       by (OneOf ls) is means rest =
           let a = m.2 in
@@ -93,7 +93,7 @@ module _ (on : ℕ → List ℕ → Bool) (scoping : Scoping) (meanings : Meanin
     where
       by : (p : IsPlanned l number) (one : Planned) → slice_get meanings.plans p.plan ≡ Some one → IsPlan scoping.located one (Refers path need) → IsNumbered number path
       by p (Leafref place other) there is = record { plan = p.plan; at = p.at; place = place; uses = own p.plan place (other, there); is = is.0 }
-      by p (Finished entry patterns) there is = absurd is
+      by p (Finished entry patterns names) there is = absurd is
       by p (Members members) there is = absurd is
       by p (Bases bases) there is = absurd is
   numbered _ _ (member l path one ls means c uses) number here =
@@ -107,7 +107,7 @@ module _ (on : ℕ → List ℕ → Bool) (scoping : Scoping) (meanings : Meanin
           let found = number_of_one (slice_get scoping.located) members ls is c.0 one (slice_get-get_or ls c.0 one c.1 ∙ ap Some c.2) in
           let r = rest found.0 found.2 in
           record { plan = p.plan; at = p.at; place = r.place; uses = inner p.plan r.plan r.place (members, there, (found.0, found.1, r.at)) r.uses; is = r.is }
-      by p (Finished entry patterns) there is rest = absurd is
+      by p (Finished entry patterns names) there is rest = absurd is
       by p (Leafref place other) there is rest = absurd is
       by p (Bases bases) there is rest = absurd is
 

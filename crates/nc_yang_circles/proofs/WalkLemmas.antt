@@ -102,9 +102,9 @@ module _ (meanings : Meanings) (marks : List Bool) (plan : ℕ) where
   pub looks_gone : (walk : Walk) → slice_get meanings.plans plan ≡ None → Looks meanings marks plan walk walk
   looks_gone walk e = looks_none meanings marks plan walk (λ q m. (let f = m.1 in cc)) (λ q p. (let f = p.1 in cc))
 
-  pub looks_plain : (walk : Walk) (planned : Planned) → slice_get meanings.plans plan ≡ Some planned → ((entry : ValueType) × (patterns : List ℕ) × (planned ≡ Finished entry patterns)) ⊎ ((bases : List ℕ) × (planned ≡ Bases bases)) →
+  pub looks_plain : (walk : Walk) (planned : Planned) → slice_get meanings.plans plan ≡ Some planned → ((entry : ValueType) × (patterns : List ℕ) × (names : _) × (planned ≡ Finished entry patterns names)) ⊎ ((bases : List ℕ) × (planned ≡ Bases bases)) →
       Looks meanings marks plan walk walk
-  looks_plain walk planned e (inl finished) = looks_none meanings marks plan walk (λ q m. (let f = m.1 in let g = finished.2 in cc)) (λ q p. (let f = p.1 in let g = finished.2 in cc))
+  looks_plain walk planned e (inl finished) = looks_none meanings marks plan walk (λ q m. (let f = m.1 in let g = finished.3 in cc)) (λ q p. (let f = p.1 in let g = finished.3 in cc))
   looks_plain walk planned e (inr bases) = looks_none meanings marks plan walk (λ q m. (let f = m.1 in let g = bases.1 in cc)) (λ q p. (let f = p.1 in let g = bases.1 in cc))
 
   pub looks_path : (old : Walk) (paths : List ℕ) (path : ℕ) (need : Bool) → slice_get meanings.plans plan ≡ Some (Leafref path need) → paths ≡ old.paths ++ path ∷ [] →

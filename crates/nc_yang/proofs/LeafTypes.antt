@@ -181,7 +181,7 @@ module _ (derived : List Located → List QName → Type 0) (named : List ℕ �
           (subst (IsEntry derived named (leads b.scoping b.given n) m) same is) (subst (λ z. (i : ℕ) → Contains (numbers_of m z) i → Ends tables i) same below)
         where
           by : (m : Meaning) → IsAlone m → IsEntry derived named (leads b.scoping b.given n) m (Union members) → ((i : ℕ) → Contains (numbers_of m (Union members)) i → Ends tables i) → Ends tables j
-          by (Entry e ps) alone is below = absurd (let clash : has_others e ≡ true = patterned_others named e ps (Union members) is in cc)
+          by (Entry e ps taken) alone is below = absurd (let clash : has_others e ≡ true = patterned_others named e ps (Union members) is in cc)
           by (OneOf ls) alone is below = below j among
           by (DerivedFrom bases) alone is below = absurd is
           by (RefersTo path need) alone is below = absurd is
@@ -194,7 +194,7 @@ module _ (derived : List Located → List QName → Type 0) (named : List ℕ �
           (subst (IsEntry derived named (leads b.scoping b.given n) m) same is)
         where
           by : (m : Meaning) → Means b.on b.scoping.texts l m → IsAlone m → IsEntry derived named (leads b.scoping b.given n) m (Leafref to above required) → Ends tables j
-          by (Entry e ps) means alone is = absurd (let clash : has_others e ≡ true = patterned_others named e ps (Leafref to above required) is in cc)
+          by (Entry e ps taken) means alone is = absurd (let clash : has_others e ≡ true = patterned_others named e ps (Leafref to above required) is in cc)
           by (OneOf ls) means alone is = absurd is
           by (DerivedFrom bases) means alone is = absurd is
           by (RefersTo path need) means alone is = good path to (refers path to above (lift path (used l path need means)) is.0) j kind
@@ -216,7 +216,7 @@ module _ (derived : List Located → List QName → Type 0) (named : List ℕ �
 
           uses_below : (x : Meaning) → m ≡ x → (z path : Located) → Contains (members_of x) z → UsesPath b.on b.scoping.texts z path → UsesPath b.on b.scoping.texts leaf.l path
           uses_below (OneOf ms) same z path among uses = member_uses ms same z path among uses
-          uses_below (Entry e ps) same z path among uses = absurd (contains_none z among)
+          uses_below (Entry e ps taken) same z path among uses = absurd (contains_none z among)
           uses_below (DerivedFrom bases) same z path among uses = absurd (contains_none z among)
           uses_below (RefersTo to need) same z path among uses = absurd (contains_none z among)
 

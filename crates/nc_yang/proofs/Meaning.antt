@@ -23,13 +23,14 @@ use Rattle.nc_yang_loops.specs.declared.kinds.Defined.TheVariants.{Typedefs}
 use Rattle.nc_yang_loops.specs.Loops.{IsDefinition, Names, typedef_of}
 use Rattle.nc_yang_loops.proofs.Lists.{contains_cases, contains_filter, contains_get, contains_map}
 use Rattle.nc_yang_texts.specs.Rules.{KeepsTexts, looping}
-use Rattle.nc_yang_types.specs.Entries.{misused, narrowed, narrowed_faults, own, own_faults, required}
+use Rattle.nc_yang_types.specs.declared.member.Named.{Named}
+use Rattle.nc_yang_types.specs.Entries.{listing_of, misused, names_left, narrowed, narrowed_faults, own, own_faults, required}
 use Rattle.nc_yang_types.specs.Parts.{foreign, lacking, misshapen}
 use Rattle.nc_yang_types.specs.Patterns.{ill_patterns}
 use Rattle.nc_yang_types.proofs.LawLemmas.{narrowed_gives, own_gives}
 use Rattle.nc_yang_meanings.specs.Faults.{KeepsTypes}
 use Rattle.nc_yang_meanings.specs.Features.{stands}
-use Rattle.nc_yang_meanings.specs.Meanings.{Breaks, DerivedFrom, Entry, Meaning, OneOf, Refers, by_itself, in_itself, in_text, meant, of_access, over, over_base, said, shape, with_parts}
+use Rattle.nc_yang_meanings.specs.Meanings.{Breaks, DerivedFrom, Entry, Meaning, OneOf, Refers, by_itself, in_itself, in_text, meant, names_of, of_access, over, over_base, said, shape, with_parts}
 use Rattle.nc_yang_meanings.specs.Places.{base_of, built_in, in_it, of_typedef, part_of, parts_of}
 use Rattle.nc_yang_meanings.specs.Wholes.{MeansWhole, members_of, whole}
 use Rattle.nc_yang.specs.Laws.{TypesMean}
@@ -49,18 +50,18 @@ is_type s = is_same_keyword TypeName (kind s) ≡ true
 abbrev Gives : Option Meaning → List Located → Type 0
 Gives o members = (m : Meaning) × (o ≡ Some m) × ((member : Located) → Contains (members_of m) member → Contains members member)
 
-entry_gives : (patterns : List Located) (o : Option ValueType) (members : List Located) → IsSome o → Gives (option_map (λ entry. Entry entry patterns) o) members
-entry_gives patterns None members e = absurd (cc)
-entry_gives patterns (Some entry) members e = (Entry entry patterns, refl, (λ member h. absurd (contains_none member h)))
+entry_gives : (patterns : List Located) (names : List Named) (o : Option ValueType) (members : List Located) → IsSome o → Gives (option_map (λ entry. Entry entry patterns names) o) members
+entry_gives patterns names None members e = absurd (cc)
+entry_gives patterns names (Some entry) members e = (Entry entry patterns names, refl, (λ member h. absurd (contains_none member h)))
 
 -- so it is in the text of ietf-netconf-acm
-access_members : (entry : ValueType) (patterns : List Located) → members_of (of_access entry patterns) ≡ []
-access_members (Instance need) patterns = refl
-access_members (String among starless none) (p ∷ patterns) = refl
-access_members entry patterns = refl
+access_members : (entry : ValueType) (patterns : List Located) (names : List Named) → members_of (of_access entry patterns names) ≡ []
+access_members (Instance need) patterns names = refl
+access_members (String among starless none) (p ∷ patterns) names = refl
+access_members entry patterns names = refl
 
 text_members : (text : ℕ) (m : Meaning) → members_of (in_text text m) ≡ members_of m
-text_members zero (Entry entry patterns) = access_members entry patterns
+text_members zero (Entry entry patterns names) = access_members entry patterns names
 text_members zero (OneOf members) = refl
 text_members zero (DerivedFrom bases) = refl
 text_members zero (Refers path need) = refl
@@ -86,18 +87,19 @@ module _ (on : ℕ → List ℕ → Bool) (l : Located) where
   said_gives Union kept = (OneOf (parts_of TypeName l), refl, (λ member h. h))
   said_gives IdentityRef kept = (DerivedFrom (parts_of Base l), refl, (λ member h. absurd (contains_none member h)))
   said_gives LeafRef kept = leafref_gives kept
-  said_gives one kept = entry_gives (parts_of Pattern l) (own (stands on l.place.text) one (below l.statement)) (parts_of TypeName l) (own_gives (stands on l.place.text) one l.statement refl kept)
+  said_gives one kept = entry_gives (parts_of Pattern l) (listing_of one (below l.statement)) (own (stands on l.place.text) one (below l.statement)) (parts_of TypeName l) (own_gives (stands on l.place.text) one l.statement refl kept)
 
   meant_gives : (one : BuiltIn) → own_faults one l.statement ≡ [] → Gives (meant on one l) (parts_of TypeName l)
   meant_gives one kept = text_gives l.place.text (said on one l) (parts_of TypeName l) (said_gives one kept)
 
 -- what a type over another means
-parts_give : (n : Meaning) (l : Located) → narrowed_faults (shape n) (below l.statement) ≡ [] → Gives (with_parts n l) (members_of n)
-parts_give (Entry entry patterns) l kept =
-    entry_gives (patterns ++ parts_of Pattern l) (narrowed entry (below l.statement)) [] (narrowed_gives entry (below l.statement) kept)
-parts_give (OneOf members) l kept = (OneOf members, refl, (λ member h. h))
-parts_give (DerivedFrom bases) l kept = (DerivedFrom bases, refl, (λ member h. h))
-parts_give (Refers path need) l kept = (Refers path (required need (below l.statement)), refl, (λ member h. h))
+parts_give : (on : ℕ → List ℕ → Bool) (n : Meaning) (l : Located) → narrowed_faults (shape n) (names_of n) (below l.statement) ≡ [] → Gives (with_parts on n l) (members_of n)
+parts_give on (Entry entry patterns names) l kept =
+    entry_gives (patterns ++ parts_of Pattern l) (names_left entry names (below l.statement)) (narrowed (stands on l.place.text) entry (below l.statement)) []
+    (narrowed_gives (stands on l.place.text) entry names (below l.statement) kept)
+parts_give on (OneOf members) l kept = (OneOf members, refl, (λ member h. h))
+parts_give on (DerivedFrom bases) l kept = (DerivedFrom bases, refl, (λ member h. h))
+parts_give on (Refers path need) l kept = (Refers path (required need (below l.statement)), refl, (λ member h. h))
 
 -- a part of a keyword stands in the statement
 pub part_there : (l member : Located) (keyword : Keyword) → Contains (parts_of keyword l) member →
@@ -139,8 +141,8 @@ module _ (on : ℕ → List ℕ → Bool) (texts : List Statement) (keeps : Keep
 
   over_type : (l base : Located) → Looked texts l → base_of texts l ≡ Some base → MeansWhole on texts base → MeansWhole on texts l
   over_type l base k is (whole b n means members) =
-      let kept : narrowed_faults (shape n) (below l.statement) ≡ [] = none_there (narrowed_faults (shape n) (below l.statement)) (λ fault h. no_breaks l k fault (over_base l base n fault is means h)) in
-      let w = parts_give n l kept in
+      let kept : narrowed_faults (shape n) (names_of n) (below l.statement) ≡ [] = none_there (narrowed_faults (shape n) (names_of n) (below l.statement)) (λ fault h. no_breaks l k fault (over_base l base n fault is means h)) in
+      let w = parts_give on n l kept in
       whole l w.0 (over l base n w.0 is means kept w.1) (λ member h. members member (w.2 member h))
 
   -- all types in a typedef mean something

@@ -20,7 +20,7 @@ use Rattle.nc_yang_nodes.specs.declared.planned.Plan.{Plan}
 use Rattle.nc_yang_data.specs.Data.{data_faults}
 use Rattle.nc_yang_types.specs.Entries.{narrowed_faults, own_faults}
 use Rattle.nc_yang_meanings.specs.Faults.{BreaksOne}
-use Rattle.nc_yang_meanings.specs.Meanings.{Breaks as BreaksParts, in_itself, over_base, shape}
+use Rattle.nc_yang_meanings.specs.Meanings.{Breaks as BreaksParts, in_itself, names_of, over_base, shape}
 use Rattle.nc_yang_leafs.specs.Bases.{type_of}
 use Rattle.nc_yang_leafs.specs.Patterns.{Refusals, without_patterns}
 use Rattle.nc_yang_defaults.specs.Defaults.{IsBroken}
@@ -32,7 +32,7 @@ use Rattle.nc_yang.proofs.TypeReasons.{of_data, of_narrowed, of_own}
 
 of_parts : (on : ℕ → List ℕ → Bool) (texts : List Statement) (l : Located) (fault : Fault) → BreaksParts on texts l fault → OfRule fault
 of_parts on texts _ _ (in_itself l one fault built here) = All-contains OfRule (own_faults one l.statement) fault (of_own one l.statement) here
-of_parts on texts _ _ (over_base l base n fault is means here) = All-contains OfRule (narrowed_faults (shape n) (below l.statement)) fault (of_narrowed (shape n) (below l.statement)) here
+of_parts on texts _ _ (over_base l base n fault is means here) = All-contains OfRule (narrowed_faults (shape n) (names_of n) (below l.statement)) fault (of_narrowed (shape n) (names_of n) (below l.statement)) here
 
 -- or by what a member of it means
 of_one : (on : ℕ → List ℕ → Bool) (texts : List Statement) (l : Located) (fault : Fault) → BreaksOne on texts l fault → OfRule fault

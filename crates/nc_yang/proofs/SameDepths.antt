@@ -67,7 +67,7 @@ module _ (derived : List Located → List QName → Type 0) (one_derived : (base
 
     entries_alike : Deeper → (n : ℕ) (m : Meaning) (e d : ValueType) → IsAlone m → IsIn n m e → IsAlso n m d → Typed derived named b t n (members_of m) (numbers_of m e) →
         Typed derived other b u n (members_of m) (numbers_of m d) → asks t f e ≡ asks u g d
-    entries_alike deeper n (Entry x ps) e d alone is is2 h h2 = patterned_none named t f x ps e alone is ∙ sym (patterned_none other u g x ps d alone is2)
+    entries_alike deeper n (Entry x ps taken) e d alone is is2 h h2 = patterned_none named t f x ps e alone is ∙ sym (patterned_none other u g x ps d alone is2)
     entries_alike deeper n (OneOf ms) (Union ks) (Union js) alone is is2 h h2 = members_alike deeper n ms ks js h h2
     entries_alike deeper n (OneOf ms) (Union ks) d alone is is2 h h2 = absurd is2
     entries_alike deeper n (DerivedFrom bases) (Identity xs) (Identity ys) alone is is2 h h2 = refl

@@ -160,7 +160,7 @@ module _ (derived : List Located → List QName → Type 0) (one_derived : (base
 
       entries_take : (n : ℕ) (m : Meaning) (e d : ValueType) (k j : ℕ) → IsAlone m → Deeper k j → slice_get t.types k ≡ Some e → slice_get u.types j ≡ Some d →
           IsIn n m e → IsAlso n m d → Typed derived named b t n (members_of m) (numbers_of m e) → Typed derived other b u n (members_of m) (numbers_of m d) → TakeEntries e d
-      entries_take n (Entry x ps) e d k j alone deeper at also is is2 h h2 bounds text = entry_take x ps e d alone is is2 bounds text
+      entries_take n (Entry x ps taken) e d k j alone deeper at also is is2 h h2 bounds text = entry_take x ps e d alone is is2 bounds text
       entries_take n (OneOf ms) e d k j alone deeper at also is is2 h h2 bounds text = union_entries n ms e d k j deeper at also is is2 h h2 bounds text
       entries_take n (DerivedFrom bases) e d k j alone deeper at also is is2 h h2 bounds text = identity_entries n bases e d is is2 bounds text
       entries_take n (Refers path need) e d k j alone deeper at also is is2 h h2 bounds text = leafref_entries n path need e d k j deeper at also is is2 bounds text
@@ -227,7 +227,7 @@ module _ (derived : List Located → List QName → Type 0) (one_derived : (base
     entry_whole x ps e d is is2 = ap is_whole (sym is ∙ is2)
 
     entries_whole : (n : ℕ) (m : Meaning) (e d : ValueType) → IsIn n m e → IsAlso n m d → is_whole e ≡ is_whole d
-    entries_whole n (Entry x ps) e d is is2 = entry_whole x ps e d is is2
+    entries_whole n (Entry x ps taken) e d is is2 = entry_whole x ps e d is is2
     entries_whole n (OneOf ms) (Union ks) (Union js) is is2 = refl
     entries_whole n (OneOf ms) (Union ks) d is is2 = absurd is2
     entries_whole n (DerivedFrom bases) (Identity xs) (Identity ys) is is2 = refl

@@ -2,7 +2,7 @@
 use Rattle.std.proofs.Common.{◌≡◌, ◌++◌, ◌+◌, ◌&&◌, ◌||◌, ℕ, ℤ, true, false, not, cond, List, [], ◌∷◌, Option, Some, None, refl}
 use Rattle.std.specs.Prelude.{Ok, Err, is_some, map, slice_get}
 use Rattle.std.specs.Option.{option_map_or}
-use Rattle.std.specs.List.{All}
+use Rattle.std.specs.List.{All, flat_map}
 use Rattle.std.proofs.lemmas.List.Elements.{All-append, All-map, All-nil}
 use Rattle.nc_names.specs.Identifiers.{is_identifier}
 use Rattle.nc_patterns.specs.Reading.{Reading, tokens}
@@ -12,11 +12,11 @@ use Rattle.nc_schema.specs.declared.node.Choice.{Choice}
 use Rattle.nc_schema.specs.declared.node.Node.{Node}
 use Rattle.nc_schema.specs.declared.value_type.Between.{Between}
 use Rattle.nc_schema.specs.declared.value_type.ValueType.{ValueType}
-use Rattle.nc_schema.specs.declared.value_type.ValueType.TheVariants.{Whole, Decimal, Chars as String, Binary as Octets}
+use Rattle.nc_schema.specs.declared.value_type.ValueType.TheVariants.{Whole, Decimal, Chars as String, Binary as Octets, Enumeration as Names, Bits as Set}
 use Rattle.nc_yang_words.specs.declared.statement.Statement.{Statement}
 use Rattle.nc_yang_statements.specs.declared.built_in.BuiltIn.{BuiltIn}
 use Rattle.nc_yang_statements.specs.declared.built_in.BuiltIn.TheVariants.{Binary, Bits, Boolean, Decimal64, Empty, Enumeration, IdentityRef, InstanceIdentifier, LeafRef, Chars, Union}
-use Rattle.nc_yang_statements.specs.declared.fault.ModuleWhy.TheVariants.{BadArgument, Missing, Twice, UnknownName, UnknownStatement, Unsupported}
+use Rattle.nc_yang_statements.specs.declared.fault.ModuleWhy.TheVariants.{BadArgument, Missing, Twice, UnknownName, UnknownStatement}
 use Rattle.nc_yang_statements.specs.declared.keyword.Keyword.{Keyword}
 use Rattle.nc_yang_statements.specs.declared.keyword.Keyword.TheVariants.{FractionDigits, IfFeature, Key, Length, List as ListWord, Pattern, Range, Unique}
 use Rattle.nc_yang_statements.specs.Keywords.{is_closed, is_same_keyword}
@@ -35,11 +35,12 @@ use Rattle.nc_yang_data.specs.Lists.{has_again, has_none, key_faults, keyless, l
 use Rattle.nc_yang_data.specs.Places.{faults_at, faults_from, in_text, is_astray, is_twin, node_faults}
 use Rattle.nc_yang_data.specs.declared.naming.Naming.TheVariants.{Keys, Uniques}
 use Rattle.nc_yang_types.specs.Entries.{decimals, digits_of, ill_digits, ill_digits_by, integers, lengths, misnarrowed, misread, misread_by, misread_units, misused, narrowed_faults, own_faults}
-use Rattle.nc_yang_types.specs.Members.{at_number, has_name, ill_listed, is_member, is_unfit, misnumbered, numbered, numbering, number_word, renamed, why_unfit, with_number}
-use Rattle.nc_yang_types.specs.Parts.{chooses, foreign, foreign_over, lacking, lacking_part, misshapen, narrows, needs, takes, why_foreign, why_foreign_over}
+use Rattle.nc_yang_types.specs.Members.{at_number, has_name, ill_choice, ill_choices, ill_listed, is_member, is_unfit, misnumbered, number_in, numbered, numbering, number_word, renamed, renumbered, unlike, why_unfit, with_number}
+use Rattle.nc_yang_types.specs.Parts.{foreign, foreign_over, lacking, lacking_part, misshapen, narrows, needs, takes, why_foreign, why_foreign_over}
 use Rattle.nc_yang_types.specs.Patterns.{ill_patterns, why_ill, why_unread}
 use Rattle.nc_yang_types.specs.Ranges.{restriction}
 use Rattle.nc_yang_types.specs.declared.bound.Counted.{Counted}
+use Rattle.nc_yang_types.specs.declared.member.Named.{Named}
 use Rattle.nc_yang_types.specs.declared.bound.Counted.TheVariants.{Lengths, Units}
 use Rattle.nc_yang.proofs.TextReasons.{OfRule, OfTextRule, WhyOfRule, all_flat, all_one, by_option, either, is_of_rule, of_at, of_at_if}
 
@@ -232,17 +233,32 @@ of_foreign_over : (base : ValueType) (ss : List Statement) → All OfRule (forei
 of_foreign_over base ss =
     all_flat OfRule (λ t. at (why_foreign_over base (kind t)) t)
     (λ t. of_at (why_foreign_over base (kind t)) t
-    (either WhyOfRule (is_closed (kind t) || narrows base (kind t)) None (cond (chooses base (kind t)) (Some Unsupported) (Some UnknownStatement)) tt
-    (either WhyOfRule (chooses base (kind t)) (Some Unsupported) (Some UnknownStatement) refl refl))) ss
+    (either WhyOfRule (is_closed (kind t) || narrows base (kind t)) None (Some UnknownStatement) tt refl)) ss
 
-of_misnarrowed : (base : ValueType) (ss : List Statement) → All OfRule (misnarrowed base ss)
-of_misnarrowed (Whole among) ss = of_part (Units 0) Range among ss
-of_misnarrowed (Decimal digits among) ss = of_part (Units digits) Range among ss
-of_misnarrowed (String among starless patterns) ss = of_part Lengths Length among ss
-of_misnarrowed (Octets among) ss = of_part Lengths Length among ss
-of_misnarrowed base ss = All-nil OfRule
+of_renumbered : (number : ℤ) (given : Option Statement) → All OfRule (renumbered number given)
+of_renumbered number None = All-nil OfRule
+of_renumbered number (Some given) = of_at_if _ given BadArgument refl
 
-pub of_narrowed : (base : ValueType) (ss : List Statement) → All OfRule (narrowed_faults base ss)
-of_narrowed base ss =
-    All-append OfRule (foreign_over base ss) (ill_patterns ss ++ misnarrowed base ss) (of_foreign_over base ss)
-    (All-append OfRule (ill_patterns ss) (misnarrowed base ss) (of_patterns ss) (of_misnarrowed base ss))
+of_unlike : (listed : _) (number : Option ℤ) (s : Statement) → All OfRule (unlike listed number s)
+of_unlike listed None s = of_at_if true s BadArgument refl
+of_unlike listed (Some number) s = of_renumbered number (part (number_word listed) (below s))
+
+of_chosen : (listed : _) (names : List Named) (ss : List Statement) → All OfRule (ill_choices listed names ss)
+of_chosen listed names ss =
+    All-append OfRule (renamed listed [] ss) (flat_map (ill_choice listed names) ss) (of_renamed listed [] ss)
+    (all_flat OfRule (ill_choice listed names)
+    (λ s. either (All OfRule) (is_member listed s) (unlike listed (number_in names (name s)) s) [] (of_unlike listed (number_in names (name s)) s) (All-nil OfRule)) ss)
+
+of_misnarrowed : (base : ValueType) (names : List Named) (ss : List Statement) → All OfRule (misnarrowed base names ss)
+of_misnarrowed (Whole among) names ss = of_part (Units 0) Range among ss
+of_misnarrowed (Decimal digits among) names ss = of_part (Units digits) Range among ss
+of_misnarrowed (String among starless patterns) names ss = of_part Lengths Length among ss
+of_misnarrowed (Octets among) names ss = of_part Lengths Length among ss
+of_misnarrowed (Names taken) names ss = search (of_chosen)
+of_misnarrowed (Set taken) names ss = search (of_chosen)
+of_misnarrowed base names ss = All-nil OfRule
+
+pub of_narrowed : (base : ValueType) (names : List Named) (ss : List Statement) → All OfRule (narrowed_faults base names ss)
+of_narrowed base names ss =
+    All-append OfRule (foreign_over base ss) (ill_patterns ss ++ misnarrowed base names ss) (of_foreign_over base ss)
+    (All-append OfRule (ill_patterns ss) (misnarrowed base names ss) (of_patterns ss) (of_misnarrowed base names ss))

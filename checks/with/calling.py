@@ -5,7 +5,7 @@ import re
 
 from stored import (COMMIT, CONFIRMED, DISK, DONE, INPUT, OUTPUT, RUNNING, Device, Session, begun, end_of, is_fault, is_ok, request,
                     run_of, set_to, values, write)
-from stopped import BASE, LONG, Step, commit, full_areas, one_record, short
+from stopped import BASE, Step, commit, full_areas, one_record, short
 from traced import CHANGING, calls_of, events_of, path_of, tracing
 
 # calls without which a store is not opened, and what may fail of them
@@ -16,10 +16,10 @@ ERRORS = {"pwrite64": ["EIO", "ENOSPC", "EDQUOT"], "ftruncate": ["EIO", "ENOSPC"
 AGAIN = {"pwrite64", "pread64", "ftruncate", "fsync", "fdatasync", "openat"}
 
 
-def steps_of(text=None):
+def steps_of():
     """Three commits, the second of which is confirmed by another one."""
-    confirmed = [Step(set_to(22)), Step(CONFIRMED, shows=(22, text)), Step(COMMIT, keeps=(22, text))]
-    return commit(21, shown=text) + confirmed + commit(23, shown=text)
+    confirmed = [Step(set_to(22)), Step(CONFIRMED, shows=(22, None)), Step(COMMIT, keeps=(22, None))]
+    return commit(21) + confirmed + commit(23)
 
 
 class Calls:
@@ -131,7 +131,7 @@ def look_at(table, say, device, image, base, steps):
               for error in [*ERRORS.get(call, ["EIO"]), "EINTR"]]
     for call, number, error in table.part(chosen, 10):
         device.put(image)
-        words = tracing(table.log, [call], [device.folder, device.store], inject=(call, error, number))
+        words = tracing(table.log, [call], [device.folder, device.store], failing=[(call, error, number)])
         played = Played(table.program, device, words, steps, base)
         at = (call, number)
         fault = outcome(played, call, error, calls.replies.get(at, 0))
@@ -157,8 +157,7 @@ def three_commits(table, say):
 
 def a_new_area(table, say):
     device = Device(table.room)
-    image, base = full_areas(table, device)[0]
-    return said(*look_at(table, say, device, image, base, steps_of(LONG)))
+    return said(*look_at(table, say, device, full_areas(table, device)[0], (10, None), steps_of()))
 
 
 # ---- reads and writes of a session
@@ -202,7 +201,7 @@ def streams(table, say):
     cases += [("read", f"{reads[0]}+", "EINTR", INPUT)]
     for call, number, error, wanted in table.part(cases, 12):
         device.put(image)
-        words = tracing(table.log, [call], inject=(call, error, number))
+        words = tracing(table.log, [call], failing=[(call, error, number)])
         kept, way, ended = stream_session(table.program, device, words, (10, None), steps)
         fault = "" if ended == wanted else f"it ended with {ended} and not {wanted}"
         *next_, found = begun(table.program, device)
@@ -246,7 +245,7 @@ def notes(table, say):
         for error in ["EIO", "EPIPE"]:
             run_of([*tracing(table.log, ["write"]), *words])
             for at in ordinals(table.log, "write", 2):
-                got = run_of([*tracing(table.log, ["write"], inject=("write", error, at)), *words])
+                got = run_of([*tracing(table.log, ["write"], failing=[("write", error, at)]), *words])
                 say(f"status {status}, write {at} of its line with {error}", "" if got[0] == status else f"{got}")
                 tried += 1
     return f"{tried} failures of {len(refusals(table))} lines"

@@ -84,7 +84,12 @@ def is_loaded(program, limit):
     return run_of([program], **limited(limit))[0] in STATUSES
 
 
+def counted(ends):
+    return ", ".join(f"status {status} {number} times" for status, number in sorted(ends.items(), key=str))
+
+
 def limits(table, say):
+    """Sessions within a limit of the address space, from too little for them to enough."""
     loaded = Loaded(table)
     least = next(it for it in range(256 * 1024, 1 << 30, 256 * 1024) if is_loaded(table.program, it))
     enough = 2 * least
@@ -99,32 +104,31 @@ def limits(table, say):
         if not fault and ended not in (DONE, MEMORY):
             fault = f"it ended with {ended}"
         say(f"{limit} octets", fault)
-    told = ", ".join(f"status {status} {number} times" for status, number in sorted(ends.items(), key=str))
-    return f"{count} limits from {least / MB:.1f} to {enough / MB:.1f} MB: {told}"
+    return f"{count} limits from {least / MB:.1f} to {enough / MB:.1f} MB: {counted(ends)}"
 
 
 def calls(table, say):
-    """From each call on that asks for memory, all fail; and each fails once."""
+    """Each call that asks for memory fails, alone and with all that come after it."""
     loaded = Loaded(table)
     asked = ["brk", "mmap"]
     loaded.run({}, tracing(table.log, asked))
     noted = [call for call, *_ in calls_of(table.log)]
-    with_words = [*tracing(table.log, asked), table.program]
-    run_of(with_words)
-    loader = [call for call, *_ in calls_of(table.log)]
+    run_of([*tracing(table.log, asked), table.program])
+    # (those of a run without words are the loader's, and what comes before the words are read)
+    begun = len(calls_of(table.log))
     cases, ends = [], {}
-    for call in asked:
-        first, last = loader.count(call) + 1, noted.count(call)
-        cases += [(call, f"{at}{how}") for at in range(first, last + 1) for how in ("", "+")]
+    for at in range(begun, len(noted)):
+        numbers = {call: noted[:at].count(call) + 1 for call in asked}
+        cases.append((f"call {at + 1} and all after it", [(call, "ENOMEM", f"{numbers[call]}+") for call in asked]))
+        cases.append((f"call {at + 1}", [(noted[at], "ENOMEM", numbers[noted[at]])]))
     chosen = table.part(cases, 8)
-    for call, number in chosen:
-        fault, ended, _ = loaded.run({}, tracing(table.log, asked, inject=(call, "ENOMEM", number)))
+    for what, failing in chosen:
+        fault, ended, _ = loaded.run({}, tracing(table.log, asked, failing=failing))
         ends[ended[0]] = ends.get(ended[0], 0) + 1
         if not fault and ended not in (DONE, MEMORY):
             fault = f"it ended with {ended}"
-        say(f"{call} {number}", fault)
-    told = ", ".join(f"status {status} {number} times" for status, number in sorted(ends.items(), key=str))
-    return f"{len(chosen)} of {len(noted) - len(loader)} calls: {told}"
+        say(what, fault)
+    return f"{len(chosen)} failures of {len(noted) - begun} calls: {counted(ends)}"
 
 
 ROWS = [("memory that is refused by a limit", limits)]

@@ -3,14 +3,14 @@ each image that a cut may leave at that moment is put in the place of the store,
 the configuration of the last commit that was acknowledged, or of the one on its way."""
 import os
 
-from stored import (CANCEL, COMMIT, CONFIRMED, DONE, MARK, Device, Session, begun, header_of, is_ok, looked_at, reading,
-                    recorded, set_to)
+from stored import (AREAS, CANCEL, COMMIT, CONFIRMED, DONE, MARK, Device, Session, begun, front_of, header_of, is_ok,
+                    looked_at, reading, recorded, set_to)
 from traced import CHANGING, events_of, moments_of, tracing
 
 # the longest text that a call is noted with
 OCTETS = 1 << 20
-# a configuration with a text of so many octets fills an area with four records
-LONG = "x" * 270_000
+# so large an area grows at least before a record begins another one
+AREA = 1 << 20
 BASE = (1, None)
 
 
@@ -21,24 +21,24 @@ class Step:
         self.request, self.shows, self.keeps = request, shows or keeps, keeps
 
 
-def commit(number, text=None, shown=None):
-    return [Step(set_to(number, text)), Step(COMMIT, keeps=(number, shown))]
+def commit(number, text=None):
+    return [Step(set_to(number, text)), Step(COMMIT, keeps=(number, text))]
 
 
-def three(shown=None):
+def three():
     """A commit; a confirmed one that is confirmed; one that is taken back; one that is still to be confirmed at the end."""
     return [
-        *commit(11, shown=shown),
+        *commit(11),
         Step(set_to(12)),
-        Step(CONFIRMED, shows=(12, shown)),
-        Step(COMMIT, keeps=(12, shown)),
+        Step(CONFIRMED, shows=(12, None)),
+        Step(COMMIT, keeps=(12, None)),
         Step(set_to(13)),
-        Step(CONFIRMED, shows=(13, shown)),
-        Step(CANCEL, shows=(12, shown)),
+        Step(CONFIRMED, shows=(13, None)),
+        Step(CANCEL, shows=(12, None)),
         Step("<discard-changes/>"),
-        *commit(14, shown=shown),
+        *commit(14),
         Step(set_to(15)),
-        Step(CONFIRMED, shows=(15, shown)),
+        Step(CONFIRMED, shows=(15, None)),
     ]
 
 
@@ -70,10 +70,16 @@ def one_record(table, device):
 
 
 def full_areas(table, device):
-    """A store whose first area is full, one whose second is full, and what both begin with."""
-    first = made(table.program, device, None, commit(50, LONG) + [it for n in (51, 52, 53) for it in commit(n)])
-    second = made(table.program, device, first, [it for n in (54, 55, 56, 57) for it in commit(n)])
-    return [(first, (53, LONG)), (second, (57, LONG))]
+    """Stores whose live area has no room for another record, the first area and one behind it, and what they begin with. They
+    are made of the layout: an earlier record may have any octets, and fills the area."""
+    image = one_record(table, device)
+    header = header_of([device.module])
+    (body,), _ = reading(image, [device.module])[1]
+    small = header + recorded(body) + b"\x00"
+    large = b"x" * (AREA - len(header) - 2 * len(recorded(body)) - 9)
+    full = header + recorded(large) + recorded(body) + b"\x00"
+    place = AREAS + len(small) + 100
+    return [front_of(0, AREAS, 0) + full, front_of(1, AREAS, place) + small + bytes(100) + full]
 
 
 class Asked:
@@ -164,8 +170,8 @@ def a_new_area(table, say):
     device = Device(table.room)
     asked = Asked(table.program, device)
     tried = [0, 0, 0]
-    for image, base in full_areas(table, device):
-        found = look_at(table, say, device, asked, image, base, commit(60, shown=LONG) + commit(61, shown=LONG))
+    for image in full_areas(table, device):
+        found = look_at(table, say, device, asked, image, (10, None), commit(60) + commit(61))
         tried = [a + b for a, b in zip(tried, found)]
     return said(*tried)
 
@@ -175,7 +181,7 @@ def torn_images(table, device, asked):
     what it begins with, and what else may come back until it is mended."""
     images = []
     stores = [(None, BASE, commit(10)), (one_record(table, device), (10, None), commit(11))]
-    stores += [(*it, commit(60, shown=LONG)) for it in full_areas(table, device)[: 1 if table.quick else 2]]
+    stores += [(it, (10, None), commit(60)) for it in full_areas(table, device)[: 1 if table.quick else 2]]
     for image, base, steps in stores:
         torn = {}
         for moment in moments_of(image, traced(table, device, image, steps), MARK):
@@ -203,7 +209,7 @@ def a_torn_start(table, say):
     asked = Asked(table.program, device)
     tried, images = [0, 0, 0], torn_images(table, device, asked)
     for image, base, allowed in images:
-        found = look_at(table, say, device, asked, image, base, commit(90, shown=base[1]), allowed)
+        found = look_at(table, say, device, asked, image, base, commit(90), allowed)
         tried = [a + b for a, b in zip(tried, found)]
     return f"{len(images)} torn stores: {said(*tried)}"
 

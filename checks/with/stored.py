@@ -7,7 +7,7 @@ import subprocess
 import tempfile
 
 # so long an answer is waited for, and a program's end
-PATIENCE = 120
+PATIENCE = 600
 
 MARK = b"]]>]]>"
 BASE = "urn:ietf:params:xml:ns:netconf:base:1.0"

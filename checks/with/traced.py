@@ -14,16 +14,18 @@ CALL = re.compile(r"(?:\d+ +)?(\w+)\((.*)\) += (-?\d+|\?)(.*)")
 WRITE = re.compile(r'\d+<[^>]*>, "((?:\\x[0-9a-f]{2})*)"(?:, \d+)*?, (\d+)(?:, (\d+))?')
 
 
-def tracing(log, calls, paths=(), octets=0, inject=None):
+def tracing(log, calls, paths=(), octets=0, failing=()):
     """The words before those of a program, so that these calls of it are noted in a file, of all files or of these paths
-    alone. `inject` has a call, an error, and which of them fails: `3` the third, `3+` each from it on."""
+    alone. Those that fail have a name, an error, and a number: `3` the third of that name, `3+` each from it on."""
     words = [STRACE, "-qq", "-f", "-y", "-e", "signal=none", "-o", log, "-s", str(octets), "-e", f"trace={','.join(calls)}"]
     for it in paths:
         words += ["-P", it]
     if octets:
         words += ["-xx"]
-    if inject:
-        words += ["-e", f"inject={inject[0]}:error={inject[1]}:when={inject[2]}"]
+    for call, error, number in failing:
+        # (the system answers a brk that fails with another end than the one that was asked for, and no error)
+        how = "retval=0" if call == "brk" else f"error={error}"
+        words += ["-e", f"inject={call}:{how}:when={number}"]
     return words
 
 

@@ -3,8 +3,8 @@ folder, each by its number; reads of the session's input; writes of its output a
 import os
 import re
 
-from stored import (COMMIT, CONFIRMED, DISK, DONE, INPUT, OUTPUT, RUNNING, Device, Session, begun, end_of, is_fault, is_ok, request,
-                    run_of, set_to, values, write)
+from stored import (COMMIT, CONFIRMED, DISK, DONE, INPUT, OUTPUT, RUNNING, Device, Session, begun, end_of, is_fault, is_ok,
+                    request, run_of, set_to, values, write)
 from stopped import BASE, Step, commit, full_areas, one_record, short
 from traced import CHANGING, calls_of, events_of, path_of, tracing
 
@@ -121,7 +121,8 @@ def after(table, device, played, early):
     if not is_ok(told) or ended != DONE:
         return f"a later commit is answered {told}, {ended}"
     *ended, found = begun(table.program, device)
-    return "" if tuple(ended) == DONE and found == (99, played.kept[1]) else f"after a later commit it is {ended} {short(found)}"
+    is_there = tuple(ended) == DONE and found == (99, played.kept[1])
+    return "" if is_there else f"after a later commit it is {ended} {short(found)}"
 
 
 def look_at(table, say, device, image, base, steps):

@@ -133,8 +133,9 @@ def numbers(store, area):
         yield f"a module of {count} octets announced", front + counted + number(count, 4) + area[8:]
     for count in (1, MOST, HUGE, 2**64 - 1):
         yield f"features of {count} octets announced", front + store.header[:-8] + number(count) + area[len(store.header) :]
+    rest = store.bodies[0] + b"\x00"
     for count in (len(store.bodies[0]) + 1, 33554432, 33554433, MOST, HUGE - 1, HUGE, 2**64 - 1):
-        yield f"a record of {count} octets announced", front + store.header + b"\x01" + number(count) + store.bodies[0] + b"\x00"
+        yield f"a record of {count} octets announced", front + store.header + b"\x01" + number(count) + rest
 
 
 def records(store, many):
@@ -181,6 +182,7 @@ def no_stores(table, say):
             it.bind(path)
 
     front = front_of(0, AREAS, 0) + header_of([device.module])
+    long = front + b"\x01" + number(MOST)
     begins = {"4 GB of zeros": lambda it: sparse(it, 1 << 32), "an empty file": lambda it: sparse(it, 0),
               "a link to a file that is not there": lambda it: os.symlink(f"elsewhere-{os.urandom(4).hex()}.nc", it),
               "4 GB after a gate": lambda it: sparse(it, 1 << 32, front + b"\x00")}
@@ -190,7 +192,7 @@ def no_stores(table, say):
               "a link to /dev/full": lambda it: os.symlink("/dev/full", it),
               "a link below a folder that is not there": lambda it: os.symlink("nowhere/running.nc", it)}
     refused = {"4 GB of zeros after the mark": (lambda it: sparse(it, 1 << 32, b"\x01NCSTORE2"), 10),
-               "a record of 2^32 - 1 octets in 8 GB": (lambda it: sparse(it, 1 << 33, front + b"\x01" + number(MOST)), len(front))}
+               "a record of 2^32 - 1 octets in 8 GB": (lambda it: sparse(it, 1 << 33, long), len(front))}
     cases = [(what, make, DONE) for what, make in begins.items()] + [(what, make, DISK) for what, make in faulty.items()]
     cases += [(what, make, (5, f"netconfd: store: damaged at {at}")) for what, (make, at) in refused.items()]
     for what, make, wanted in cases:

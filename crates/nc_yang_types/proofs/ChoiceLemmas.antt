@@ -3,7 +3,7 @@ use Rattle.std.proofs.Common.{◌≡◌, ◌<◌, ◌≤◌, ◌+◌, ◌&&◌, 
 use Rattle.std.specs.Prelude.{ℤ}
 use Rattle.std.specs.BTreeMap.{BTreeMap, get}
 use Rattle.std.specs.BTreeSet.{BTreeSet, contains}
-use Rattle.std.specs.List.{filter}
+use Rattle.std.specs.List.{filter, flat_map}
 use Rattle.std.specs.Ordering.{is_eq}
 use Rattle.std.proofs.lemmas.Grind.{common_steps}
 use Rattle.std.proofs.lemmas.List.{append_assoc, append-nil}
@@ -14,12 +14,14 @@ use Rattle.nc_names.specs.Same.{is_same_text}
 use Rattle.nc_schema.specs.declared.value_type.ValueType.{ValueType}
 use Rattle.nc_schema.specs.declared.value_type.ValueType.TheVariants.{Bits as Set, Enumeration as Names}
 use Rattle.nc_yang_words.specs.declared.statement.Statement.{Statement}
+use Rattle.nc_yang_statements.specs.Rules.{at_if, first}
 use Rattle.nc_yang_statements.specs.Statements.{has, name}
+use Rattle.nc_yang_statements.specs.declared.fault.ModuleWhy.TheVariants.{Twice}
 use Rattle.nc_yang_types.specs.declared.member.Listed.{Listed}
 use Rattle.nc_yang_types.specs.declared.member.Listed.TheVariants.{Enums, Flags}
 use Rattle.nc_yang_types.specs.declared.member.Named.{Named}
 use Rattle.nc_yang_types.specs.Entries.{lists, names_left}
-use Rattle.nc_yang_types.specs.Members.{chosen, gives_name, is_chosen, is_member, member_word, number_with, still_listed}
+use Rattle.nc_yang_types.specs.Members.{chosen, gives_name, has_name, ill_choice, ill_choices, is_chosen, is_member, member_word, number_in, number_with, renamed, still_listed, unlike}
 use Rattle.nc_yang_types.specs.inner.Known.{HasChosen, HasListing, has_text, text_order}
 
 turned : (a b : Bool) → cond a true b ≡ (b || (a || false))
@@ -107,6 +109,30 @@ pub names_kept : (base : ValueType) (names : List Named) (ss : List Statement) �
 names_kept (Names taken) names ss none = sym (listed_all Enums ss names names none refl)
 names_kept (Set taken) names ss none = sym (listed_all Flags ss names names none refl)
 names_kept base names ss none = refl
+
+-- where it lists none no name breaks a rule
+first_off : (a b : Bool) → (a || b) ≡ false → a ≡ false
+first_off true b e = e
+first_off false b e = refl
+
+second_off : (a b : Bool) → (a || b) ≡ false → b ≡ false
+second_off true b e = absurd (cc)
+second_off false b e = e
+
+none_renamed : (listed : Listed) (before ss : List Statement) → has (member_word listed) ss ≡ false → renamed listed before ss ≡ []
+none_renamed listed before [] none = refl
+none_renamed listed before (s ∷ ss) none =
+    ap (λ b. at_if (b && has_name listed (name s) before) s Twice ++ renamed listed (before ++ s ∷ []) ss) (first_off (is_member listed s) (has (member_word listed) ss) none)
+    ∙ none_renamed listed (before ++ s ∷ []) ss (second_off (is_member listed s) (has (member_word listed) ss) none)
+
+none_ill : (listed : Listed) (names : List Named) (ss : List Statement) → has (member_word listed) ss ≡ false → flat_map (ill_choice listed names) ss ≡ []
+none_ill listed names [] none = refl
+none_ill listed names (s ∷ ss) none =
+    ap (λ b. (if b then unlike listed (number_in names (name s)) s else []) ++ flat_map (ill_choice listed names) ss) (first_off (is_member listed s) (has (member_word listed) ss) none)
+    ∙ none_ill listed names ss (second_off (is_member listed s) (has (member_word listed) ss) none)
+
+pub no_choices : (listed : Listed) (names : List Named) (ss : List Statement) → has (member_word listed) ss ≡ false → None ≡ first (ill_choices listed names ss)
+no_choices listed names ss none = sym (λ i. first (none_renamed listed [] ss none i ++ none_ill listed names ss none i))
 
 -- one name more, which comes after those of its name
 pub named_added : (before now : BTreeMap (Bor (List ℕ)) ℤ) (text : Bor (List ℕ)) (n : Named) (names : List Named) → text.now ≡ n.name →

@@ -253,6 +253,9 @@ pub(crate) fn ill_choices(
 ) -> Result<Option<Fault>, Memory>
     ensures { IfOk result (λ it. it ≡ rules.first (members.ill_choices listed names.now below.now)) }
 {
+    if !has(below, member_word(listed)) {
+        return Ok(None);
+    }
     if let Some(fault) = renamed(alloc, listed, below)? {
         return Ok(Some(fault));
     }

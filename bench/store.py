@@ -10,7 +10,7 @@ import tempfile
 import time
 
 from connections import Server, Session, demo_device
-from payloads import device, edit, head, kb, module, ms, row, words
+from payloads import Ran, device, edit, head, kb, module, ms, row, words
 
 DEVICE = "urn:example:device"
 TEXTS = 'list entry { key name; leaf name { type uint32; } leaf text { type string; } }'
@@ -85,17 +85,16 @@ def time_commits(program, room, count):
 
 
 def time_largest(program, room, texts):
-    """A configuration of so many texts of a megabyte in one commit."""
+    """A configuration of so many texts of a megabyte in one commit, by a recovery session."""
     folder = device(room, {"ex": module("ex", TEXTS)})
     store, text = f"{folder}/running.nc", "x" * TEXT
-    with Server(program, folder) as server:
-        session = Session(server)
-        for number in range(texts):
-            session.ask(edit(f'<entry xmlns="urn:ex"><name>{number}</name><text>{text}</text></entry>'))
-        before, begun = server.seconds(), time.perf_counter()
-        commit(session)
-        row(f"{texts} texts of a megabyte", "one commit", ms(time.perf_counter() - begun), ms(server.seconds() - before),
-            kb(server.memory()), f"{os.path.getsize(store):,} octets")
+    edits = [edit(f'<entry xmlns="urn:ex"><name>{number}</name><text>{text}</text></entry>') for number in range(texts)]
+    begun = Ran(program, folder, edits)
+    ran = Ran(program, folder, edits + ["<commit/>"])
+    if begun.errors or ran.errors:
+        raise SystemExit("an edit or the commit was refused")
+    row(f"{texts} texts of a megabyte", "one commit", "", ms(ran.seconds - begun.seconds), kb(ran.memory),
+        f"{os.path.getsize(store):,} octets")
     row("", "two bare syncs", ms(bare_syncs(folder, os.path.getsize(store), 5)), "", "", "")
     seconds, memory = time_start(program, folder)
     row("", "a start over it", "", ms(seconds), kb(memory), "")

@@ -2,7 +2,7 @@ use Rattle.std.proofs.Common.{List, subst}
 use Rattle.std.specs.List.Sorted.{IsPermutation}
 use Rattle.nc_partial.specs.declared.entry.Entry.{Entry}
 use Rattle.nc_partial.proofs.IndexLemmas.{adds_from_sort}
-use Rattle.nc_partial.proofs.index.put.Goals as goal
+use Rattle.nc_partial.proofs.index.sort_in.Goals as goal
 
 pub returns-clause-added : goal.returns-clause-added
 returns-clause-added c =

@@ -6,7 +6,7 @@ import re
 from stored import (COMMIT, CONFIRMED, DISK, DONE, INPUT, OUTPUT, RUNNING, Device, Session, begun, end_of, is_fault, is_ok,
                     request, run_of, set_to, values, write)
 from stopped import BASE, Step, commit, full_areas, one_record, short
-from traced import CHANGING, calls_of, events_of, path_of, tracing
+from traced import CHANGING, calls_of, events_of, has_failed, path_of, tracing
 
 # calls without which a store is not opened, and what may fail of them
 NEEDED = {"openat", "open", "flock", "fstat", "newfstatat", "statx", "pread64", *CHANGING}
@@ -136,7 +136,7 @@ def look_at(table, say, device, image, base, steps):
         played = Played(table.program, device, words, steps, base)
         at = (call, number)
         fault = outcome(played, call, error, calls.replies.get(at, 0))
-        if "(INJECTED)" not in "".join(rest for *_, rest in calls_of(table.log)):
+        if not has_failed(table.log):
             fault = "no call failed"
         tried += 1
         say(f"{call} {number} with {error}", fault or after(table, device, played, at in calls.early))
@@ -202,6 +202,8 @@ def streams(table, say):
         device.put(image)
         words = tracing(table.log, [call], failing=[(call, error, number)])
         kept, way, ended = stream_session(table.program, device, words, (10, None), steps)
+        # (two messages that come at once are one read, and then the last read of the other run is not there)
+        wanted = wanted if has_failed(table.log) else DONE
         fault = "" if ended == wanted else f"it ended with {ended} and not {wanted}"
         *next_, found = begun(table.program, device)
         if not fault and (tuple(next_) != DONE or found not in {kept, way}):

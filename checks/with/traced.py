@@ -35,6 +35,11 @@ def calls_of(log):
         return [found.groups() for found in map(CALL.fullmatch, file.read().splitlines()) if found]
 
 
+def has_failed(log):
+    """Whether a call that was to fail was made."""
+    return any("(INJECTED)" in rest for *_, rest in calls_of(log))
+
+
 def octets_of(text):
     return bytes.fromhex(text.replace("\\x", ""))
 

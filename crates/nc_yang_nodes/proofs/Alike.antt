@@ -30,8 +30,17 @@ module _ (scoping : Scoping) where
     deny = together (e i).deny deny;
   }
 
-  choice_alike : (n k : ℕ) (c d : Context) → IsOne n k → c ≡ d → seen_choice scoping (choice_of n c) ≡ seen_choice scoping (choice_of k d)
-  choice_alike n k c d at e = λ i. record { statement = at i; parent = (e i).parent; within = within (e i) }
+  choice_alike : (n k : ℕ) (c d : Context) (a b : ℕ) → IsOne n k → c ≡ d → a ≡ b → seen_choice scoping (choice_of n c a) ≡ seen_choice scoping (choice_of k d b)
+  choice_alike n k c d a b at e many = λ i. record {
+    statement = at i;
+    in_module = (e i).module;
+    parent = (e i).parent;
+    within = within (e i);
+    nodes_before = many i;
+  }
+
+  pub as_many_nodes : (p q : Plan) → AreAlike scoping p q → length p.nodes ≡ length q.nodes
+  as_many_nodes p q h = sym (length-map p.nodes (seen_node scoping)) ∙ ap length h.nodes ∙ length-map q.nodes (seen_node scoping)
 
   added_alike : (n k : ℕ) (c d : Context) (r : Role) (p q : Plan) → IsOne n k → c ≡ d → AreAlike scoping p q →
       AreAlike scoping (added n c r p) (added k d r q)
@@ -45,15 +54,12 @@ module _ (scoping : Scoping) where
   added_alike n k c d (Choice deny) p q at e h = record {
     nodes = h.nodes;
     choices =
-        map-append (seen_choice scoping) p.choices (choice_of n c ∷ [])
-        ∙ (λ i. h.choices i ++ choice_alike n k c d at e i ∷ [])
-        ∙ sym (map-append (seen_choice scoping) q.choices (choice_of k d ∷ []));
+        map-append (seen_choice scoping) p.choices (choice_of n c (length p.nodes) ∷ [])
+        ∙ (λ i. h.choices i ++ choice_alike n k c d (length p.nodes) (length q.nodes) at e (as_many_nodes p q h) i ∷ [])
+        ∙ sym (map-append (seen_choice scoping) q.choices (choice_of k d (length q.nodes) ∷ []));
   }
   added_alike n k c d (Case deny) p q at e h = h
   added_alike n k c d (Uses deny) p q at e h = h
-
-  pub as_many_nodes : (p q : Plan) → AreAlike scoping p q → length p.nodes ≡ length q.nodes
-  as_many_nodes p q h = sym (length-map p.nodes (seen_node scoping)) ∙ ap length h.nodes ∙ length-map q.nodes (seen_node scoping)
 
   as_many_choices : (p q : Plan) → AreAlike scoping p q → length p.choices ≡ length q.choices
   as_many_choices p q h = sym (length-map p.choices (seen_choice scoping)) ∙ ap length h.choices ∙ length-map q.choices (seen_choice scoping)

@@ -47,7 +47,7 @@ alike_added n k c d (Node deny) p q e h = record {
 }
 alike_added n k c d (Choice deny) p q e h = record {
   levels_are = h.levels_are;
-  choices_are = more_choices p.choices (choice_of n c) ∙ ap (λ z. z + 1) h.choices_are ∙ sym (more_choices q.choices (choice_of k d));
+  choices_are = more_choices p.choices (choice_of n c (length p.nodes)) ∙ ap (λ z. z + 1) h.choices_are ∙ sym (more_choices q.choices (choice_of k d (length q.nodes)));
 }
 alike_added n k c d (Case deny) p q e h = h
 alike_added n k c d (Uses deny) p q e h = h
@@ -77,7 +77,7 @@ begins_added n c (Node deny) p = record {
 begins_added n c (Choice deny) p = record {
   rest = [];
   levels_are = append-nil (levels p.nodes);
-  choices_are = let e = more_choices p.choices (choice_of n c) in omega (arith, e);
+  choices_are = let e = more_choices p.choices (choice_of n c (length p.nodes)) in omega (arith, e);
 }
 begins_added n c (Case deny) p = begins_self p
 begins_added n c (Uses deny) p = begins_self p

@@ -144,16 +144,16 @@ added_keeps scoping number c (Choice deny) plan there fits keeps = record {
   keeps = record {
     modules = keeps.modules;
     statements = keeps.statements;
-    of_choices = All-push (λ (c : PlannedChoice). IsSome (slice_get scoping.located c.statement)) plan.choices (choice_of number c) keeps.of_choices there;
+    of_choices = All-push (λ (c : PlannedChoice). IsSome (slice_get scoping.located c.statement)) plan.choices (choice_of number c (length plan.nodes)) keeps.of_choices there;
     parents = keeps.parents;
-    cases = nodes_grown plan.choices (choice_of number c ∷ []) plan.nodes keeps.cases;
+    cases = nodes_grown plan.choices (choice_of number c (length plan.nodes) ∷ []) plan.nodes keeps.cases;
     outer_cases =
-        All-push (λ (x : PlannedChoice). AreCasesOf (plan.choices ++ choice_of number c ∷ []) x.parent [] x.within) plan.choices (choice_of number c)
-        (choices_grown plan.choices (choice_of number c ∷ []) plan.choices keeps.outer_cases)
-        (cases_grown plan.choices (choice_of number c ∷ []) c.parent [] (within c) fits.in_cases);
+        All-push (λ (x : PlannedChoice). AreCasesOf (plan.choices ++ choice_of number c (length plan.nodes) ∷ []) x.parent [] x.within) plan.choices (choice_of number c (length plan.nodes))
+        (choices_grown plan.choices (choice_of number c (length plan.nodes) ∷ []) plan.choices keeps.outer_cases)
+        (cases_grown plan.choices (choice_of number c (length plan.nodes) ∷ []) c.parent [] (within c) fits.in_cases);
   };
   longer = omega arith;
-  more = choice_of number c ∷ [];
+  more = choice_of number c (length plan.nodes) ∷ [];
   choices = refl;
 }
 added_keeps scoping number c (Case deny) plan there fits keeps = record { keeps = keeps; longer = omega arith; more = []; choices = append-nil plan.choices }
@@ -167,9 +167,9 @@ inner_fits scoping number c (Choice deny) plan fits =
       in_module = fits.in_module;
       in_parent = fits.in_parent;
       in_cases =
-          cases_more (plan.choices ++ choice_of number c ∷ []) c.parent [] (within c) (within c) new refl
-          (cases_grown plan.choices (choice_of number c ∷ []) c.parent [] (within c) fits.in_cases)
-          (record { choice = choice_of number c; is = get_last plan.choices (choice_of number c); stands = refl; after = refl });
+          cases_more (plan.choices ++ choice_of number c (length plan.nodes) ∷ []) c.parent [] (within c) (within c) new refl
+          (cases_grown plan.choices (choice_of number c (length plan.nodes) ∷ []) c.parent [] (within c) fits.in_cases)
+          (record { choice = choice_of number c (length plan.nodes); is = get_last plan.choices (choice_of number c (length plan.nodes)); stands = refl; after = refl });
     }
 inner_fits scoping number c (Case deny) plan fits = record {
   in_module = fits.in_module;

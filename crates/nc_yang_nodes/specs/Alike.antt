@@ -29,12 +29,19 @@ seen_node scoping p = record {
 -- a planned choice, in the same way
 pub record SeenChoice : Type 0 where
   pub statement : Option Located
+  pub in_module : ℕ
   pub parent : Option ℕ
   pub within : List CaseNumber
+  pub nodes_before : ℕ
 
 abbrev pub seen_choice : Scoping → PlannedChoice → SeenChoice
-seen_choice scoping p =
-    record { statement = slice_get scoping.located p.statement; parent = p.parent; within = p.within }
+seen_choice scoping p = record {
+  statement = slice_get scoping.located p.statement;
+  in_module = p.module;
+  parent = p.parent;
+  within = p.within;
+  nodes_before = p.nodes_before;
+}
 
 -- the two plans are one, but for those numbers
 pub record AreAlike (scoping : Scoping) (one other : Plan) : Type 0 where

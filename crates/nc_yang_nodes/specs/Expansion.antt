@@ -70,15 +70,17 @@ node_of number c deny = record {
   deny = together c.deny deny;
 }
 
-abbrev pub choice_of : ℕ → Context → PlannedChoice
-choice_of number c = record { statement = number; parent = c.parent; within = within c }
+-- before it so many data nodes are planned
+abbrev pub choice_of : ℕ → Context → (nodes : ℕ) → PlannedChoice
+choice_of number c nodes =
+    record { statement = number; «module» = c.module; parent = c.parent; within = within c; nodes_before = nodes }
 
 -- with what the statement of a number gives by itself: a data node or a choice, which gets the next number of its kind
 abbrev pub added : ℕ → Context → Role → Plan → Plan
 added number c (Node deny) before =
     record before { nodes = before.nodes ++ node_of number c deny ∷ [] }
 added number c (Choice deny) before =
-    record before { choices = before.choices ++ choice_of number c ∷ [] }
+    record before { choices = before.choices ++ choice_of number c (length before.nodes) ∷ [] }
 added number c other before = before
 
 -- in a context the statements, one after another, take what was planned before to what is planned after

@@ -33,10 +33,15 @@ pub struct Planned {
 pub struct PlannedChoice {
     /// The number of the statement that defines it, in the `Scopes` of the texts.
     pub statement: usize,
+    /// The number of the text of its module. A choice of a grouping belongs to the module that uses it
+    /// (RFC 7950 7.13).
+    pub module: usize,
     /// The number of the data node in which it stands, or `None` at the top.
     pub parent: Option<u32>,
     /// The cases of outer choices in which it stands, the outermost first, up to its parent.
     pub within: Many<Case>,
+    /// How many data nodes come before it, in document order.
+    pub nodes_before: usize,
 }
 
 /// The data nodes and the choices of modules, each in document order and under the number of its place.
@@ -94,8 +99,10 @@ impl Plan {
             }),
             Role::Choice(_) => self.choices.push(PlannedChoice {
                 statement,
+                module: context.module,
                 parent: context.parent,
                 within: context.within()?,
+                nodes_before: self.nodes.len(),
             }),
             Role::Case(_) | Role::Uses(_) => Ok(()),
         }

@@ -1,6 +1,6 @@
 -- Plans that are alike give the same data nodes, and break the same rules.
 use Rattle.std.proofs.Common.{◌≡◌, ◌+◌, ℕ, zero, suc, false, cond, List, [], ◌∷◌, ◌++◌, map, refl, sym, ap, ◌∙◌}
-use Rattle.std.specs.Prelude.{Option, slice_get}
+use Rattle.std.specs.Prelude.{Option, option_and_then, slice_get}
 use Rattle.std.specs.List.{flat_map}
 use Rattle.std.specs.Option.{option_map_or}
 use Rattle.nc_schema.specs.Tables.{Tables}
@@ -21,9 +21,11 @@ use Rattle.nc_yang_data.specs.Conditions.{all_conditions, conditions}
 use Rattle.nc_yang_data.specs.Data.{data_faults, data_tables, drafts, nodes_from, with_leafs}
 use Rattle.nc_yang_data.specs.Defaults.{asks, carrier, choices_from, default_faults, is_by_default, outermost, nodes_from as asking_from}
 use Rattle.nc_yang_data.specs.Drafts.{choice_at, choice_in, draft_at, draft_in, unknown_choice, unknown_in}
+use Rattle.nc_yang_data.specs.Leafs.{CaseTest, is_case_of, names_case}
 use Rattle.nc_yang_data.specs.Modules.{modules_from}
 use Rattle.nc_yang_data.specs.Places.{faults_from, in_text, node_faults, node_leafs}
 use Rattle.nc_yang_data.specs.declared.place.Leafs.{Leafs}
+use Rattle.nc_yang_data.proofs.SeenTwins.{names_are, seen_faults}
 
 map_seen : {A B C : Type 0} (seen : A → B) (f : A → C) (g : B → C) → ((x : A) → f x ≡ g (seen x)) → (xs : List A) → map f xs ≡ map g (map seen xs)
 map_seen seen f g same [] = refl
@@ -42,38 +44,54 @@ module _ (scoping : Scoping) (on : FeatureTest) where
   draft_is : (p : Planned) → draft_at scoping p ≡ draft_of (seen_node scoping p)
   draft_is p = refl
 
-  abbrev leafs_of : Tables → ℕ → Option Located → Leafs
-  leafs_of tables number o =
-      option_map_or (λ (l : Located). node_leafs scoping.texts tables l.place.text number l.statement) o (record { keys = []; uniques = [] })
+  abbrev leafs_of : Tables → CaseTest → ℕ → Option Located → Leafs
+  leafs_of tables named number o =
+      option_map_or (λ (l : Located). node_leafs scoping.texts tables named l.place.text number l.statement) o (record { keys = []; uniques = [] })
 
-  abbrev nodes_of : Tables → ℕ → List SeenNode → List Node
-  nodes_of tables number [] = []
-  nodes_of tables number (s ∷ ss) = with_leafs (draft_of s) (leafs_of tables number s.statement) ∷ nodes_of tables (number + 1) ss
+  abbrev nodes_of : Tables → CaseTest → ℕ → List SeenNode → List Node
+  nodes_of tables named number [] = []
+  nodes_of tables named number (s ∷ ss) = with_leafs (draft_of s) (leafs_of tables named number s.statement) ∷ nodes_of tables named (number + 1) ss
 
-  nodes_are : (tables : Tables) (number : ℕ) (ps : List Planned) → nodes_from scoping tables number ps ≡ nodes_of tables number (map (seen_node scoping) ps)
-  nodes_are tables number [] = refl
-  nodes_are tables number (p ∷ ps) = λ i. with_leafs (draft_is p i) (leafs_of tables number (slice_get scoping.located p.statement)) ∷ nodes_are tables (number + 1) ps i
+  nodes_are : (tables : Tables) (named : CaseTest) (number : ℕ) (ps : List Planned) → nodes_from scoping tables named number ps ≡ nodes_of tables named number (map (seen_node scoping) ps)
+  nodes_are tables named number [] = refl
+  nodes_are tables named number (p ∷ ps) = λ i. with_leafs (draft_is p i) (leafs_of tables named number (slice_get scoping.located p.statement)) ∷ nodes_are tables named (number + 1) ps i
 
-  abbrev faults_of : Tables → ℕ → List SeenNode → List TextFault
-  faults_of tables number [] = []
-  faults_of tables number (s ∷ ss) =
-      option_map_or (λ (l : Located). map (in_text l.place.text) (node_faults scoping.texts tables l.place.text number l.statement)) s.statement []
-      ++ faults_of tables (number + 1) ss
+  abbrev faults_of : Tables → CaseTest → ℕ → List SeenNode → List TextFault
+  faults_of tables named number [] = []
+  faults_of tables named number (s ∷ ss) =
+      option_map_or (λ (l : Located). map (in_text l.place.text) (node_faults scoping.texts tables named l.place.text number l.statement)) s.statement []
+      ++ faults_of tables named (number + 1) ss
 
-  faults_are : (tables : Tables) (number : ℕ) (ps : List Planned) → faults_from scoping tables number ps ≡ faults_of tables number (map (seen_node scoping) ps)
-  faults_are tables number [] = refl
-  faults_are tables number (p ∷ ps) = λ i.
-      option_map_or (λ (l : Located). map (in_text l.place.text) (node_faults scoping.texts tables l.place.text number l.statement)) (slice_get scoping.located p.statement) []
-      ++ faults_are tables (number + 1) ps i
+  faults_are : (tables : Tables) (named : CaseTest) (number : ℕ) (ps : List Planned) → faults_from scoping tables named number ps ≡ faults_of tables named number (map (seen_node scoping) ps)
+  faults_are tables named number [] = refl
+  faults_are tables named number (p ∷ ps) = λ i.
+      option_map_or (λ (l : Located). map (in_text l.place.text) (node_faults scoping.texts tables named l.place.text number l.statement)) (slice_get scoping.located p.statement) []
+      ++ faults_are tables named (number + 1) ps i
 
   -- ---- choices
   abbrev choice_of : SeenChoice → Choice
   choice_of c =
-      let p : PlannedChoice = record { statement = 0; parent = c.parent; within = c.within } in
+      let p : PlannedChoice = record { statement = 0; «module» = c.in_module; parent = c.parent; within = c.within; nodes_before = c.nodes_before } in
       option_map_or (choice_at scoping.texts on p) c.statement (unknown_choice p)
 
   choice_is : (p : PlannedChoice) → choice_in scoping on p ≡ choice_of (seen_choice scoping p)
   choice_is p = refl
+
+  -- ---- cases by their names
+  abbrev statement_in : List SeenChoice → ℕ → Option Located
+  statement_in cs number = option_and_then (λ (c : SeenChoice). c.statement) (slice_get cs number)
+
+  abbrev case_named : List SeenChoice → CaseTest
+  case_named cs k choice word = option_map_or (is_case_of scoping.texts on k.case choice word) (statement_in cs k.choice) false
+
+  statement_is : (ps : List PlannedChoice) (number : ℕ) →
+      option_and_then (λ (p : PlannedChoice). slice_get scoping.located p.statement) (slice_get ps number) ≡ statement_in (map (seen_choice scoping) ps) number
+  statement_is [] number = refl
+  statement_is (p ∷ ps) zero = refl
+  statement_is (p ∷ ps) (suc number) = statement_is ps number
+
+  named_is : (plan : Plan) → names_case scoping on plan ≡ case_named (map (seen_choice scoping) plan.choices)
+  named_is plan = λ i k choice word. option_map_or (is_case_of scoping.texts on k.case choice word) (statement_is plan.choices k.choice i) false
 
   -- ---- what is read of the statement of a data node, by its number
   abbrev read_at : (Option Located → List TextFault) → List SeenNode → ℕ → List TextFault
@@ -153,7 +171,7 @@ module _ (scoping : Scoping) (on : FeatureTest) where
   -- ---- plans
   abbrev tables_of : List SeenNode → List SeenChoice → Tables
   tables_of ss cs = record {
-    nodes = nodes_of (record { nodes = map draft_of ss; choices = []; types = []; modules = []; patterns = [] }) 0 ss;
+    nodes = nodes_of (record { nodes = map draft_of ss; choices = []; types = []; modules = []; patterns = [] }) (case_named cs) 0 ss;
     choices = map choice_of cs;
     types = [];
     modules = modules_from on 0 scoping.texts;
@@ -167,8 +185,9 @@ module _ (scoping : Scoping) (on : FeatureTest) where
 
   tables_are : (plan : Plan) → data_tables scoping on plan ≡ tables_of (map (seen_node scoping) plan.nodes) (map (seen_choice scoping) plan.choices)
   tables_are plan =
-      let nodes = ap (λ t. nodes_from scoping t 0 plan.nodes) (drafts_are plan)
-      ∙ nodes_are (record { nodes = map draft_of (map (seen_node scoping) plan.nodes); choices = []; types = []; modules = []; patterns = [] }) 0 plan.nodes in
+      let nodes = (λ i. nodes_from scoping (drafts_are plan i) (named_is plan i) 0 plan.nodes)
+      ∙ nodes_are (record { nodes = map draft_of (map (seen_node scoping) plan.nodes); choices = []; types = []; modules = []; patterns = [] })
+      (case_named (map (seen_choice scoping) plan.choices)) 0 plan.nodes in
       let choices = map_seen (seen_choice scoping) (choice_in scoping on) choice_of choice_is plan.choices in
       λ i. record { nodes = nodes i; choices = choices i; types = []; modules = modules_from on 0 scoping.texts; patterns = [] }
 
@@ -177,19 +196,21 @@ module _ (scoping : Scoping) (on : FeatureTest) where
 
   abbrev all_faults_of : List SeenNode → List SeenChoice → List TextFault
   all_faults_of ss cs =
-      faults_of (record { nodes = map draft_of ss; choices = []; types = []; modules = []; patterns = [] }) 0 ss
+      faults_of (record { nodes = map draft_of ss; choices = []; types = []; modules = []; patterns = [] }) (case_named cs) 0 ss
+      ++ (seen_faults ss cs
       ++ ((asking_of (blame ss) (tables_of ss cs) 0 ss ++ choices_of (blame ss) (tables_of ss cs) 0 cs)
-      ++ conditions_of (keyed ss) (tables_of ss cs).nodes)
+      ++ conditions_of (keyed ss) (tables_of ss cs).nodes))
 
   all_faults_are : (plan : Plan) → data_faults scoping on plan ≡ all_faults_of (map (seen_node scoping) plan.nodes) (map (seen_choice scoping) plan.choices)
   all_faults_are plan =
-      let own = ap (λ t. faults_from scoping t 0 plan.nodes) (drafts_are plan)
-      ∙ faults_are (record { nodes = map draft_of (map (seen_node scoping) plan.nodes); choices = []; types = []; modules = []; patterns = [] }) 0 plan.nodes in
+      let own = (λ i. faults_from scoping (drafts_are plan i) (named_is plan i) 0 plan.nodes)
+      ∙ faults_are (record { nodes = map draft_of (map (seen_node scoping) plan.nodes); choices = []; types = []; modules = []; patterns = [] })
+      (case_named (map (seen_choice scoping) plan.choices)) 0 plan.nodes in
       let by_default = ap (λ t. default_faults scoping t plan) (tables_are plan)
       ∙ defaults_are plan (tables_of (map (seen_node scoping) plan.nodes) (map (seen_choice scoping) plan.choices)) in
       let by_keys = ap (λ (t : Tables). all_conditions scoping plan t.nodes) (tables_are plan)
       ∙ conditions_are plan (tables_of (map (seen_node scoping) plan.nodes) (map (seen_choice scoping) plan.choices)).nodes in
-      λ i. own i ++ (by_default i ++ by_keys i)
+      λ i. own i ++ (names_are scoping plan i ++ (by_default i ++ by_keys i))
 
   pub faults_alike : (p q : Plan) → AreAlike scoping p q → data_faults scoping on p ≡ data_faults scoping on q
   faults_alike p q h = all_faults_are p ∙ (λ i. all_faults_of (h.nodes i) (h.choices i)) ∙ sym (all_faults_are q)

@@ -27,6 +27,7 @@ use Rattle.nc_yang_nodes.specs.declared.planned.Plan.{Plan}
 use Rattle.nc_yang_nodes.specs.declared.planned.Planned.{Planned}
 use Rattle.nc_yang_data.specs.Data.{data_tables, drafts, node_at, nodes_from, with_leafs}
 use Rattle.nc_yang_data.specs.Drafts.{draft_at}
+use Rattle.nc_yang_data.specs.Leafs.{CaseTest, names_case}
 use Rattle.nc_yang_data.specs.Lists.{list_faults}
 use Rattle.nc_yang_data.specs.Places.{faults_at, faults_from, holds_at, in_text, is_astray, is_twin, leafs_at, node_faults}
 use Rattle.nc_yang_data.specs.declared.place.Leafs.{Leafs}
@@ -69,29 +70,29 @@ pub all_at : {A : Type 0} (P : A → Type 0) (xs : List A) (n : ℕ) (x : A) →
 all_at P xs n x h is = subst P (get_or_from_slice_get xs n x x is) (All-get_or P xs n x (slice_get_within xs n x is) h)
 
 -- ---- planned nodes, one after another
-nodes_at : (scoping : Scoping) (tables : Tables) (k n : ℕ) (ps : List Planned) →
-    slice_get (nodes_from scoping tables k ps) n ≡ option_map (node_at scoping tables (k + n)) (slice_get ps n)
-nodes_at scoping tables k n [] = refl
-nodes_at scoping tables k zero (p ∷ ps) =
-    let e : k ≡ k + 0 = omega arith in ap (λ m. Some (node_at scoping tables m p)) e
-nodes_at scoping tables k (suc n) (p ∷ ps) =
+nodes_at : (scoping : Scoping) (tables : Tables) (named : CaseTest) (k n : ℕ) (ps : List Planned) →
+    slice_get (nodes_from scoping tables named k ps) n ≡ option_map (node_at scoping tables named (k + n)) (slice_get ps n)
+nodes_at scoping tables named k n [] = refl
+nodes_at scoping tables named k zero (p ∷ ps) =
+    let e : k ≡ k + 0 = omega arith in ap (λ m. Some (node_at scoping tables named m p)) e
+nodes_at scoping tables named k (suc n) (p ∷ ps) =
     let e : k + 1 + n ≡ k + suc n = omega arith in
-    nodes_at scoping tables (k + 1) n ps ∙ ap (λ m. option_map (node_at scoping tables m) (slice_get ps n)) e
+    nodes_at scoping tables named (k + 1) n ps ∙ ap (λ m. option_map (node_at scoping tables named m) (slice_get ps n)) e
 
-faults_off : (scoping : Scoping) (tables : Tables) (k n : ℕ) (ps : List Planned) (p : Planned) → faults_from scoping tables k ps ≡ [] →
-    slice_get ps n ≡ Some p → faults_at scoping tables (k + n) p.statement ≡ []
-faults_off scoping tables k n [] p none is = absurd (cc)
-faults_off scoping tables k zero (q ∷ ps) p none is =
+faults_off : (scoping : Scoping) (tables : Tables) (named : CaseTest) (k n : ℕ) (ps : List Planned) (p : Planned) → faults_from scoping tables named k ps ≡ [] →
+    slice_get ps n ≡ Some p → faults_at scoping tables named (k + n) p.statement ≡ []
+faults_off scoping tables named k n [] p none is = absurd (cc)
+faults_off scoping tables named k zero (q ∷ ps) p none is =
     let e : k ≡ k + 0 = omega arith in
     let same : q ≡ p = cc in
-    subst (λ m. faults_at scoping tables m p.statement ≡ []) e
-    (subst (λ (z : Planned). faults_at scoping tables k z.statement ≡ []) same
-    (append_nothing (faults_at scoping tables k q.statement) (faults_from scoping tables (k + 1) ps) none).0)
-faults_off scoping tables k (suc n) (q ∷ ps) p none is =
+    subst (λ m. faults_at scoping tables named m p.statement ≡ []) e
+    (subst (λ (z : Planned). faults_at scoping tables named k z.statement ≡ []) same
+    (append_nothing (faults_at scoping tables named k q.statement) (faults_from scoping tables named (k + 1) ps) none).0)
+faults_off scoping tables named k (suc n) (q ∷ ps) p none is =
     let e : k + 1 + n ≡ k + suc n = omega arith in
-    subst (λ m. faults_at scoping tables m p.statement ≡ []) e
-    (faults_off scoping tables (k + 1) n ps p
-    (append_nothing (faults_at scoping tables k q.statement) (faults_from scoping tables (k + 1) ps) none).1 is)
+    subst (λ m. faults_at scoping tables named m p.statement ≡ []) e
+    (faults_off scoping tables named (k + 1) n ps p
+    (append_nothing (faults_at scoping tables named k q.statement) (faults_from scoping tables named (k + 1) ps) none).1 is)
 
 -- ---- the data nodes of a plan
 module _ (scoping : Scoping) (on : FeatureTest) (plan : Plan) where
@@ -101,20 +102,23 @@ module _ (scoping : Scoping) (on : FeatureTest) (plan : Plan) where
   abbrev pub whole : Tables
   whole = data_tables scoping on plan
 
+  abbrev named : CaseTest
+  named = names_case scoping on plan
+
   -- a data node, what is planned of it, and its statement, which breaks no rule
   pub record Known (number : ℕ) (node : Node) : Type 0 where
     pub p : Planned
     pub planned : slice_get plan.nodes number ≡ Some p
-    pub is : node ≡ node_at scoping alone number p
+    pub is : node ≡ node_at scoping alone named number p
     pub l : Located
     pub located : slice_get scoping.located p.statement ≡ Some l
-    pub kept : node_faults scoping.texts alone l.place.text number l.statement ≡ []
+    pub kept : node_faults scoping.texts alone named l.place.text number l.statement ≡ []
 
-  node_there : (number : ℕ) (p : Planned) → slice_get plan.nodes number ≡ Some p → slice_get whole.nodes number ≡ Some (node_at scoping alone number p)
+  node_there : (number : ℕ) (p : Planned) → slice_get plan.nodes number ≡ Some p → slice_get whole.nodes number ≡ Some (node_at scoping alone named number p)
   node_there number p is =
       let e : 0 + number ≡ number = omega arith in
-      nodes_at scoping alone 0 number plan.nodes ∙ ap (λ m. option_map (node_at scoping alone m) (slice_get plan.nodes number)) e
-      ∙ ap (option_map (node_at scoping alone number)) is
+      nodes_at scoping alone named 0 number plan.nodes ∙ ap (λ m. option_map (node_at scoping alone named m) (slice_get plan.nodes number)) e
+      ∙ ap (option_map (node_at scoping alone named number)) is
 
   draft_there : (number : ℕ) (p : Planned) → slice_get plan.nodes number ≡ Some p → slice_get alone.nodes number ≡ Some (draft_at scoping p)
   draft_there number p is = slice_get-map (draft_at scoping) plan.nodes number ∙ ap (option_map (draft_at scoping)) is
@@ -123,25 +127,25 @@ module _ (scoping : Scoping) (on : FeatureTest) (plan : Plan) where
   pub in_whole : (number : ℕ) (x : Node) → slice_get alone.nodes number ≡ Some x → (leafs : Leafs) × (slice_get whole.nodes number ≡ Some (with_leafs x leafs))
   in_whole number x is =
       let (q, planned, same) = mapped (draft_at scoping) (slice_get plan.nodes number) x (sym (slice_get-map (draft_at scoping) plan.nodes number) ∙ is) in
-      let leafs : Leafs = leafs_at scoping alone number q.statement in
+      let leafs : Leafs = leafs_at scoping alone named number q.statement in
       (leafs, node_there number q planned ∙ ap (λ (z : Node). Some (with_leafs z leafs)) (sym same))
 
-  pub known : (number : ℕ) (node : Node) → IsSoundPlan scoping plan → faults_from scoping alone 0 plan.nodes ≡ [] → slice_get whole.nodes number ≡ Some node → Known number node
+  pub known : (number : ℕ) (node : Node) → IsSoundPlan scoping plan → faults_from scoping alone named 0 plan.nodes ≡ [] → slice_get whole.nodes number ≡ Some node → Known number node
   known number node sound none is =
       let e : 0 + number ≡ number = omega arith in
-      let (p, planned, same) = mapped (node_at scoping alone (0 + number)) (slice_get plan.nodes number) node (sym (nodes_at scoping alone 0 number plan.nodes) ∙ is) in
+      let (p, planned, same) = mapped (node_at scoping alone named (0 + number)) (slice_get plan.nodes number) node (sym (nodes_at scoping alone named 0 number plan.nodes) ∙ is) in
       let (l, located) = some_of (slice_get scoping.located p.statement) (all_at (λ (n : Planned). IsSome (slice_get scoping.located n.statement)) plan.nodes number p sound.statements planned) in
-      let off = faults_off scoping alone 0 number plan.nodes p none planned in
+      let off = faults_off scoping alone named 0 number plan.nodes p none planned in
       record {
         p = p;
         planned = planned;
-        is = same ∙ ap (λ m. node_at scoping alone m p) e;
+        is = same ∙ ap (λ m. node_at scoping alone named m p) e;
         l = l;
         located = located;
         kept =
-            map_nothing (in_text l.place.text) (node_faults scoping.texts alone l.place.text number l.statement)
-            (sym (ap (λ o. option_map_or (λ (z : Located). map (in_text z.place.text) (node_faults scoping.texts alone z.place.text number z.statement)) o []) located)
-            ∙ ap (λ m. faults_at scoping alone m p.statement) (sym e) ∙ off);
+            map_nothing (in_text l.place.text) (node_faults scoping.texts alone named l.place.text number l.statement)
+            (sym (ap (λ o. option_map_or (λ (z : Located). map (in_text z.place.text) (node_faults scoping.texts alone named z.place.text number z.statement)) o []) located)
+            ∙ ap (λ m. faults_at scoping alone named m p.statement) (sym e) ∙ off);
       }
 
   module _ (number : ℕ) (node : Node) (k : Known number node) where
@@ -149,11 +153,11 @@ module _ (scoping : Scoping) (on : FeatureTest) (plan : Plan) where
     first_parts = at_if (is_twin alone number) k.l.statement Twice ++ at_if (is_astray alone number) k.l.statement UnknownStatement
 
     abbrev list_part : List Fault
-    list_part = if is_same_keyword ListWord (kind k.l.statement) then list_faults scoping.texts alone k.l.place.text number k.l.statement else []
+    list_part = if is_same_keyword ListWord (kind k.l.statement) then list_faults scoping.texts alone named k.l.place.text number k.l.statement else []
 
     pub parts_off : (at_if (is_twin alone number) k.l.statement Twice ≡ []) × (at_if (is_astray alone number) k.l.statement UnknownStatement ≡ [])
         × (at_if (not (is_identifier (name k.l.statement))) k.l.statement BadArgument ≡ [])
-        × ((if is_same_keyword ListWord (kind k.l.statement) then list_faults scoping.texts alone k.l.place.text number k.l.statement else []) ≡ [])
+        × ((if is_same_keyword ListWord (kind k.l.statement) then list_faults scoping.texts alone named k.l.place.text number k.l.statement else []) ≡ [])
     parts_off =
         let (front, last) = append_nothing (first_parts ++ at_if (not (is_identifier (name k.l.statement))) k.l.statement BadArgument) list_part k.kept in
         let (two, third) = append_nothing first_parts (at_if (not (is_identifier (name k.l.statement))) k.l.statement BadArgument) front in

@@ -34,7 +34,7 @@ use Rattle.nc_yang_scopes.specs.Scopes.{Located, Scoping}
 use Rattle.nc_yang_nodes.specs.Roles.{FeatureTest}
 use Rattle.nc_yang_nodes.specs.declared.planned.Plan.{Plan}
 use Rattle.nc_yang_data.specs.Drafts.{draft_in, kind_of, unknown_in}
-use Rattle.nc_yang_data.specs.Leafs.{all_there, child_at, child_named, if_node, key_at, leafs_by, local_name, may_be_key, space_at}
+use Rattle.nc_yang_data.specs.Leafs.{CaseTest, names_case, all_there, child_at, child_named, if_node, key_at, leafs_by, local_name, may_be_key, space_at}
 use Rattle.nc_yang_data.specs.Lists.{has_again, has_none, key_faults, keyless, keys_of, list_faults, not_unique}
 use Rattle.nc_yang_data.specs.Places.{list_leafs, node_leafs}
 use Rattle.nc_yang_data.specs.declared.naming.Naming.TheVariants.{Keys}
@@ -137,11 +137,16 @@ first_child tables number name c e = by tables.nodes e
         let x : Node = get_or (n ∷ nodes) c n in
         (x, slice_get-get_or (n ∷ nodes) c n is.0, same_number x.parent number (first_true (is_same_number x.parent (Some number)) (is_same_name x.name name) is.1))
 
+-- by its local name
+pub named_there : (tables : Tables) (number : ℕ) (local : List ℕ) (c : ℕ) → child_named tables number local ≡ Some c →
+    (x : Node) × (slice_get tables.nodes c ≡ Some x) × (x.parent ≡ Some number)
+named_there tables number local c found = first_child tables number (record { space = space_at tables number; name = local }) c found
+
 pub child_there : (texts : List Statement) (tables : Tables) (text number : ℕ) (word : List ℕ) (c : ℕ) → child_at texts tables text number word ≡ Some c →
     (x : Node) × (slice_get tables.nodes c ≡ Some x) × (x.parent ≡ Some number)
 child_there texts tables text number word c at =
     option_and_then_some (child_named tables number) (local_name texts text word) c at
-    (λ local named found. first_child tables number (record { space = space_at tables number; name = local }) c found)
+    (λ local said found. named_there tables number local c found)
 
 key_alone : (texts : List Statement) (tables : Tables) (text number : ℕ) (word : List ℕ) (key : ℕ) → key_at texts tables text number word ≡ Some key →
     IsKeyAlone tables number key
@@ -163,27 +168,27 @@ key_alone texts tables text number word key e =
     })
 
 -- ---- the `key` statement of a list
-record HasKeys (texts : List Statement) (tables : Tables) (text number : ℕ) (list : Statement) : Type 0 where
+record HasKeys (texts : List Statement) (tables : Tables) (named : CaseTest) (text number : ℕ) (list : Statement) : Type 0 where
   keys : List ℕ
-  are : keys_of texts tables text number list ≡ Some keys
+  are : keys_of texts tables named text number list ≡ Some keys
   some : has_none keys ≡ false
   once : has_again [] keys ≡ false
   each : All (λ (key : ℕ). (word : List ℕ) × (key_at texts tables text number word ≡ Some key)) keys
 
-has_keys : (texts : List Statement) (tables : Tables) (text number : ℕ) (list : Statement) → keyless texts tables text number list ≡ [] →
-    HasKeys texts tables text number list
-has_keys texts tables text number list off = by (part Key (below list)) refl
+has_keys : (texts : List Statement) (tables : Tables) (named : CaseTest) (text number : ℕ) (list : Statement) → keyless texts tables named text number list ≡ [] →
+    HasKeys texts tables named text number list
+has_keys texts tables named text number list off = by (part Key (below list)) refl
   where
-    by : (o : Option Statement) → part Key (below list) ≡ o → HasKeys texts tables text number list
+    by : (o : Option Statement) → part Key (below list) ≡ o → HasKeys texts tables named text number list
     by None f =
-        let clash = at_if_off true list Missing (sym (ap (λ o. option_map_or (λ (s : Statement). key_faults s (leafs_by Keys texts tables text number (name s))) o (at_if true list Missing)) f) ∙ off) in
+        let clash = at_if_off true list Missing (sym (ap (λ o. option_map_or (λ (s : Statement). key_faults s (leafs_by Keys texts tables named text number (name s))) o (at_if true list Missing)) f) ∙ off) in
         absurd (cc)
     by (Some s) f =
-        inner (leafs_by Keys texts tables text number (name s)) refl
-        (sym (ap (λ o. option_map_or (λ (s : Statement). key_faults s (leafs_by Keys texts tables text number (name s))) o (at_if true list Missing)) f) ∙ off)
+        inner (leafs_by Keys texts tables named text number (name s)) refl
+        (sym (ap (λ o. option_map_or (λ (s : Statement). key_faults s (leafs_by Keys texts tables named text number (name s))) o (at_if true list Missing)) f) ∙ off)
       where
-        inner : (r : Option (List ℕ)) → leafs_by Keys texts tables text number (name s) ≡ r → key_faults s (leafs_by Keys texts tables text number (name s)) ≡ [] →
-            HasKeys texts tables text number list
+        inner : (r : Option (List ℕ)) → leafs_by Keys texts tables named text number (name s) ≡ r → key_faults s (leafs_by Keys texts tables named text number (name s)) ≡ [] →
+            HasKeys texts tables named text number list
         inner None g none =
             let clash = at_if_off true s UnknownName (sym (ap (key_faults s) g) ∙ none) in
             absurd (cc)
@@ -191,7 +196,7 @@ has_keys texts tables text number list off = by (part Key (below list)) refl
             let (one, two) = append_nothing (at_if (has_none keys) s BadArgument) (at_if (has_again [] keys) s Twice) (sym (ap (key_faults s) g) ∙ none) in
             record {
               keys = keys;
-              are = ap (λ o. option_and_then (λ (s : Statement). leafs_by Keys texts tables text number (name s)) o) f ∙ g;
+              are = ap (λ o. option_and_then (λ (s : Statement). leafs_by Keys texts tables named text number (name s)) o) f ∙ g;
               some = at_if_off (has_none keys) s BadArgument one;
               once = at_if_off (has_again [] keys) s Twice two;
               each = there_each (key_at texts tables text number) (filter (λ part. nat_lt 0 (length part)) (slice_split is_white (name s))) keys g;
@@ -221,10 +226,10 @@ module _ (scoping : Scoping) (on : FeatureTest) (plan : Plan) (number : ℕ) (no
       ap (λ (n : Node). n.kind) k.is
       ∙ ap (λ o. (option_map_or (λ (l : Located). draft_in (namespace_at scoping.texts k.p.module) k.p l.statement) o (unknown_in (namespace_at scoping.texts k.p.module) k.p)).kind) k.located
 
-  keys_are : node.keys ≡ (node_leafs scoping.texts (alone scoping on plan) k.l.place.text number k.l.statement).keys
+  keys_are : node.keys ≡ (node_leafs scoping.texts (alone scoping on plan) (names_case scoping on plan) k.l.place.text number k.l.statement).keys
   keys_are =
       ap (λ (n : Node). n.keys) k.is
-      ∙ ap (λ o. (option_map_or (λ (l : Located). node_leafs scoping.texts (alone scoping on plan) l.place.text number l.statement) o (record { keys = []; uniques = [] })).keys) k.located
+      ∙ ap (λ o. (option_map_or (λ (l : Located). node_leafs scoping.texts (alone scoping on plan) (names_case scoping on plan) l.place.text number l.statement) o (record { keys = []; uniques = [] })).keys) k.located
 
   key_in : (key : ℕ) → (word : List ℕ) × (key_at scoping.texts (alone scoping on plan) k.l.place.text number word ≡ Some key) →
       IsSomeAnd (slice_get (whole scoping on plan).nodes key) (IsKeyIn number)
@@ -248,7 +253,7 @@ module _ (scoping : Scoping) (on : FeatureTest) (plan : Plan) (number : ℕ) (no
       by false e =
           let none : node.keys ≡ [] =
           keys_are
-          ∙ ap (λ b. (if b then list_leafs scoping.texts (alone scoping on plan) k.l.place.text number k.l.statement else record { keys = []; uniques = [] }).keys) e in
+          ∙ ap (λ b. (if b then list_leafs scoping.texts (alone scoping on plan) (names_case scoping on plan) k.l.place.text number k.l.statement else record { keys = []; uniques = [] }).keys) e in
           let other : node.kind ≢ ListKind = λ is. kind_other (kind k.l.statement) (below k.l.statement) e (sym kind_is ∙ is) in
           record {
             some = (λ is. absurd (other is), λ any. absurd (any none));
@@ -258,15 +263,15 @@ module _ (scoping : Scoping) (on : FeatureTest) (plan : Plan) (number : ℕ) (no
           }
       by true e =
           let off =
-          sym (ap (λ b. if b then list_faults scoping.texts (alone scoping on plan) k.l.place.text number k.l.statement else []) e)
+          sym (ap (λ b. if b then list_faults scoping.texts (alone scoping on plan) (names_case scoping on plan) k.l.place.text number k.l.statement else []) e)
           ∙ (parts_off scoping on plan number node k).3 in
           let h =
-          has_keys scoping.texts (alone scoping on plan) k.l.place.text number k.l.statement
-          (append_nothing (keyless scoping.texts (alone scoping on plan) k.l.place.text number k.l.statement)
-          (not_unique scoping.texts (alone scoping on plan) k.l.place.text number k.l.statement) off).0 in
+          has_keys scoping.texts (alone scoping on plan) (names_case scoping on plan) k.l.place.text number k.l.statement
+          (append_nothing (keyless scoping.texts (alone scoping on plan) (names_case scoping on plan) k.l.place.text number k.l.statement)
+          (not_unique scoping.texts (alone scoping on plan) (names_case scoping on plan) k.l.place.text number k.l.statement) off).0 in
           let are : node.keys ≡ h.keys =
           keys_are
-          ∙ ap (λ b. (if b then list_leafs scoping.texts (alone scoping on plan) k.l.place.text number k.l.statement else record { keys = []; uniques = [] }).keys) e
+          ∙ ap (λ b. (if b then list_leafs scoping.texts (alone scoping on plan) (names_case scoping on plan) k.l.place.text number k.l.statement else record { keys = []; uniques = [] }).keys) e
           ∙ ap (λ o. unwrap_or o []) h.are in
           record {
             some = (λ is none. some_keys h.keys h.some (sym are ∙ none), λ any. kind_is ∙ kind_list (kind k.l.statement) (below k.l.statement) e);

@@ -9,7 +9,9 @@ use Rattle.nc_yang_nodes.specs.declared.planned.Plan.{Plan}
 use Rattle.nc_yang_data.specs.Conditions.{all_conditions}
 use Rattle.nc_yang_data.specs.Data.{data_faults, data_tables, drafts}
 use Rattle.nc_yang_data.specs.Defaults.{default_faults}
+use Rattle.nc_yang_data.specs.Leafs.{names_case}
 use Rattle.nc_yang_data.specs.Places.{faults_from}
+use Rattle.nc_yang_data.specs.Siblings.{name_faults}
 use Rattle.nc_yang_data.proofs.Kept.{append_nothing, apart, known, stands}
 use Rattle.nc_yang_data.proofs.KeptCases.{choice_cases, node_cases}
 use Rattle.nc_yang_data.proofs.KeptKeys.{its_keys}
@@ -21,8 +23,8 @@ pub in_place : (scoping : Scoping) (on : FeatureTest) (plan : Plan) → IsPlan s
 in_place scoping on plan planned off =
     let sound = plan_is_sound scoping on plan planned in
     let none =
-    (append_nothing (faults_from scoping (drafts scoping plan) 0 plan.nodes)
-    (default_faults scoping (data_tables scoping on plan) plan ++ all_conditions scoping plan (data_tables scoping on plan).nodes) off).0 in
+    (append_nothing (faults_from scoping (drafts scoping plan) (names_case scoping on plan) 0 plan.nodes)
+    (name_faults scoping plan ++ (default_faults scoping (data_tables scoping on plan) plan ++ all_conditions scoping plan (data_tables scoping on plan).nodes)) off).0 in
     record {
       parents = λ number node is. stands scoping on plan number node (known scoping on plan number node sound none is) sound;
       names = λ number node is. is_named scoping on plan number node (known scoping on plan number node sound none is) sound;

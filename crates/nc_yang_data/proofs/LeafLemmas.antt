@@ -1,11 +1,13 @@
 -- Leafs that words name one after another.
 use Rattle.std.specs.List.{slice_split}
 use Rattle.std.proofs.lemmas.List.Splits.{length-slice_split}
-use Rattle.std.proofs.Common.{◌≡◌, ◌<◌, ◌+◌, eqb, count_by, is_some, Bor, arith, ℕ, Bool, true, false, cond, List, [], ◌∷◌, ◌++◌, length, nat_lt, map, filter, Option, Some, None, option_map, refl, sym, ap, ◌∙◌, append_assoc}
+use Rattle.std.specs.Prelude.{option_and_then}
+use Rattle.std.proofs.Common.{◌≡◌, ◌+◌, eqb, count_by, is_some, Bor, arith, ℕ, Bool, true, false, cond, List, [], ◌∷◌, ◌++◌, length, nat_lt, map, filter, Option, Some, None, option_map, refl, ap, ◌∙◌, sym, append_assoc}
 use Rattle.nc_names.specs.Signs.{slash}
 use Rattle.nc_schema.specs.Tables.{Tables}
 use Rattle.nc_yang_words.specs.declared.statement.Statement.{Statement}
-use Rattle.nc_yang_data.specs.Leafs.{all_there, child_at, if_node, is_container, leaf_below}
+use Rattle.nc_yang_data.specs.Leafs.{CaseTest, all_there, if_node, is_unique_leaf, leaf_below, local_name, node_behind, onward}
+use Rattle.nc_yang_data.specs.declared.leaf.Way.{Way}
 use Rattle.nc_yang_data.specs.inner.Words.{names_of}
 
 -- what is there of both
@@ -58,22 +60,39 @@ module _ (K : List ℕ → Option ℕ) where
       ∙ twice found keys (all_there (in_parts (part ∷ []))) (all_there (in_parts more)) step
 
 -- ---- names that lead down
-module _ (texts : List Statement) (tables : Tables) (text : ℕ) where
-  -- the next name leads to no container
-  no_container_by : (names parts : List (List ℕ)) (part : List ℕ) (above child : ℕ) → names ≡ part ∷ parts → 0 < length parts →
-      child_at texts tables text above part ≡ Some child → if_node is_container tables child ≡ None →
-      None ≡ leaf_below texts tables text names above
-  no_container_by names [] part above child e some here stops = absurd (omega (arith, some))
-  no_container_by names (next ∷ parts) part above child e some here stops = rw (e, here, stops) refl
+module _ (texts : List Statement) (tables : Tables) (named : CaseTest) (text : ℕ) where
+  -- of a text of which more is left there are parts
+  more_parts : (rest : List ℕ) → (parts : List (List ℕ)) → slice_split (λ c. eqb c slash) rest ≡ parts → (next : List ℕ) × (others : List (List ℕ)) × (parts ≡ next ∷ others)
+  more_parts rest [] is =
+      let size : length (slice_split (λ c. eqb c slash) rest) ≡ count_by (λ c. eqb c slash) rest + 1 = length-slice_split (λ c. eqb c slash) rest in
+      absurd (let none : length (slice_split (λ c. eqb c slash) rest) ≡ 0 = ap length is in omega (arith, size, none))
+  more_parts rest (next ∷ others) is = (next, others, refl)
 
-  -- of a text of which more is left
-  pub no_container : (left : Option (Bor (List ℕ))) (rest part : List ℕ) (more : Option (Bor (List ℕ))) (above child : ℕ) →
-      slice_split (λ c. eqb c slash) rest ≡ part ∷ names_of (option_map (λ r. r.now) more) → is_some more ≡ true →
-      child_at texts tables text above part ≡ Some child → if_node is_container tables child ≡ None →
-      None ≡ leaf_below texts tables text (slice_split (λ c. eqb c slash) rest) above
-  no_container left rest part None above child e some here stops = absurd (cc)
-  no_container left rest part (Some after) above child e some here stops =
-      let size : length (slice_split (λ c. eqb c slash) after.now) ≡ count_by (λ c. eqb c slash) after.now + 1 =
-      length-slice_split (λ c. eqb c slash) after.now in
-      no_container_by (slice_split (λ c. eqb c slash) rest) (slice_split (λ c. eqb c slash) after.now) part above child e
-      (omega (arith, size)) here stops
+  -- a name of which more follow
+  further_by : (way : Way) (names parts : List (List ℕ)) (part local : List ℕ) → names ≡ part ∷ parts → (next : List ℕ) × (others : List (List ℕ)) × (parts ≡ next ∷ others) → local_name texts text part ≡ Some local →
+      leaf_below texts tables named text way names ≡ option_and_then (λ later. leaf_below texts tables named text later parts) (onward tables named way local)
+  further_by way names parts part local e more said = rw (e, more.2) (rw said refl)
+
+  pub further : (way : Way) (rest part local : List ℕ) (more : Option (Bor (List ℕ))) → slice_split (λ c. eqb c slash) rest ≡ part ∷ names_of (option_map (λ r. r.now) more) → is_some more ≡ true →
+      local_name texts text part ≡ Some local → (o : Option Way) → onward tables named way local ≡ o →
+      leaf_below texts tables named text way (slice_split (λ c. eqb c slash) rest) ≡ option_and_then (λ later. leaf_below texts tables named text later (names_of (option_map (λ r. r.now) more))) o
+  further way rest part local None e some said o leads = absurd (cc)
+  further way rest part local (Some after) e some said o leads =
+      further_by way (slice_split (λ c. eqb c slash) rest) (slice_split (λ c. eqb c slash) after.now) part local e (more_parts after.now (slice_split (λ c. eqb c slash) after.now) refl) said
+      ∙ ap (option_and_then (λ later. leaf_below texts tables named text later (slice_split (λ c. eqb c slash) after.now))) leads
+
+  -- the last name
+  pub last_name : (way : Way) (rest part local : List ℕ) (more : Option (Bor (List ℕ))) → slice_split (λ c. eqb c slash) rest ≡ part ∷ names_of (option_map (λ r. r.now) more) → is_some more ≡ false →
+      local_name texts text part ≡ Some local →
+      leaf_below texts tables named text way (slice_split (λ c. eqb c slash) rest) ≡ option_and_then (if_node is_unique_leaf tables) (node_behind tables named way local)
+  last_name way rest part local None e some said = ap (leaf_below texts tables named text way) e ∙ ap (λ o. option_and_then (if_node is_unique_leaf tables) (option_and_then (node_behind tables named way) o)) said
+  last_name way rest part local (Some after) e some said = absurd (cc)
+
+  -- a name of another module
+  none_by : (way : Way) (part : List ℕ) (parts : List (List ℕ)) → local_name texts text part ≡ None → leaf_below texts tables named text way (part ∷ parts) ≡ None
+  none_by way part [] none = ap (λ o. option_and_then (if_node is_unique_leaf tables) (option_and_then (node_behind tables named way) o)) none
+  none_by way part (next ∷ parts) none = ap (λ o. option_and_then (λ later. leaf_below texts tables named text later (next ∷ parts)) (option_and_then (onward tables named way) o)) none
+
+  pub no_name : (way : Way) (rest part : List ℕ) (parts : List (List ℕ)) → slice_split (λ c. eqb c slash) rest ≡ part ∷ parts → local_name texts text part ≡ None →
+      leaf_below texts tables named text way (slice_split (λ c. eqb c slash) rest) ≡ None
+  no_name way rest part parts e none = ap (leaf_below texts tables named text way) e ∙ none_by way part parts none

@@ -1,5 +1,6 @@
 mod WordLemmas
 mod LeafLemmas
+mod CaseLemmas
 mod SeenLemmas
 mod PlaceLemmas
 mod PrefixLemmas
@@ -14,4 +15,6 @@ mod KeptUniques
 mod KeptNames
 mod KeptCases
 pub mod Lawful
+mod TwinLemmas
+mod SeenTwins
 pub mod AlikeLemmas

@@ -3,6 +3,7 @@ pub mod Drafts
 pub mod Leafs
 pub mod Lists
 pub mod Places
+pub mod Siblings
 pub mod Defaults
 pub mod Conditions
 pub mod Data

@@ -10,7 +10,7 @@ use Rattle.nc_yang_statements.specs.Statements.{below, kind, name, part}
 use Rattle.nc_yang_statements.specs.declared.fault.Fault.{Fault}
 use Rattle.nc_yang_statements.specs.declared.fault.ModuleWhy.TheVariants.{BadArgument, Missing, Twice, UnknownName}
 use Rattle.nc_yang_statements.specs.declared.keyword.Keyword.TheVariants.{Key, Unique}
-use Rattle.nc_yang_data.specs.Leafs.{leafs_by}
+use Rattle.nc_yang_data.specs.Leafs.{CaseTest, leafs_by}
 use Rattle.nc_yang_data.specs.declared.naming.Naming.TheVariants.{Keys, Uniques}
 
 -- a number stands there that stands before it, or before all
@@ -27,38 +27,38 @@ key_faults s None = at_if true s UnknownName
 key_faults s (Some keys) = at_if (has_none keys) s BadArgument ++ at_if (has_again [] keys) s Twice
 
 -- the keys of a list (RFC 7950 7.8.2)
-abbrev pub keys_of : List Statement → Tables → (text number : ℕ) → (list : Statement) → Option (List ℕ)
-keys_of texts tables text number list =
-    option_and_then (λ s. leafs_by Keys texts tables text number (name s)) (part Key (below list))
+abbrev pub keys_of : List Statement → Tables → CaseTest → (text number : ℕ) → (list : Statement) → Option (List ℕ)
+keys_of texts tables named text number list =
+    option_and_then (λ s. leafs_by Keys texts tables named text number (name s)) (part Key (below list))
 
 -- a list of a configuration has keys
-abbrev pub keyless : List Statement → Tables → (text number : ℕ) → (list : Statement) → List Fault
-keyless texts tables text number list =
-    option_map_or (λ s. key_faults s (leafs_by Keys texts tables text number (name s))) (part Key (below list))
+abbrev pub keyless : List Statement → Tables → CaseTest → (text number : ℕ) → (list : Statement) → List Fault
+keyless texts tables named text number list =
+    option_map_or (λ s. key_faults s (leafs_by Keys texts tables named text number (name s))) (part Key (below list))
     (at_if true list Missing)
 
 -- a `unique` statement has words, and each names a leaf below the list (RFC 7950 7.8.3)
-abbrev pub unique_fault : List Statement → Tables → (text number : ℕ) → Statement → List Fault
-unique_fault texts tables text number s =
+abbrev pub unique_fault : List Statement → Tables → CaseTest → (text number : ℕ) → Statement → List Fault
+unique_fault texts tables named text number s =
     if is_same_keyword Unique (kind s)
     then option_map_or (λ leafs. at_if (has_none leafs) s BadArgument)
-    (leafs_by Uniques texts tables text number (name s)) (at_if true s UnknownName)
+    (leafs_by Uniques texts tables named text number (name s)) (at_if true s UnknownName)
     else []
 
-abbrev pub not_unique : List Statement → Tables → (text number : ℕ) → (list : Statement) → List Fault
-not_unique texts tables text number list = flat_map (unique_fault texts tables text number) (below list)
+abbrev pub not_unique : List Statement → Tables → CaseTest → (text number : ℕ) → (list : Statement) → List Fault
+not_unique texts tables named text number list = flat_map (unique_fault texts tables named text number) (below list)
 
 -- the leafs of each `unique` statement of a list
-abbrev pub unique_leafs : List Statement → Tables → (text number : ℕ) → Statement → List (List ℕ)
-unique_leafs texts tables text number s =
+abbrev pub unique_leafs : List Statement → Tables → CaseTest → (text number : ℕ) → Statement → List (List ℕ)
+unique_leafs texts tables named text number s =
     if is_same_keyword Unique (kind s)
-    then option_map_or (λ leafs. leafs ∷ []) (leafs_by Uniques texts tables text number (name s)) []
+    then option_map_or (λ leafs. leafs ∷ []) (leafs_by Uniques texts tables named text number (name s)) []
     else []
 
-abbrev pub uniques_of : List Statement → Tables → (text number : ℕ) → (list : Statement) → List (List ℕ)
-uniques_of texts tables text number list = flat_map (unique_leafs texts tables text number) (below list)
+abbrev pub uniques_of : List Statement → Tables → CaseTest → (text number : ℕ) → (list : Statement) → List (List ℕ)
+uniques_of texts tables named text number list = flat_map (unique_leafs texts tables named text number) (below list)
 
 -- all rules on a list
-abbrev pub list_faults : List Statement → Tables → (text number : ℕ) → (list : Statement) → List Fault
-list_faults texts tables text number list =
-    keyless texts tables text number list ++ not_unique texts tables text number list
+abbrev pub list_faults : List Statement → Tables → CaseTest → (text number : ℕ) → (list : Statement) → List Fault
+list_faults texts tables named text number list =
+    keyless texts tables named text number list ++ not_unique texts tables named text number list

@@ -15,6 +15,7 @@ use Rattle.nc_yang_statements.specs.declared.keyword.Keyword.TheVariants.{List a
 use Rattle.nc_yang_scopes.specs.Scopes.{Scoping}
 use Rattle.nc_yang_scopes.specs.declared.naming.TextFault.{TextFault}
 use Rattle.nc_yang_nodes.specs.declared.planned.Planned.{Planned}
+use Rattle.nc_yang_data.specs.Leafs.{CaseTest}
 use Rattle.nc_yang_data.specs.Lists.{keys_of, list_faults, uniques_of}
 use Rattle.nc_yang_data.specs.declared.place.Leafs.{Leafs}
 
@@ -34,24 +35,24 @@ is_astray tables number =
 
 -- the rules that the data node of a number breaks by its statement, which stands in a text; its name is an identifier
 -- (RFC 7950 6.2)
-abbrev pub node_faults : List Statement → Tables → (text number : ℕ) → Statement → List Fault
-node_faults texts tables text number s =
+abbrev pub node_faults : List Statement → Tables → CaseTest → (text number : ℕ) → Statement → List Fault
+node_faults texts tables named text number s =
     at_if (is_twin tables number) s Twice
     ++ at_if (is_astray tables number) s UnknownStatement
     ++ at_if (not (is_identifier (name s))) s BadArgument
-    ++ (if is_same_keyword ListWord (kind s) then list_faults texts tables text number s else [])
+    ++ (if is_same_keyword ListWord (kind s) then list_faults texts tables named text number s else [])
 
 -- the keys and the `unique` leafs of a list
-abbrev pub list_leafs : List Statement → Tables → (text number : ℕ) → Statement → Leafs
-list_leafs texts tables text number s = record {
-  keys = unwrap_or (keys_of texts tables text number s) [];
-  uniques = uniques_of texts tables text number s;
+abbrev pub list_leafs : List Statement → Tables → CaseTest → (text number : ℕ) → Statement → Leafs
+list_leafs texts tables named text number s = record {
+  keys = unwrap_or (keys_of texts tables named text number s) [];
+  uniques = uniques_of texts tables named text number s;
 }
 
 -- other data nodes have none
-abbrev pub node_leafs : List Statement → Tables → (text number : ℕ) → Statement → Leafs
-node_leafs texts tables text number s =
-    if is_same_keyword ListWord (kind s) then list_leafs texts tables text number s
+abbrev pub node_leafs : List Statement → Tables → CaseTest → (text number : ℕ) → Statement → Leafs
+node_leafs texts tables named text number s =
+    if is_same_keyword ListWord (kind s) then list_leafs texts tables named text number s
     else record { keys = []; uniques = [] }
 
 -- ---- all data nodes
@@ -60,18 +61,19 @@ abbrev pub in_text : ℕ → Fault → TextFault
 in_text text fault = record { text = text; fault = fault }
 
 -- the rules that the data node of a number breaks by the statement of a number
-abbrev pub faults_at : Scoping → Tables → (number statement : ℕ) → List TextFault
-faults_at scoping tables number statement =
-    option_map_or (λ l. map (in_text l.place.text) (node_faults scoping.texts tables l.place.text number l.statement))
+abbrev pub faults_at : Scoping → Tables → CaseTest → (number statement : ℕ) → List TextFault
+faults_at scoping tables named number statement =
+    option_map_or
+    (λ l. map (in_text l.place.text) (node_faults scoping.texts tables named l.place.text number l.statement))
     (slice_get scoping.located statement) []
 
-abbrev pub leafs_at : Scoping → Tables → (number statement : ℕ) → Leafs
-leafs_at scoping tables number statement =
-    option_map_or (λ l. node_leafs scoping.texts tables l.place.text number l.statement)
+abbrev pub leafs_at : Scoping → Tables → CaseTest → (number statement : ℕ) → Leafs
+leafs_at scoping tables named number statement =
+    option_map_or (λ l. node_leafs scoping.texts tables named l.place.text number l.statement)
     (slice_get scoping.located statement) (record { keys = []; uniques = [] })
 
 -- those of planned nodes, of which the first has that number
-abbrev pub faults_from : Scoping → Tables → ℕ → List Planned → List TextFault
-faults_from scoping tables number [] = []
-faults_from scoping tables number (p ∷ ps) =
-    faults_at scoping tables number p.statement ++ faults_from scoping tables (number + 1) ps
+abbrev pub faults_from : Scoping → Tables → CaseTest → ℕ → List Planned → List TextFault
+faults_from scoping tables named number [] = []
+faults_from scoping tables named number (p ∷ ps) =
+    faults_at scoping tables named number p.statement ++ faults_from scoping tables named (number + 1) ps

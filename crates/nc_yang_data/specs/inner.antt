@@ -1,2 +1,4 @@
 pub mod Words
 pub mod Seen
+pub mod Cases
+pub mod Called

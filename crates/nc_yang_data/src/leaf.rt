@@ -1,8 +1,10 @@
 //! Leafs that statements of a list name.
-ghost use Rattle.std.specs.Prelude.{◌≡◌, ◌&&◌, not, ◌++◌, ◌∷◌, [], IfOk, option_map};
+ghost use Rattle.std.specs.Prelude.{◌≡◌, ◌&&◌, not, ◌++◌, ◌∷◌, [], IfOk, option_and_then, option_map};
 ghost use Rattle.nc_schema.specs.Kinds.{holds_nodes, is_list};
+ghost use Rattle.nc_yang_data.specs.inner.Cases.{case_test};
 ghost use Rattle.nc_yang_data.specs.Leafs as leafs;
 
+use crate::cases::Cases;
 use crate::naming::Naming;
 use crate::words::{next_name, next_part};
 use nc_names::{Copies, Many, Memory, QName, Text};
@@ -143,31 +145,120 @@ fn key_at<'a>(
     }
 }
 
+/// Where names of a path have led.
+#[derive(Drop)]
+pub(crate) struct Way {
+    /// The number of the data node.
+    pub node: u32,
+    /// The names after that of the data node: of choices and of cases, if they lead to a node in it.
+    pub before: Many<Text>,
+}
+
+// The number, where the names before lead through the cases of the node.
+fn behind_if(schema: &Schema, cases: &Cases, before: &Many<Text>, number: u32) -> Option<u32>
+    ensures { result
+        ≡ leafs.if_node (λ node. leafs.are_named (case_test cases.now) node.cases before.now)
+        schema.now number }
+{
+    match schema.node(number) {
+        Some(node) => {
+            if cases.are_named(node.cases.as_slice(), before) {
+                Some(number)
+            } else {
+                None
+            }
+        }
+        None => None,
+    }
+}
+
+// The node of a name in the one to which names have led.
+fn node_behind(
+    alloc: Global,
+    schema: &Schema,
+    cases: &Cases,
+    way: &Way,
+    local: &str,
+) -> Result<Option<u32>, Memory>
+    ensures { IfOk result (λ it. it ≡ leafs.node_behind schema.now (case_test cases.now) way.now local.now) }
+{
+    match child_named(alloc, schema, way.node, local)? {
+        Some(child) => Ok(behind_if(schema, cases, &way.before, child)),
+        None => Ok(None),
+    }
+}
+
+// Where a further name leads.
+fn onward(
+    alloc: Global,
+    schema: &Schema,
+    cases: &Cases,
+    way: Way,
+    local: &str,
+) -> Result<Option<Way>, Memory>
+    ensures { IfOk result (λ it. it ≡ leafs.onward schema.now (case_test cases.now) way local.now) }
+{
+    let Some(child) = node_behind(alloc, schema, cases, &way, local)? else {
+        let mut way = way;
+        way.before.push(Text::from_text(alloc, local)?)?;
+        return Ok(Some(way));
+    };
+    let Some(node) = container_if(schema, child) else {
+        return Ok(None);
+    };
+    Ok(Some(Way {
+        node,
+        before: Many::new(alloc),
+    }))
+}
+
+// The leaf of a name, which is the last.
+fn leaf_behind(
+    alloc: Global,
+    schema: &Schema,
+    cases: &Cases,
+    way: &Way,
+    local: &str,
+) -> Result<Option<u32>, Memory>
+    ensures { IfOk result (λ it. it ≡ option_and_then (leafs.if_node leafs.is_unique_leaf schema.now)
+        (leafs.node_behind schema.now (case_test cases.now) way.now local.now)) }
+{
+    match node_behind(alloc, schema, cases, way, local)? {
+        Some(child) => Ok(leaf_if(schema, child)),
+        None => Ok(None),
+    }
+}
+
 // The leaf to which the names between slashes lead.
 fn unique_at<'a>(
     alloc: Global,
     scopes: &Scopes<'a>,
     schema: &Schema,
+    cases: &Cases,
     text: usize,
     number: u32,
     word: &'a str,
 ) -> Result<Option<u32>, Memory>
-    ensures { IfOk result (λ it. it ≡ leafs.unique_at scopes.now.texts schema.now text number word.now) }
+    ensures { IfOk result (λ it. it
+        ≡ leafs.unique_at scopes.now.texts schema.now (case_test cases.now) text number word.now) }
 {
-    let mut above = number;
+    let mut way = Way {
+        node: number,
+        before: Many::new(alloc),
+    };
     let mut left = Some(word);
     while let Some(rest) = left {
-        let (name, more) = next_name(rest);
-        let Some(child) = child_at(alloc, scopes, schema, text, above, name)? else {
+        let (part, more) = next_name(rest);
+        let Some(local) = local_name(scopes, text, part) else {
             return Ok(None);
         };
         if more.is_none() {
-            return Ok(leaf_if(schema, child));
+            return leaf_behind(alloc, schema, cases, &way, local);
         }
-        let Some(container) = container_if(schema, child) else {
+        let Some(later) = onward(alloc, schema, cases, way, local)? else {
             return Ok(None);
         };
-        above = container;
+        way = later;
         left = more;
     }
     Ok(None)
@@ -179,15 +270,18 @@ fn leaf_at<'a>(
     naming: Naming,
     scopes: &Scopes<'a>,
     schema: &Schema,
+    cases: &Cases,
     text: usize,
     number: u32,
     word: &'a str,
 ) -> Result<Option<u32>, Memory>
-    ensures { IfOk result (λ it. it ≡ leafs.leaf_at naming scopes.now.texts schema.now text number word.now) }
+    ensures { IfOk result
+        (λ it. it ≡ leafs.leaf_at naming scopes.now.texts schema.now (case_test cases.now) text
+        number word.now) }
 {
     match naming {
         Naming::Keys => key_at(alloc, scopes, schema, text, number, word),
-        Naming::Uniques => unique_at(alloc, scopes, schema, text, number, word),
+        Naming::Uniques => unique_at(alloc, scopes, schema, cases, text, number, word),
     }
 }
 
@@ -198,18 +292,21 @@ fn with_leaf<'a>(
     naming: Naming,
     scopes: &Scopes<'a>,
     schema: &Schema,
+    cases: &Cases,
     text: usize,
     number: u32,
     found: Many<u32>,
     part: &'a str,
 ) -> Result<Option<Many<u32>>, Memory>
     ensures { IfOk result (λ it. it ≡ option_map (λ more. found ++ more)
-        (leafs.all_there (leafs.leafs_in naming scopes.now.texts schema.now text number (part.now ∷ [])))) }
+        (leafs.all_there
+        (leafs.leafs_in naming scopes.now.texts schema.now (case_test cases.now) text number
+        (part.now ∷ [])))) }
 {
     if part.is_empty() {
         return Ok(Some(found));
     }
-    let Some(leaf) = leaf_at(alloc, naming, scopes, schema, text, number, part)? else {
+    let Some(leaf) = leaf_at(alloc, naming, scopes, schema, cases, text, number, part)? else {
         return Ok(None);
     };
     let mut found = found;
@@ -224,17 +321,22 @@ pub(crate) fn leafs_by<'a>(
     naming: Naming,
     scopes: &Scopes<'a>,
     schema: &Schema,
+    cases: &Cases,
     text: usize,
     number: u32,
     words: &'a str,
 ) -> Result<Option<Many<u32>>, Memory>
-    ensures { IfOk result (λ it. it ≡ leafs.leafs_by naming scopes.now.texts schema.now text number words.now) }
+    ensures { IfOk result
+        (λ it. it ≡ leafs.leafs_by naming scopes.now.texts schema.now (case_test cases.now) text
+        number words.now) }
 {
     let mut found = Many::new(alloc);
     let mut left = Some(words);
     while let Some(rest) = left {
         let (part, more) = next_part(rest);
-        match with_leaf(alloc, naming, scopes, schema, text, number, found, part)? {
+        match with_leaf(
+            alloc, naming, scopes, schema, cases, text, number, found, part,
+        )? {
             Some(leafs) => found = leafs,
             None => return Ok(None),
         }

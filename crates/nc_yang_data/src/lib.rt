@@ -15,6 +15,8 @@
 
 mod again;
 mod bounds;
+mod called;
+mod cases;
 mod choice;
 mod conditions;
 mod defaults;
@@ -28,6 +30,7 @@ mod modules;
 mod naming;
 mod nodes;
 mod place;
+mod siblings;
 mod tables;
 mod texts;
 mod words;

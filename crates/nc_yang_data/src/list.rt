@@ -2,12 +2,14 @@
 ghost use Rattle.std.specs.Prelude.{◌≡◌, ◌++◌, [], true, Some, None, MatchResult};
 ghost use Rattle.nc_yang_statements.specs.Rules as rules;
 ghost use Rattle.nc_yang_statements.specs.Statements as statements;
+ghost use Rattle.nc_yang_data.specs.inner.Cases.{case_test};
 ghost use Rattle.nc_yang_data.specs.Lists as lists;
 ghost use Rattle.nc_yang_data.specs.Leafs as leafs;
 ghost use Rattle.nc_yang_data.specs.declared.naming.Naming.TheVariants.{Keys};
 ghost use Rattle.nc_yang_statements.specs.Stops.{OnBroken};
 
 use crate::again::has_again;
+use crate::cases::Cases;
 use crate::leaf::leafs_by;
 use crate::naming::Naming;
 use nc_names::Many;
@@ -39,18 +41,31 @@ fn keys_by<'a>(
     alloc: Global,
     scopes: &Scopes<'a>,
     schema: &Schema,
+    cases: &Cases,
     text: usize,
     number: u32,
     statement: &'a Statement,
 ) -> Result<Many<u32>, Stop<Fault>>
     ensures { MatchResult result
-        (λ it. (leafs.leafs_by Keys scopes.now.texts schema.now text number (statements.name statement.now) ≡ Some it)
+        (λ it. (leafs.leafs_by Keys scopes.now.texts schema.now (case_test cases.now) text number
+        (statements.name statement.now) ≡ Some it)
         × (rules.first (lists.key_faults statement.now (Some it)) ≡ None))
         (OnBroken (λ fault. Some fault ≡ rules.first (lists.key_faults statement.now
-        (leafs.leafs_by Keys scopes.now.texts schema.now text number (statements.name statement.now))))) }
+        (leafs.leafs_by Keys scopes.now.texts schema.now (case_test cases.now) text number
+        (statements.name statement.now))))) }
 {
     let words = name(statement);
-    let Some(found) = leafs_by(alloc, Naming::Keys, scopes, schema, text, number, words)? else {
+    let Some(found) = leafs_by(
+        alloc,
+        Naming::Keys,
+        scopes,
+        schema,
+        cases,
+        text,
+        number,
+        words,
+    )?
+    else {
         return Err(broken(statement, ModuleWhy::UnknownName));
     };
     if has_none(found.as_slice()) {
@@ -67,18 +82,21 @@ pub(crate) fn keys_of<'a>(
     alloc: Global,
     scopes: &Scopes<'a>,
     schema: &Schema,
+    cases: &Cases,
     text: usize,
     number: u32,
     list: &'a Statement,
 ) -> Result<Many<u32>, Stop<Fault>>
     ensures { MatchResult result
-        (λ it. (lists.keys_of scopes.now.texts schema.now text number list.now ≡ Some it)
-        × (rules.first (lists.keyless scopes.now.texts schema.now text number list.now) ≡ None))
+        (λ it. (lists.keys_of scopes.now.texts schema.now (case_test cases.now) text number list.now
+        ≡ Some it)
+        × (rules.first
+        (lists.keyless scopes.now.texts schema.now (case_test cases.now) text number list.now) ≡ None))
         (OnBroken (λ fault. Some fault ≡ rules.first
-        (lists.keyless scopes.now.texts schema.now text number list.now))) }
+        (lists.keyless scopes.now.texts schema.now (case_test cases.now) text number list.now))) }
 {
     match part(list.below.as_slice(), Keyword::Key) {
-        Some(statement) => keys_by(alloc, scopes, schema, text, number, statement),
+        Some(statement) => keys_by(alloc, scopes, schema, cases, text, number, statement),
         None => Err(broken(list, ModuleWhy::Missing)),
     }
 }
@@ -89,22 +107,35 @@ fn with_unique<'a>(
     alloc: Global,
     scopes: &Scopes<'a>,
     schema: &Schema,
+    cases: &Cases,
     text: usize,
     number: u32,
     found: Many<Many<u32>>,
     statement: &'a Statement,
 ) -> Result<Many<Many<u32>>, Stop<Fault>>
     ensures { MatchResult result
-        (λ it. (it ≡ found ++ lists.unique_leafs scopes.now.texts schema.now text number statement.now)
-        × (lists.unique_fault scopes.now.texts schema.now text number statement.now ≡ []))
+        (λ it. (it ≡ found ++ lists.unique_leafs scopes.now.texts schema.now (case_test cases.now) text
+        number statement.now)
+        × (lists.unique_fault scopes.now.texts schema.now (case_test cases.now) text number statement.now
+        ≡ []))
         (OnBroken (λ fault. Some fault ≡ rules.first
-        (lists.unique_fault scopes.now.texts schema.now text number statement.now))) }
+        (lists.unique_fault scopes.now.texts schema.now (case_test cases.now) text number statement.now))) }
 {
     if !is_same_keyword(Keyword::Unique, kind(statement)) {
         return Ok(found);
     }
     let words = name(statement);
-    let Some(leafs) = leafs_by(alloc, Naming::Uniques, scopes, schema, text, number, words)? else {
+    let Some(leafs) = leafs_by(
+        alloc,
+        Naming::Uniques,
+        scopes,
+        schema,
+        cases,
+        text,
+        number,
+        words,
+    )?
+    else {
         return Err(broken(statement, ModuleWhy::UnknownName));
     };
     if has_none(leafs.as_slice()) {
@@ -120,19 +151,21 @@ pub(crate) fn uniques_of<'a>(
     alloc: Global,
     scopes: &Scopes<'a>,
     schema: &Schema,
+    cases: &Cases,
     text: usize,
     number: u32,
     list: &'a Statement,
 ) -> Result<Many<Many<u32>>, Stop<Fault>>
     ensures { MatchResult result
-        (λ it. (it ≡ lists.uniques_of scopes.now.texts schema.now text number list.now)
-        × (rules.first (lists.not_unique scopes.now.texts schema.now text number list.now) ≡ None))
+        (λ it. (it ≡ lists.uniques_of scopes.now.texts schema.now (case_test cases.now) text number list.now)
+        × (rules.first
+        (lists.not_unique scopes.now.texts schema.now (case_test cases.now) text number list.now) ≡ None))
         (OnBroken (λ fault. Some fault ≡ rules.first
-        (lists.not_unique scopes.now.texts schema.now text number list.now))) }
+        (lists.not_unique scopes.now.texts schema.now (case_test cases.now) text number list.now))) }
 {
     let mut found = Many::new(alloc);
     for statement in list.below.as_slice() {
-        found = with_unique(alloc, scopes, schema, text, number, found, statement)?;
+        found = with_unique(alloc, scopes, schema, cases, text, number, found, statement)?;
     }
     Ok(found)
 }

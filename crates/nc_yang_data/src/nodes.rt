@@ -3,8 +3,10 @@ ghost use Rattle.std.specs.Prelude.{◌≡◌, Some, None, List, map, MatchResul
 ghost use Rattle.nc_yang_statements.specs.Rules as rules;
 ghost use Rattle.nc_yang_statements.specs.declared.fault.Fault.{Fault};
 ghost use Rattle.nc_yang_statements.specs.Stops.{OnBroken};
+ghost use Rattle.nc_yang_data.specs.inner.Cases.{case_test};
 ghost use Rattle.nc_yang_data.specs.Places as places;
 
+use crate::cases::Cases;
 use crate::place::{Leafs, node_leafs};
 use nc_names::Many;
 use nc_schema::Schema;
@@ -29,13 +31,15 @@ pub(crate) fn leafs_at<'a>(
     alloc: Global,
     scopes: &Scopes<'a>,
     schema: &Schema,
+    cases: &Cases,
     number: u32,
     at: usize,
 ) -> Result<Leafs, Stop<TextFault>>
     ensures { MatchResult result
-        (λ it. (it ≡ places.leafs_at scopes.now schema.now number at)
-        × (rules.first (places.faults_at scopes.now schema.now number at) ≡ None))
-        (OnBroken (λ found. Some found ≡ rules.first (places.faults_at scopes.now schema.now number at))) }
+        (λ it. (it ≡ places.leafs_at scopes.now schema.now (case_test cases.now) number at)
+        × (rules.first (places.faults_at scopes.now schema.now (case_test cases.now) number at) ≡ None))
+        (OnBroken (λ found. Some found ≡ rules.first
+        (places.faults_at scopes.now schema.now (case_test cases.now) number at))) }
 {
     let (Some(text), Some(statement)) = (scopes.text(at), scopes.statement(at)) else {
         return Ok(Leafs {
@@ -43,7 +47,7 @@ pub(crate) fn leafs_at<'a>(
             uniques: Many::new(alloc),
         });
     };
-    match node_leafs(alloc, scopes, schema, text, number, statement) {
+    match node_leafs(alloc, scopes, schema, cases, text, number, statement) {
         Ok(leafs) => Ok(leafs),
         Err(stop) => Err(in_text(text, stop)),
     }

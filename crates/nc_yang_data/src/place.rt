@@ -3,10 +3,12 @@ ghost use Rattle.std.specs.Prelude.{◌≡◌, true, Some, None, MatchResult};
 ghost use Rattle.std.specs.Option.{option_map_or};
 ghost use Rattle.nc_schema.specs.Kinds as kinds;
 ghost use Rattle.nc_yang_statements.specs.Rules as rules;
+ghost use Rattle.nc_yang_data.specs.inner.Cases.{case_test};
 ghost use Rattle.nc_yang_data.specs.Lists as lists;
 ghost use Rattle.nc_yang_data.specs.Places as places;
 ghost use Rattle.nc_yang_statements.specs.Stops.{OnBroken};
 
+use crate::cases::Cases;
 use crate::list::{broken, keys_of, uniques_of};
 use nc_names::{Many, is_identifier};
 use nc_schema::{Kind, Schema};
@@ -80,18 +82,20 @@ fn list_leafs<'a>(
     alloc: Global,
     scopes: &Scopes<'a>,
     schema: &Schema,
+    cases: &Cases,
     text: usize,
     number: u32,
     list: &'a Statement,
 ) -> Result<Leafs, Stop<Fault>>
     ensures { MatchResult result
-        (λ it. (it ≡ places.list_leafs scopes.now.texts schema.now text number list.now)
-        × (rules.first (lists.list_faults scopes.now.texts schema.now text number list.now) ≡ None))
+        (λ it. (it ≡ places.list_leafs scopes.now.texts schema.now (case_test cases.now) text number list.now)
+        × (rules.first
+        (lists.list_faults scopes.now.texts schema.now (case_test cases.now) text number list.now) ≡ None))
         (OnBroken (λ fault. Some fault ≡ rules.first
-        (lists.list_faults scopes.now.texts schema.now text number list.now))) }
+        (lists.list_faults scopes.now.texts schema.now (case_test cases.now) text number list.now))) }
 {
-    let keys = keys_of(alloc, scopes, schema, text, number, list)?;
-    let uniques = uniques_of(alloc, scopes, schema, text, number, list)?;
+    let keys = keys_of(alloc, scopes, schema, cases, text, number, list)?;
+    let uniques = uniques_of(alloc, scopes, schema, cases, text, number, list)?;
     Ok(Leafs { keys, uniques })
 }
 
@@ -101,15 +105,19 @@ pub(crate) fn node_leafs<'a>(
     alloc: Global,
     scopes: &Scopes<'a>,
     schema: &Schema,
+    cases: &Cases,
     text: usize,
     number: u32,
     statement: &'a Statement,
 ) -> Result<Leafs, Stop<Fault>>
     ensures { MatchResult result
-        (λ it. (it ≡ places.node_leafs scopes.now.texts schema.now text number statement.now)
-        × (rules.first (places.node_faults scopes.now.texts schema.now text number statement.now) ≡ None))
+        (λ it. (it ≡ places.node_leafs scopes.now.texts schema.now (case_test cases.now) text
+        number statement.now)
+        × (rules.first
+        (places.node_faults scopes.now.texts schema.now (case_test cases.now) text number statement.now)
+        ≡ None))
         (OnBroken (λ fault. Some fault ≡ rules.first
-        (places.node_faults scopes.now.texts schema.now text number statement.now))) }
+        (places.node_faults scopes.now.texts schema.now (case_test cases.now) text number statement.now))) }
 {
     if is_twin(schema, number) {
         return Err(broken(statement, ModuleWhy::Twice));
@@ -121,7 +129,7 @@ pub(crate) fn node_leafs<'a>(
         return Err(broken(statement, ModuleWhy::BadArgument));
     }
     if is_same_keyword(Keyword::List, kind(statement)) {
-        return list_leafs(alloc, scopes, schema, text, number, statement);
+        return list_leafs(alloc, scopes, schema, cases, text, number, statement);
     }
     Ok(Leafs {
         keys: Many::new(alloc),

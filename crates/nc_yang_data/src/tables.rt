@@ -7,13 +7,16 @@ ghost use Rattle.nc_yang_scopes.specs.Prefixes.{namespace_in};
 ghost use Rattle.nc_yang_nodes.specs.FeaturesOn.{is_on};
 ghost use Rattle.nc_yang_nodes.specs.Plans.{IsPlan, IsSoundPlan};
 ghost use Rattle.nc_yang_statements.specs.Stops.{OnBroken};
+ghost use Rattle.nc_yang_data.specs.inner.Cases.{case_test};
 ghost use Rattle.nc_yang_data.specs.Conditions.{all_conditions};
 ghost use Rattle.nc_yang_data.specs.Data as tables;
 ghost use Rattle.nc_yang_data.specs.Defaults.{default_faults};
 ghost use Rattle.nc_yang_data.specs.Drafts as words;
 ghost use Rattle.nc_yang_data.specs.Modules.{modules_from};
 ghost use Rattle.nc_yang_data.specs.Places as places;
+ghost use Rattle.nc_yang_data.specs.Siblings.{name_faults};
 
+use crate::cases::Cases;
 use crate::choice::add_choices;
 use crate::conditions::first_conditional;
 use crate::defaults::first_in_default;
@@ -22,6 +25,7 @@ use crate::drafts::add_drafts;
 use crate::modules::add_modules;
 use crate::nodes::leafs_at;
 use crate::place::Leafs;
+use crate::siblings::first_twin;
 use crate::texts::namespaces;
 use nc_names::{Memory, Text};
 use nc_schema::{Node, Schema};
@@ -56,6 +60,7 @@ fn add_node<'a>(
     scopes: &Scopes<'a>,
     spaces: &[Text],
     drafts: &Schema,
+    cases: &Cases,
     planned: &Planned,
     schema: &mut Schema,
 ) -> Result<(), Stop<TextFault>>
@@ -66,14 +71,26 @@ fn add_node<'a>(
     ensures { MatchResult result
         (λ _. (schema.new ≡ record schema.old {
           nodes = schema.old.nodes
-              ++ tables.node_at scopes.now drafts.now (length schema.old.nodes) planned.now ∷ [];
+              ++ tables.node_at scopes.now drafts.now (case_test cases.now) (length schema.old.nodes)
+              planned.now ∷ [];
         })
-        × (rules.first (places.faults_at scopes.now drafts.now (length schema.old.nodes) planned.now.statement)
+        × (rules.first
+        (places.faults_at scopes.now drafts.now (case_test cases.now) (length schema.old.nodes)
+        planned.now.statement)
         ≡ None))
         (OnBroken (λ found. Some found
-        ≡ rules.first (places.faults_at scopes.now drafts.now (length schema.old.nodes) planned.now.statement))) }
+        ≡ rules.first
+        (places.faults_at scopes.now drafts.now (case_test cases.now) (length schema.old.nodes)
+        planned.now.statement))) }
 {
-    let leafs = leafs_at(alloc, scopes, drafts, schema.nodes(), planned.statement)?;
+    let leafs = leafs_at(
+        alloc,
+        scopes,
+        drafts,
+        cases,
+        schema.nodes(),
+        planned.statement,
+    )?;
     let node = node_with(alloc, scopes, spaces, planned, leafs)?;
     schema.add_node(node)?;
     Ok(())
@@ -85,6 +102,7 @@ fn add_nodes<'a>(
     scopes: &Scopes<'a>,
     spaces: &[Text],
     drafts: &Schema,
+    cases: &Cases,
     plan: &Plan,
     schema: &mut Schema,
 ) -> Result<(), Stop<TextFault>>
@@ -93,13 +111,16 @@ fn add_nodes<'a>(
     requires sound { IsSoundPlan scopes.now plan.now }
     requires empty { schema.old ≡ no_tables }
     ensures { MatchResult result
-        (λ _. (schema.new ≡ record no_tables { nodes = tables.nodes_from scopes.now drafts.now 0 plan.now.nodes })
-        × (rules.first (places.faults_from scopes.now drafts.now 0 plan.now.nodes) ≡ None))
+        (λ _. (schema.new ≡ record no_tables {
+          nodes = tables.nodes_from scopes.now drafts.now (case_test cases.now) 0 plan.now.nodes;
+        })
+        × (rules.first (places.faults_from scopes.now drafts.now (case_test cases.now) 0 plan.now.nodes)
+        ≡ None))
         (OnBroken (λ found. Some found
-        ≡ rules.first (places.faults_from scopes.now drafts.now 0 plan.now.nodes))) }
+        ≡ rules.first (places.faults_from scopes.now drafts.now (case_test cases.now) 0 plan.now.nodes))) }
 {
     for planned in plan.nodes.as_slice() {
-        add_node(alloc, scopes, spaces, drafts, planned, schema)?;
+        add_node(alloc, scopes, spaces, drafts, cases, planned, schema)?;
     }
     Ok(())
 }
@@ -129,6 +150,7 @@ fn add_rest<'a>(
 fn add_placed<'a>(
     alloc: Global,
     scopes: &Scopes<'a>,
+    cases: &Cases,
     plan: &Plan,
     drafts: &mut Schema,
     schema: &mut Schema,
@@ -139,14 +161,29 @@ fn add_placed<'a>(
     requires empty { schema.old ≡ no_tables }
     ensures { MatchResult result
         (λ _. (schema.new
-        ≡ record no_tables { nodes = tables.nodes_from scopes.now (tables.drafts scopes.now plan.now) 0 plan.now.nodes })
-        × (rules.first (places.faults_from scopes.now (tables.drafts scopes.now plan.now) 0 plan.now.nodes) ≡ None))
+        ≡ record no_tables {
+          nodes = tables.nodes_from scopes.now (tables.drafts scopes.now plan.now) (case_test cases.now) 0
+              plan.now.nodes;
+        })
+        × (rules.first
+        (places.faults_from scopes.now (tables.drafts scopes.now plan.now) (case_test cases.now) 0
+        plan.now.nodes) ≡ None))
         (OnBroken (λ found. Some found
-        ≡ rules.first (places.faults_from scopes.now (tables.drafts scopes.now plan.now) 0 plan.now.nodes))) }
+        ≡ rules.first
+        (places.faults_from scopes.now (tables.drafts scopes.now plan.now) (case_test cases.now) 0
+        plan.now.nodes))) }
 {
     let spaces = namespaces(alloc, scopes)?;
     add_drafts(alloc, scopes, spaces.as_slice(), plan, drafts)?;
-    add_nodes(alloc, scopes, spaces.as_slice(), drafts, plan, schema)
+    add_nodes(
+        alloc,
+        scopes,
+        spaces.as_slice(),
+        drafts,
+        cases,
+        plan,
+        schema,
+    )
 }
 
 // That there is no such fault.
@@ -159,7 +196,7 @@ fn refuse(found: Option<TextFault>) -> Result<(), Stop<TextFault>>
     }
 }
 
-// The first rule that data nodes and choices break besides their names, keys and unique leafs.
+// The first rule that data nodes and choices break besides those on names, keys and unique leafs.
 #[tactic(auto, using(nc_yang_statements::proofs::Firsts::first_some, nc_yang_statements::proofs::Firsts::first_none))]
 fn first_besides<'a>(scopes: &Scopes<'a>, schema: &Schema, plan: &Plan) -> Option<TextFault>
     requires nodes { length plan.now.nodes < 2 ^ 32 }
@@ -172,6 +209,27 @@ fn first_besides<'a>(scopes: &Scopes<'a>, schema: &Schema, plan: &Plan) -> Optio
         return found;
     }
     first_conditional(scopes, schema, plan)
+}
+
+// The same with the names of choices before it.
+#[tactic(auto, using(nc_yang_statements::proofs::Firsts::first_some, nc_yang_statements::proofs::Firsts::first_none))]
+fn first_left<'a>(
+    alloc: Global,
+    scopes: &Scopes<'a>,
+    schema: &Schema,
+    plan: &Plan,
+) -> Result<Option<TextFault>, Memory>
+    requires nodes { length plan.now.nodes < 2 ^ 32 }
+    requires choices { length plan.now.choices < 2 ^ 32 }
+    ensures { IfOk result (λ it. it ≡ rules.first (name_faults scopes.now plan.now
+        ++ (default_faults scopes.now schema.now plan.now
+        ++ all_conditions scopes.now plan.now schema.now.nodes))) }
+{
+    let found = first_twin(alloc, scopes, plan)?;
+    if found.is_some() {
+        return Ok(found);
+    }
+    Ok(first_besides(scopes, schema, plan))
 }
 
 // Adds all of a plan, or gives the first rule that it breaks.
@@ -191,19 +249,26 @@ fn fill<'a>(
     ensures { MatchResult result
         (λ _. (schema.new ≡ tables.data_tables scopes.now (is_on features.now) plan.now)
         × (rules.first (tables.data_faults scopes.now (is_on features.now) plan.now) ≡ None))
-        (OnBroken (λ found. Some found ≡ rules.first (tables.data_faults scopes.now (is_on features.now) plan.now))) }
+        (OnBroken (λ found. Some found ≡ rules.first
+        (tables.data_faults scopes.now (is_on features.now) plan.now))) }
 {
-    add_placed(alloc, scopes, plan, drafts, schema)?;
+    let cases = Cases {
+        scopes,
+        features,
+        plan,
+    };
+    add_placed(alloc, scopes, &cases, plan, drafts, schema)?;
     add_rest(alloc, scopes, features, plan, schema)?;
-    refuse(first_besides(scopes, schema, plan))
+    let found = first_left(alloc, scopes, schema, plan)?;
+    refuse(found)
 }
 
 /// The data nodes and choices that modules define, with their names, kinds, cases, counts, keys and `unique`
 /// leafs, and the modules themselves: all of a schema but types, and what takes them, defaults and access
 /// control's statements. The plan is that of `plan_of` for these texts and features. Instead comes the first
-/// rule that a data node breaks in its place: its name is there already (RFC 7950 6.2.1), a list has no keys,
-/// or its `key` or `unique` statement names no such leaf (RFC 7950 7.8.2, 7.8.3); or a mandatory node stands
-/// directly in a default case (RFC 7950 7.9.3), or a key has a condition (RFC 7950 7.20.2).
+/// rule that a data node or a choice breaks in its place: its name is there already (RFC 7950 6.2.1, 7.9.2), a
+/// list has no keys, or its `key` or `unique` statement names no such leaf (RFC 7950 7.8.2, 7.8.3); or a
+/// mandatory node stands directly in a default case (RFC 7950 7.9.3), or a key has a condition (RFC 7950 7.20.2).
 #[tactic(auto, using(nc_yang_nodes::proofs::Sound::plan_is_sound, crate::proofs::TextLemmas::none_first))]
 pub fn data_nodes<'a>(
     alloc: Global,

@@ -17,6 +17,7 @@ use Rattle.nc_yang_nodes.specs.Roles.{FeatureTest}
 use Rattle.nc_yang_nodes.specs.declared.planned.Plan.{Plan}
 use Rattle.nc_yang_nodes.specs.declared.planned.Planned.{Planned}
 use Rattle.nc_yang_data.specs.Data.{data_tables, drafts, node_at, nodes_from}
+use Rattle.nc_yang_data.specs.Leafs.{CaseTest, names_case}
 use Rattle.nc_yang_data.specs.Drafts.{draft_at, draft_in, kind_of, unknown_in}
 use Rattle.nc_yang.specs.Laws.{DataTypesMean, has_type}
 use Rattle.nc_yang.proofs.Lists.{mapped}
@@ -40,19 +41,19 @@ defined_by scoping p has = by (slice_get scoping.located p.statement) refl has
     by (Some l) e f = (l, e, valued (kind l.statement) (below l.statement) f)
 
 -- data nodes one after another
-nodes_at : (scoping : Scoping) (tables : Tables) (k n : ℕ) (ps : List Planned) →
-    slice_get (nodes_from scoping tables k ps) n ≡ option_map (node_at scoping tables (k + n)) (slice_get ps n)
-nodes_at scoping tables k n [] = refl
-nodes_at scoping tables k zero (p ∷ ps) = let e : k ≡ k + 0 = omega arith in ap (λ m. Some (node_at scoping tables m p)) e
-nodes_at scoping tables k (suc n) (p ∷ ps) =
+nodes_at : (scoping : Scoping) (tables : Tables) (named : CaseTest) (k n : ℕ) (ps : List Planned) →
+    slice_get (nodes_from scoping tables named k ps) n ≡ option_map (node_at scoping tables named (k + n)) (slice_get ps n)
+nodes_at scoping tables named k n [] = refl
+nodes_at scoping tables named k zero (p ∷ ps) = let e : k ≡ k + 0 = omega arith in ap (λ m. Some (node_at scoping tables named m p)) e
+nodes_at scoping tables named k (suc n) (p ∷ ps) =
     let e : k + 1 + n ≡ k + suc n = omega arith in
-    nodes_at scoping tables (k + 1) n ps ∙ ap (λ m. option_map (node_at scoping tables m) (slice_get ps n)) e
+    nodes_at scoping tables named (k + 1) n ps ∙ ap (λ m. option_map (node_at scoping tables named m) (slice_get ps n)) e
 
 -- the data node of a number is that of the planned one
 planned_of : (scoping : Scoping) (features : FeatureTest) (plan : Plan) (number : ℕ) (node : Node) → slice_get (data_tables scoping features plan).nodes number ≡ Some node →
     (p : Planned) × (slice_get plan.nodes number ≡ Some p) × (node.kind ≡ (draft_at scoping p).kind)
 planned_of scoping features plan number node is =
-    let m = mapped (node_at scoping (drafts scoping plan) (0 + number)) (slice_get plan.nodes number) node (sym (nodes_at scoping (drafts scoping plan) 0 number plan.nodes) ∙ is) in
+    let m = mapped (node_at scoping (drafts scoping plan) (names_case scoping features plan) (0 + number)) (slice_get plan.nodes number) node (sym (nodes_at scoping (drafts scoping plan) (names_case scoping features plan) 0 number plan.nodes) ∙ is) in
     (m.0, m.1, sym (ap (λ (n : Node). n.kind) m.2))
 
 pub data_types_mean : DataTypesMean

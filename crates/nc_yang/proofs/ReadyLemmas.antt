@@ -21,6 +21,7 @@ use Rattle.nc_yang_nodes.specs.declared.planned.Planned.{Planned}
 use Rattle.nc_yang_nodes.proofs.ListLemmas.{got}
 use Rattle.nc_yang_nodes.proofs.Sound.{plan_is_sound}
 use Rattle.nc_yang_data.specs.Data.{data_tables, drafts, node_at, nodes_from}
+use Rattle.nc_yang_data.specs.Leafs.{CaseTest, names_case}
 use Rattle.nc_yang_data.specs.Drafts.{draft_at, draft_in, unknown_in}
 use Rattle.nc_yang_meanings.specs.Meanings.{Meaning, Means}
 use Rattle.nc_yang_meanings.specs.Wholes.{MeansWhole, whole}
@@ -42,9 +43,9 @@ all_at P xs n x h is = subst P (get_or_from_slice_get xs n x x is) (All-get_or P
 meaning_of : (on : ℕ → List ℕ → Bool) (texts : List Statement) (l : Located) → MeansWhole on texts l → (m : Meaning) × Means on texts l m
 meaning_of on texts _ (whole l m means members) = (m, means)
 
-nodes_long : (scoping : Scoping) (tables : Tables) (k : ℕ) (ps : List Planned) → length (nodes_from scoping tables k ps) ≡ length ps
-nodes_long scoping tables k [] = refl
-nodes_long scoping tables k (p ∷ ps) = ap suc (nodes_long scoping tables (k + 1) ps)
+nodes_long : (scoping : Scoping) (tables : Tables) (named : CaseTest) (k : ℕ) (ps : List Planned) → length (nodes_from scoping tables named k ps) ≡ length ps
+nodes_long scoping tables named k [] = refl
+nodes_long scoping tables named k (p ∷ ps) = ap suc (nodes_long scoping tables named (k + 1) ps)
 
 -- the data nodes of a plan have no defaults yet
 draft_fresh : (scoping : Scoping) (p : Planned) → (draft_at scoping p).defaults ≡ []
@@ -54,11 +55,11 @@ draft_fresh scoping p = by (slice_get scoping.located p.statement)
     by None = refl
     by (Some l) = refl
 
-nodes_fresh : (scoping : Scoping) (tables : Tables) (k n : ℕ) (ps : List Planned) (node : Node) → slice_get (nodes_from scoping tables k ps) n ≡ Some node → node.defaults ≡ []
-nodes_fresh scoping tables k n [] node e = absurd (cc)
-nodes_fresh scoping tables k zero (p ∷ ps) node e =
-    let same : node_at scoping tables k p ≡ node = cc in sym (ap (λ (z : Node). z.defaults) same) ∙ draft_fresh scoping p
-nodes_fresh scoping tables k (suc n) (p ∷ ps) node e = nodes_fresh scoping tables (k + 1) n ps node e
+nodes_fresh : (scoping : Scoping) (tables : Tables) (named : CaseTest) (k n : ℕ) (ps : List Planned) (node : Node) → slice_get (nodes_from scoping tables named k ps) n ≡ Some node → node.defaults ≡ []
+nodes_fresh scoping tables named k n [] node e = absurd (cc)
+nodes_fresh scoping tables named k zero (p ∷ ps) node e =
+    let same : node_at scoping tables named k p ≡ node = cc in sym (ap (λ (z : Node). z.defaults) same) ∙ draft_fresh scoping p
+nodes_fresh scoping tables named k (suc n) (p ∷ ps) node e = nodes_fresh scoping tables named (k + 1) n ps node e
 
 module _ (scoping : Scoping) (on : FeatureTest) (plan : Plan) (planned : IsPlan scoping on plan) (derived : List Located → List QName → Type 0)
     (named : List ℕ → List Located → Type 0) (typed : Tables) (is : HasTypings derived named (basis scoping on plan) typed) where
@@ -66,7 +67,7 @@ module _ (scoping : Scoping) (on : FeatureTest) (plan : Plan) (planned : IsPlan 
   given = data_tables scoping on plan
 
   long : length typed.nodes ≡ length plan.nodes
-  long = is.counted ∙ nodes_long scoping (drafts scoping plan) 0 plan.nodes
+  long = is.counted ∙ nodes_long scoping (drafts scoping plan) (names_case scoping on plan) 0 plan.nodes
 
   -- a node as it was
   record Was (d : Defined) : Type 0 where
@@ -103,7 +104,7 @@ module _ (scoping : Scoping) (on : FeatureTest) (plan : Plan) (planned : IsPlan 
   fresh : (d : Defined) → IsDefined scoping plan typed d → d.node.defaults ≡ []
   fresh d defined =
       let w = was d defined in
-      ap (λ (z : Node). z.defaults) w.same ∙ nodes_fresh scoping (drafts scoping plan) 0 d.number plan.nodes w.old w.at
+      ap (λ (z : Node). z.defaults) w.same ∙ nodes_fresh scoping (drafts scoping plan) (names_case scoping on plan) 0 d.number plan.nodes w.old w.at
 
   pub is_ready : AllMeanWhole (basis scoping on plan) → IsReady scoping plan typed
   is_ready all = record { counted = long; stated = stated; meanings = mean all; fresh = fresh }

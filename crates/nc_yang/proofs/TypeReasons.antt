@@ -1,12 +1,13 @@
 -- No rule of data nodes and types is that a pattern was refused.
 use Rattle.std.proofs.Common.{◌≡◌, ◌++◌, ◌+◌, ◌&&◌, ◌||◌, ℕ, ℤ, true, false, not, cond, List, [], ◌∷◌, Option, Some, None, refl}
-use Rattle.std.specs.Prelude.{Ok, Err, is_some, map, slice_get}
+use Rattle.std.specs.Prelude.{Ok, Err, is_some, map, nat_lt, slice_get}
 use Rattle.std.specs.Option.{option_map_or}
 use Rattle.std.specs.List.{All, flat_map}
 use Rattle.std.proofs.lemmas.List.Elements.{All-append, All-map, All-nil}
 use Rattle.nc_names.specs.Identifiers.{is_identifier}
 use Rattle.nc_patterns.specs.Reading.{Reading, tokens}
 use Rattle.nc_patterns.specs.declared.fault.ReadFault.TheVariants.{BadArgument as BadToken, Memory as NoMemory, Unsupported as UnsupportedToken}
+use Rattle.nc_schema.specs.Children.{is_same_number}
 use Rattle.nc_schema.specs.Tables.{Tables}
 use Rattle.nc_schema.specs.declared.node.Choice.{Choice}
 use Rattle.nc_schema.specs.declared.node.Node.{Node}
@@ -30,9 +31,10 @@ use Rattle.nc_yang_nodes.specs.declared.planned.PlannedChoice.{PlannedChoice}
 use Rattle.nc_yang_data.specs.Conditions.{all_conditions, conditions, conditions_in, key_conditions}
 use Rattle.nc_yang_data.specs.Data.{data_faults, data_tables, drafts}
 use Rattle.nc_yang_data.specs.Defaults.{asking_faults, asks, carrier, choice_faults, choices_from, default_faults, fault_at, forbidden, forbidden_above, is_by_default, node_faults as asking_node, nodes_from, placed_faults}
-use Rattle.nc_yang_data.specs.Leafs.{leafs_by}
+use Rattle.nc_yang_data.specs.Leafs.{CaseTest, leafs_by, names_case}
 use Rattle.nc_yang_data.specs.Lists.{has_again, has_none, key_faults, keyless, list_faults, not_unique, unique_fault}
 use Rattle.nc_yang_data.specs.Places.{faults_at, faults_from, in_text, is_astray, is_twin, node_faults}
+use Rattle.nc_yang_data.specs.Siblings.{choice_called, choice_twin, choices_from as twins_from, clash, name_at, name_faults, node_twin, nodes_from as clashes_from, parent_of, twice_at}
 use Rattle.nc_yang_data.specs.declared.naming.Naming.TheVariants.{Keys, Uniques}
 use Rattle.nc_yang_types.specs.Entries.{decimals, digits_of, ill_digits, ill_digits_by, integers, lengths, misnarrowed, misread, misread_by, misread_units, misused, narrowed_faults, own_faults}
 use Rattle.nc_yang_types.specs.Members.{at_number, has_name, ill_choice, ill_choices, ill_listed, is_member, is_unfit, misnumbered, number_in, numbered, numbering, number_word, renamed, renumbered, unlike, why_unfit, with_number}
@@ -50,45 +52,46 @@ of_keys s None = of_at_if true s UnknownName refl
 of_keys s (Some keys) =
     All-append OfRule (at_if (has_none keys) s BadArgument) (at_if (has_again [] keys) s Twice) (of_at_if (has_none keys) s BadArgument refl) (of_at_if (has_again [] keys) s Twice refl)
 
-module _ (texts : List Statement) (tables : Tables) (text number : ℕ) where
-  of_unique : (s : Statement) → All OfRule (unique_fault texts tables text number s)
+module _ (texts : List Statement) (tables : Tables) (named : CaseTest) (text number : ℕ) where
+  of_unique : (s : Statement) → All OfRule (unique_fault texts tables named text number s)
   of_unique s =
       either (All OfRule) (is_same_keyword Unique (kind s))
-      (option_map_or (λ leafs. at_if (has_none leafs) s BadArgument) (leafs_by Uniques texts tables text number (name s)) (at_if true s UnknownName)) []
-      (by_option (All OfRule) (λ leafs. at_if (has_none leafs) s BadArgument) (leafs_by Uniques texts tables text number (name s)) (at_if true s UnknownName)
+      (option_map_or (λ leafs. at_if (has_none leafs) s BadArgument) (leafs_by Uniques texts tables named text number (name s)) (at_if true s UnknownName)) []
+      (by_option (All OfRule) (λ leafs. at_if (has_none leafs) s BadArgument) (leafs_by Uniques texts tables named text number (name s)) (at_if true s UnknownName)
       (λ leafs. of_at_if (has_none leafs) s BadArgument refl) (of_at_if true s UnknownName refl))
       (All-nil OfRule)
 
-  of_list : (list : Statement) → All OfRule (list_faults texts tables text number list)
+  of_list : (list : Statement) → All OfRule (list_faults texts tables named text number list)
   of_list list =
-      All-append OfRule (keyless texts tables text number list) (not_unique texts tables text number list)
-      (by_option (All OfRule) (λ s. key_faults s (leafs_by Keys texts tables text number (name s))) (part Key (below list)) (at_if true list Missing)
-      (λ s. of_keys s (leafs_by Keys texts tables text number (name s))) (of_at_if true list Missing refl))
-      (all_flat OfRule (unique_fault texts tables text number) of_unique (below list))
+      All-append OfRule (keyless texts tables named text number list) (not_unique texts tables named text number list)
+      (by_option (All OfRule) (λ s. key_faults s (leafs_by Keys texts tables named text number (name s))) (part Key (below list)) (at_if true list Missing)
+      (λ s. of_keys s (leafs_by Keys texts tables named text number (name s))) (of_at_if true list Missing refl))
+      (all_flat OfRule (unique_fault texts tables named text number) of_unique (below list))
 
-  of_node : (s : Statement) → All OfRule (node_faults texts tables text number s)
+  of_node : (s : Statement) → All OfRule (node_faults texts tables named text number s)
   of_node s =
       All-append OfRule (at_if (is_twin tables number) s Twice ++ at_if (is_astray tables number) s UnknownStatement ++ at_if (not (is_identifier (name s))) s BadArgument)
-      (cond (is_same_keyword ListWord (kind s)) (list_faults texts tables text number s) [])
+      (cond (is_same_keyword ListWord (kind s)) (list_faults texts tables named text number s) [])
       (All-append OfRule (at_if (is_twin tables number) s Twice ++ at_if (is_astray tables number) s UnknownStatement) (at_if (not (is_identifier (name s))) s BadArgument)
       (All-append OfRule (at_if (is_twin tables number) s Twice) (at_if (is_astray tables number) s UnknownStatement) (of_at_if (is_twin tables number) s Twice refl)
       (of_at_if (is_astray tables number) s UnknownStatement refl))
       (of_at_if (not (is_identifier (name s))) s BadArgument refl))
-      (either (All OfRule) (is_same_keyword ListWord (kind s)) (list_faults texts tables text number s) [] (of_list s) (All-nil OfRule))
+      (either (All OfRule) (is_same_keyword ListWord (kind s)) (list_faults texts tables named text number s) [] (of_list s) (All-nil OfRule))
 
 -- data nodes and choices in their places
-module _ (scoping : Scoping) (tables : Tables) where
-  of_faults_at : (number statement : ℕ) → All OfTextRule (faults_at scoping tables number statement)
+module _ (scoping : Scoping) (tables : Tables) (named : CaseTest) where
+  of_faults_at : (number statement : ℕ) → All OfTextRule (faults_at scoping tables named number statement)
   of_faults_at number statement =
-      by_option (All OfTextRule) (λ (l : Located). map (in_text l.place.text) (node_faults scoping.texts tables l.place.text number l.statement)) (slice_get scoping.located statement) []
-      (λ l. All-map OfTextRule (in_text l.place.text) (node_faults scoping.texts tables l.place.text number l.statement) (of_node scoping.texts tables l.place.text number l.statement))
+      by_option (All OfTextRule) (λ (l : Located). map (in_text l.place.text) (node_faults scoping.texts tables named l.place.text number l.statement)) (slice_get scoping.located statement) []
+      (λ l. All-map OfTextRule (in_text l.place.text) (node_faults scoping.texts tables named l.place.text number l.statement) (of_node scoping.texts tables named l.place.text number l.statement))
       (All-nil OfTextRule)
 
-  of_faults_from : (number : ℕ) (ps : List Planned) → All OfTextRule (faults_from scoping tables number ps)
+  of_faults_from : (number : ℕ) (ps : List Planned) → All OfTextRule (faults_from scoping tables named number ps)
   of_faults_from number [] = All-nil OfTextRule
   of_faults_from number (p ∷ ps) =
-      All-append OfTextRule (faults_at scoping tables number p.statement) (faults_from scoping tables (number + 1) ps) (of_faults_at number p.statement) (of_faults_from (number + 1) ps)
+      All-append OfTextRule (faults_at scoping tables named number p.statement) (faults_from scoping tables named (number + 1) ps) (of_faults_at number p.statement) (of_faults_from (number + 1) ps)
 
+module _ (scoping : Scoping) (tables : Tables) where
   of_fault_at : (number : ℕ) → All OfTextRule (fault_at scoping number)
   of_fault_at number =
       by_option (All OfTextRule) (λ (l : Located). record { text = l.place.text; fault = record { line = line l.statement; why = BadArgument } } ∷ []) (slice_get scoping.located number) []
@@ -125,6 +128,44 @@ module _ (scoping : Scoping) (tables : Tables) where
   of_choices plan number (p ∷ ps) =
       All-append OfTextRule (choice_faults scoping tables plan number p) (choices_from scoping tables plan (number + 1) ps) (of_choice plan number p) (of_choices plan (number + 1) ps)
 
+-- names of choices
+module _ (scoping : Scoping) (choices : List PlannedChoice) where
+  of_twice : (number : ℕ) → All OfTextRule (twice_at scoping number)
+  of_twice number =
+      by_option (All OfTextRule) (λ (l : Located). record { text = l.place.text; fault = record { line = line l.statement; why = Twice } } ∷ []) (slice_get scoping.located number) []
+      (λ l. all_one OfTextRule (record { text = l.place.text; fault = record { line = line l.statement; why = Twice } }) refl) (All-nil OfTextRule)
+
+  of_twin : (number : ℕ) (c : PlannedChoice) → All OfTextRule (choice_twin scoping choices number c)
+  of_twin number c =
+      either (All OfTextRule) (is_same_number (choice_called scoping choices (parent_of c.module c.parent c.within) (name_at scoping c.statement)) (Some number))
+      [] (twice_at scoping c.statement) (All-nil OfTextRule) (of_twice c.statement)
+
+  of_twins : (number : ℕ) (cs : List PlannedChoice) → All OfTextRule (twins_from scoping choices number cs)
+  of_twins number [] = All-nil OfTextRule
+  of_twins number (c ∷ cs) =
+      All-append OfTextRule (choice_twin scoping choices number c) (twins_from scoping choices (number + 1) cs) (of_twin number c) (of_twins (number + 1) cs)
+
+  of_clash : (number : ℕ) (p : Planned) (c : PlannedChoice) → All OfTextRule (clash scoping number p c)
+  of_clash number p c =
+      either (All OfTextRule) (nat_lt number c.nodes_before) (twice_at scoping c.statement) (twice_at scoping p.statement) (of_twice c.statement) (of_twice p.statement)
+
+  of_node_twin : (number : ℕ) (p : Planned) → All OfTextRule (node_twin scoping choices number p)
+  of_node_twin number p =
+      by_option (All OfTextRule) (λ k. option_map_or (clash scoping number p) (slice_get choices k) [])
+      (choice_called scoping choices (parent_of p.module p.parent p.cases) (name_at scoping p.statement)) []
+      (λ k. by_option (All OfTextRule) (clash scoping number p) (slice_get choices k) [] (of_clash number p) (All-nil OfTextRule))
+      (All-nil OfTextRule)
+
+  of_clashes : (number : ℕ) (ps : List Planned) → All OfTextRule (clashes_from scoping choices number ps)
+  of_clashes number [] = All-nil OfTextRule
+  of_clashes number (p ∷ ps) =
+      All-append OfTextRule (node_twin scoping choices number p) (clashes_from scoping choices (number + 1) ps) (of_node_twin number p) (of_clashes (number + 1) ps)
+
+of_names : (scoping : Scoping) (plan : Plan) → All OfTextRule (name_faults scoping plan)
+of_names scoping plan =
+    All-append OfTextRule (twins_from scoping plan.choices 0 plan.choices) (clashes_from scoping plan.choices 0 plan.nodes)
+    (of_twins scoping plan.choices 0 plan.choices) (of_clashes scoping plan.choices 0 plan.nodes)
+
 -- conditions of keys
 module _ (scoping : Scoping) (plan : Plan) where
   of_conditions : (text : ℕ) (leaf : Statement) → All OfTextRule (conditions text leaf)
@@ -144,12 +185,14 @@ module _ (scoping : Scoping) (plan : Plan) where
 pub of_data : (scoping : Scoping) (on : FeatureTest) (plan : Plan) → All OfTextRule (data_faults scoping on plan)
 of_data scoping on plan =
     let tables = data_tables scoping on plan in
-    All-append OfTextRule (faults_from scoping (drafts scoping plan) 0 plan.nodes) (default_faults scoping tables plan ++ all_conditions scoping plan tables.nodes)
-    (of_faults_from scoping (drafts scoping plan) 0 plan.nodes)
+    All-append OfTextRule (faults_from scoping (drafts scoping plan) (names_case scoping on plan) 0 plan.nodes)
+    (name_faults scoping plan ++ (default_faults scoping tables plan ++ all_conditions scoping plan tables.nodes))
+    (of_faults_from scoping (drafts scoping plan) (names_case scoping on plan) 0 plan.nodes)
+    (All-append OfTextRule (name_faults scoping plan) (default_faults scoping tables plan ++ all_conditions scoping plan tables.nodes) (of_names scoping plan)
     (All-append OfTextRule (default_faults scoping tables plan) (all_conditions scoping plan tables.nodes)
     (All-append OfTextRule (nodes_from scoping tables plan 0 plan.nodes) (choices_from scoping tables plan 0 plan.choices) (of_nodes scoping tables plan 0 plan.nodes)
     (of_choices scoping tables plan 0 plan.choices))
-    (of_key_conditions scoping plan tables.nodes))
+    (of_key_conditions scoping plan tables.nodes)))
 
 -- `type` statements
 of_misread : (counted : Counted) (base : List Between) (o : Option Statement) → All OfRule (misread_by counted base o)

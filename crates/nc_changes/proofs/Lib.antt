@@ -1,3 +1,6 @@
+pub mod AskedLemmas
+pub mod CommonLemmas
+pub mod CutLemmas
 pub mod EntryLemmas
 pub mod FoundLemmas
 pub mod KnownLemmas

@@ -1,2 +1,4 @@
+pub mod Asked
+pub mod Common
 pub mod Entries
 pub mod Ranks

@@ -1,17 +1,18 @@
 //! The paths at which two configurations differ.
-ghost use Rattle.std.specs.Prelude.{◌≡◌, ◌||◌, not, List, IfOk, map};
+ghost use Rattle.std.specs.Prelude.{◌≡◌, ◌||◌, not, IfOk, map};
 ghost use Rattle.std.specs.List.{filter};
 ghost use Rattle.nc_protocol.specs.Changes as meant;
 ghost use Rattle.nc_names.specs.Same as same;
-ghost use Rattle.nc_names.specs.declared.path.Row.{Row};
-ghost use Rattle.nc_tree.specs.Finding.{Finds};
 
+use crate::asked::rows_asked;
+use crate::common::{before_last, behind, common_first, front};
+use crate::found::Found;
 use crate::moved::{has_moved, is_by_user};
 use crate::ranks::Ranks;
 use nc_names::{Copies, Many, Memory, Path, Row, Text};
 use nc_protocol::Changes;
 use nc_schema::Schema;
-use nc_tree::{Config, RowsByPath};
+use nc_tree::Config;
 use std::alloc::Global;
 use std::marker::Model;
 
@@ -55,20 +56,20 @@ pub fn is_updated(schema: &Schema, old: &Config, new: &Config, row: &Row) -> Res
     }
 }
 
-fn is_missing<'a>(others: &RowsByPath<'a>, row: &'a Row) -> bool
-    ensures { (rows : List Row) → Finds others.now rows → result ≡ meant.is_missing rows row.now }
+fn is_missing<'a>(others: &Found<'a>, row: &'a Row) -> bool
+    ensures { result ≡ meant.is_missing others.now row.now }
 {
-    others.get(row.path.steps.as_slice()).is_none()
+    others.get(row).is_none()
 }
 
 // The paths of the rows that are not among others.
 fn paths_missing<'a>(
     alloc: Global,
-    others: &RowsByPath<'a>,
+    others: &Found<'a>,
     rows: &[&'a Row],
 ) -> Result<Many<Path>, Memory>
-    ensures { IfOk result (λ it. (found : List Row) → Finds others.now found →
-        it ≡ meant.paths_of (filter (meant.is_missing found) (map (λ row. row.now) rows.now))) }
+    ensures { IfOk result (λ it. it
+        ≡ meant.paths_of (filter (meant.is_missing others.now) (map (λ row. row.now) rows.now))) }
 {
     let mut paths = Many::new(alloc);
     for row in rows {
@@ -169,14 +170,14 @@ impl<'a> Differing<'a> {
 fn is_updated_from<'a>(
     schema: &Schema,
     differing: &Differing<'a>,
-    before: &RowsByPath<'a>,
+    before: &Found<'a>,
     row: &'a Row,
 ) -> Result<bool, Memory>
-    requires { Finds before.now differing.now.old }
+    requires { before.now ≡ differing.now.old }
     ensures { IfOk result (λ it. it
         ≡ meant.is_updated schema.now differing.now.old differing.now.new row.now) }
 {
-    match before.get(row.path.steps.as_slice()) {
+    match before.get(row) {
         Some(stood) => differing.differs(schema, stood, row),
         None => Ok(false),
     }
@@ -187,10 +188,10 @@ fn paths_updated<'a>(
     schema: &Schema,
     old: &'a Config,
     new: &'a Config,
-    before: &RowsByPath<'a>,
+    before: &Found<'a>,
     rows: &[&'a Row],
 ) -> Result<Many<Path>, Memory>
-    requires { Finds before.now old.now }
+    requires { before.now ≡ old.now }
     ensures { IfOk result (λ it. it ≡ meant.paths_of (filter
         (meant.is_updated schema.now old.now new.now) (map (λ row. row.now) rows.now))) }
 {
@@ -205,8 +206,40 @@ fn paths_updated<'a>(
     Ok(paths)
 }
 
+// The same as `changes`. What comes first in both, and what comes last, is neither created nor deleted.
+fn changes_among<'a>(
+    alloc: Global,
+    schema: &Schema,
+    old: &'a Config,
+    new: &'a Config,
+    old_rows: &[&'a Row],
+    new_rows: &[&'a Row],
+) -> Result<Changes, Memory>
+    requires old { map (λ row. row.now) old_rows.now ≡ old.now }
+    requires new { map (λ row. row.now) new_rows.now ≡ new.now }
+    ensures { IfOk result (λ it. it ≡ meant.changes_between schema.now old.now new.now) }
+{
+    let first = common_first(old_rows, new_rows);
+    let (left, rest) = before_last(old_rows, new_rows, first);
+    let above = front(old_rows, first);
+    let before = front(old_rows, left);
+    let after = front(new_rows, rest);
+    let gone = behind(before, first);
+    let come = behind(after, first);
+    let below = behind(old_rows, left);
+    let asked = rows_asked(alloc, schema, above, gone, come, below)?;
+    let stood = Found::of(alloc, old, old_rows, asked.len())?;
+    let stand = Found::of(alloc, new, new_rows, gone.len())?;
+    Ok(Changes {
+        created: paths_missing(alloc, &stood, come)?,
+        updated: paths_updated(alloc, schema, old, new, &stood, asked.as_slice())?,
+        deleted: paths_missing(alloc, &stand, gone)?,
+    })
+}
+
 /// The paths at which two configurations differ: those of the new one alone, those at which a value is
-/// another or whose entry the user moved, and those of the old one alone.
+/// another or whose entry the user moved, and those of the old one alone. Beside one walk over the rows of
+/// both it costs what differs.
 pub fn changes<'a>(
     alloc: Global,
     schema: &Schema,
@@ -217,11 +250,12 @@ pub fn changes<'a>(
 {
     let old_rows = old.rows(alloc)?;
     let new_rows = new.rows(alloc)?;
-    let before = RowsByPath::new(alloc, old_rows.as_slice())?;
-    let after = RowsByPath::new(alloc, new_rows.as_slice())?;
-    Ok(Changes {
-        created: paths_missing(alloc, &before, new_rows.as_slice())?,
-        updated: paths_updated(alloc, schema, old, new, &before, new_rows.as_slice())?,
-        deleted: paths_missing(alloc, &after, old_rows.as_slice())?,
-    })
+    changes_among(
+        alloc,
+        schema,
+        old,
+        new,
+        old_rows.as_slice(),
+        new_rows.as_slice(),
+    )
 }

@@ -7,7 +7,10 @@
 //! once.
 #![tactic(auto)]
 
+mod asked;
+mod common;
 mod differ;
+mod found;
 mod moved;
 mod ranks;
 

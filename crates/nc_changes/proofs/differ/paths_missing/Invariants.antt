@@ -1,11 +1,9 @@
-use Rattle.std.proofs.Common.{◌≡◌, ◌++◌, List, drop, map}
+use Rattle.std.proofs.Common.{◌≡◌, ◌++◌, drop, map}
 use Rattle.std.specs.List.{filter}
-use Rattle.nc_names.specs.declared.path.Row.{Row}
 use Rattle.nc_protocol.specs.Changes.{is_missing, paths_of}
-use Rattle.nc_tree.specs.Finding.{Finds}
 use Rattle.nc_changes.proofs.differ.paths_missing.Given as goal
 
 abbrev pub invariant-loop-row : goal.invariant-loop-row
 invariant-loop-row l =
-    (found : List Row) → Finds l.others found →
-    l.paths ++ paths_of (filter (is_missing found) (map (λ row. row.now) (drop l.row-index l.rows))) ≡ paths_of (filter (is_missing found) (map (λ row. row.now) l.rows))
+    l.paths ++ paths_of (filter (is_missing l.others) (map (λ row. row.now) (drop l.row-index l.rows)))
+    ≡ paths_of (filter (is_missing l.others) (map (λ row. row.now) l.rows))

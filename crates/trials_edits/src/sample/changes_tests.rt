@@ -47,6 +47,26 @@ const CHANGES: &[(&str, &str, [&str; 3])] = &[
     ("7:a 7:b", "7:b", ["", "", "7:a 7:a/8"]),
     ("7:a 7:b", "7:x 7:a 7:b", ["7:x 7:x/8", "", ""]),
     ("10=on", "11=192.0.2.7", ["11", "", "10"]),
+    ("", "", ["", "", ""]),
+    // What is first in both and what is last in both stays.
+    (
+        "0/1=gate 3:dns,tcp 3:dns,tcp/6=53 10=on",
+        "0/1=gate 3:dns,tcp 3:dns,tcp/6=54 10=on",
+        ["", "3:dns,tcp/6", ""],
+    ),
+    (
+        "0/1=gate 3:a,b 3:c,d 10=on",
+        "0/1=gate 3:b,b 3:c,d 10=on",
+        ["3:b,b 3:b,b/4 3:b,b/5", "", "3:a,b 3:a,b/4 3:a,b/5"],
+    ),
+    ("7:b 7:a 10=on", "7:b 7:a 10=off", ["", "10", ""]),
+    ("7:c 7:b 7:a", "7:c 7:x 7:b 7:a", ["7:x 7:x/8", "", ""]),
+    // An entry that is last in both has moved where another one stands before it.
+    (
+        "7:a 7:b 7:c 10=on",
+        "7:b 7:a 7:c 10=on",
+        ["", "7:b 7:a 7:c", ""],
+    ),
 ];
 
 #[test]

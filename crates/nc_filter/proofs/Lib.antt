@@ -21,5 +21,9 @@ pub mod NumberLemmas
 pub mod MemberLemmas
 pub mod BelowLemmas
 pub mod InstanceLemmas
+pub mod NearLemmas
 pub mod FrontLemmas
 pub mod LoneLemmas
+pub mod RangeLemmas
+pub mod EntryLemmas
+pub mod AimLemmas

@@ -7,12 +7,12 @@ use Rattle.std.proofs.Math.Seq.{take-append_seam}
 use Rattle.std.proofs.lemmas.Bool.{cases_lt}
 use Rattle.std.proofs.lemmas.List.{append_assoc, length-take-le, take-append-drop, take-append-le, take_all}
 use Rattle.nc_names.proofs.StepOrder.{same_itself}
-use Rattle.nc_names.specs.Same.{is_at_or_below, is_same_path, is_same_step}
+use Rattle.nc_names.specs.Same.{is_at_or_below, is_same_path}
 use Rattle.nc_names.specs.declared.path.Row.{Row}
 use Rattle.nc_names.specs.declared.path.Step.{Step}
 use Rattle.nc_schema.specs.Blocks.{above_from, above_last}
 use Rattle.nc_schema.specs.Order.{keys_above}
-use Rattle.nc_schema.specs.Standing.{block_at, has_row}
+use Rattle.nc_schema.specs.Standing.{block_at}
 use Rattle.nc_schema.specs.Tables.{Tables}
 use Rattle.nc_protocol.specs.Filter.{is_key_of_entry}
 use Rattle.nc_protocol.proofs.PlaceLemmas.{below_is_below}
@@ -61,7 +61,7 @@ same_tests false true more back = back refl
 same_tests false false more back = refl
 
 -- a node stands at or below the node above it
-above_split : (steps : List Step) → (last_or None steps ≡ None) ⊎ ((step : Step) × (steps ≡ above_last steps ++ step ∷ []))
+pub above_split : (steps : List Step) → (last_or None steps ≡ None) ⊎ ((step : Step) × (steps ≡ above_last steps ++ step ∷ []))
 above_split [] = inl refl
 above_split (step ∷ steps) = inr (split step steps)
   where

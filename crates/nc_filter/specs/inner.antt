@@ -10,3 +10,4 @@ pub mod Below
 pub mod Names
 pub mod Labels
 pub mod Front
+pub mod Entries

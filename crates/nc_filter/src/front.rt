@@ -28,7 +28,7 @@ use nc_tree::Config;
 use std::alloc::Global;
 
 /// As many containment nodes are gone through.
-const MOST_LEVELS: usize = 16;
+pub(crate) const MOST_LEVELS: usize = 16;
 
 /// As many content matches of a level are looked for.
 const MOST_MATCHES: usize = 4;
@@ -41,7 +41,8 @@ pub(crate) struct Way<'a> {
     level: Many<&'a Elem>,
 }
 
-fn level_of<'a>(alloc: Global, elem: &'a Elem) -> Result<Many<&'a Elem>, Memory>
+/// The elements that stand at the level of an element.
+pub(crate) fn level_of<'a>(alloc: Global, elem: &'a Elem) -> Result<Many<&'a Elem>, Memory>
     ensures { IfOk result (λ it. map (λ elem. elem.now) it ≡ meant.level_of elem.now) }
 {
     let mut level = Many::new(alloc);
@@ -49,8 +50,8 @@ fn level_of<'a>(alloc: Global, elem: &'a Elem) -> Result<Many<&'a Elem>, Memory>
     Ok(level)
 }
 
-// The element of a level, where nothing else stands there and it is a containment node.
-fn only_containment<'a>(level: &[&'a Elem]) -> Option<&'a Elem>
+/// The element of a level, where nothing else stands there and it is a containment node.
+pub(crate) fn only_containment<'a>(level: &[&'a Elem]) -> Option<&'a Elem>
     ensures { IfSome result (λ elem. (map (λ elem. elem.now) level.now ≡ elem.now ∷ [])
         × (meant.is_containment elem.now ≡ true)) }
 {
@@ -67,7 +68,7 @@ fn only_containment<'a>(level: &[&'a Elem]) -> Option<&'a Elem>
 }
 
 // The way from a filter on.
-#[tactic(auto, using(crate::proofs::FrontLemmas::way_more))]
+#[tactic(auto, using(crate::proofs::NearLemmas::way_more))]
 fn lead<'a>(alloc: Global, filter: &'a Elem) -> Result<Way<'a>, Memory>
     ensures { IfOk result (inner.IsWay filter.now) }
 {
@@ -197,8 +198,8 @@ fn met<'a>(
     Ok(found)
 }
 
-// The path of some steps.
-fn path_of(alloc: Global, steps: &[Step]) -> Result<Path, Memory>
+/// The path of some steps.
+pub(crate) fn path_of(alloc: Global, steps: &[Step]) -> Result<Path, Memory>
     ensures { IfOk result (λ it. it.steps ≡ steps.now) }
 {
     let mut copied = Many::new(alloc);
@@ -233,8 +234,13 @@ fn is_bare(alloc: Global, schema: &Schema, config: &Config, steps: &[Step]) -> R
     Ok(!config.has(&path))
 }
 
-// Whether each node above the one at these steps is so.
-fn are_bare(alloc: Global, schema: &Schema, config: &Config, steps: &[Step]) -> Result<bool, Memory>
+/// Whether each node above the one at these steps has neither a row nor keys.
+pub(crate) fn are_bare(
+    alloc: Global,
+    schema: &Schema,
+    config: &Config,
+    steps: &[Step],
+) -> Result<bool, Memory>
     ensures { IfOk result (λ it. it ≡ true → inner.AreBare schema.now config.now steps.now) }
 {
     for at in 0..steps.len() {

@@ -18,6 +18,7 @@ mod below;
 mod bits;
 mod descent;
 mod element;
+mod entry;
 mod flat;
 mod front;
 mod groups;
@@ -42,4 +43,5 @@ mod texts;
 mod walk;
 mod wants;
 
+pub use entry::entry_asked;
 pub use selection::select;

@@ -104,13 +104,16 @@ made_freely s session on_error tables before edits after open_is by made =
     (λ path right. nothing_is_denied.rights s.schema (access_policy s) (peer_of s session) path.steps right (sym open_is))
     on_error before edits)
 
+abbrev left_with : List Row → List Cause → Applied
+left_with rows causes = record { rows = rows; causes = causes }
+
 pub edit_by_is : (s : State) (session : ℕ) (test : TestOption) (on_error : ErrorOption) (before : List Row) (given edits : List Edit)
-    (rows : List Row) (causes : List Cause) (result : Result Course Memory) → before ≡ candidate_in_force s → given ≡ edits →
-    record { rows = rows; causes = causes } ≡ applied s.schema (rights_of s session) on_error before given →
-    IfOk result (λ it. it ≡ edit_course s.schema test (Ok (record { rows = rows; causes = causes }))) →
+    (rows draft : List Row) (causes : List Cause) (result : Result Course Memory) → before ≡ candidate_in_force s → given ≡ edits →
+    record { rows = rows; causes = causes } ≡ applied s.schema (rights_of s session) on_error before given → draft ≡ rows →
+    IfOk result (λ it. it ≡ edit_course s.schema test (Ok (record { rows = draft; causes = causes }))) →
     IfOk result (λ it. it ≡ edit_course s.schema test (Ok (applied s.schema (rights_of s session) on_error (candidate_in_force s) edits)))
-edit_by_is s session test on_error before given edits rows causes (Err memory) at same made told = tt
-edit_by_is s session test on_error before given edits rows causes (Ok it) at same made told =
+edit_by_is s session test on_error before given edits rows draft causes (Err memory) at same made kept told = tt
+edit_by_is s session test on_error before given edits rows draft causes (Ok it) at same made kept told =
     told ∙ ap (λ (left : Applied). edit_course s.schema test (Ok left))
-    (made ∙ (ap (λ (b : List Row). applied s.schema (rights_of s session) on_error b given) at
+    (ap (λ (left : List Row). left_with left causes) kept ∙ made ∙ (ap (λ (b : List Row). applied s.schema (rights_of s session) on_error b given) at
     ∙ ap (applied s.schema (rights_of s session) on_error (candidate_in_force s)) same))

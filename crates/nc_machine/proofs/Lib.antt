@@ -9,6 +9,7 @@ pub mod NodeLocks
 pub mod Held
 pub mod Confirmed
 pub mod Edits
+pub mod Drafts
 pub mod Courses
 pub mod Keeping
 pub mod Answering
@@ -20,3 +21,4 @@ pub mod Sound
 pub mod Standing
 pub mod Replies
 pub mod Granted
+pub mod Shown

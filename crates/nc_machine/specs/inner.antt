@@ -1,5 +1,6 @@
 pub mod Own
 pub mod Courses
 pub mod Governing
+pub mod Parts
 pub mod Turns
 pub mod Views

@@ -5,6 +5,7 @@ ghost use Rattle.nc_machine.specs.inner.Courses as course;
 
 use crate::course::{Change, Course, done, refused_course};
 use crate::datastores::{unsupported_origin, unsupported_target};
+use crate::draft::Draft;
 use crate::payload::rows_of;
 use crate::server::Server;
 use nc_names::{CauseKind, Memory};
@@ -50,7 +51,9 @@ fn copy_course(alloc: Global, copied: Result<Config, Cause>) -> Result<Course, M
     ensures { IfOk result (λ it. it ≡ course.copy_course copied) }
 {
     match copied {
-        Ok(rows) => Ok(done(Change::Candidate { rows })),
+        Ok(rows) => Ok(done(Change::Candidate {
+            rows: Draft::plain(rows),
+        })),
         Err(cause) => refused_course(alloc, cause),
     }
 }

@@ -6,6 +6,7 @@ ghost use Rattle.nc_machine.specs.declared.course.Course.TheVariants.{Answer};
 ghost use Rattle.nc_machine.specs.inner.Courses as course;
 
 use crate::causes::refused;
+use crate::draft::Draft;
 use nc_names::{Many, Memory, Path, Text};
 use nc_protocol::{Cause, Datastore, Verdict};
 use nc_tree::Config;
@@ -17,7 +18,7 @@ pub(crate) enum Change {
     Nothing,
     // The candidate gets rows, unless they are its own.
     Candidate {
-        rows: Config,
+        rows: Draft,
     },
     // The candidate is unmodified.
     Discard,

@@ -1,5 +1,6 @@
 //! What a request comes to (RFC 6241 7 and 8; RFC 8341 3.4.4).
 ghost use Rattle.std.specs.Prelude.{◌≡◌, IfOk};
+ghost use Rattle.nc_model.specs.State.{IsGood};
 ghost use Rattle.nc_model.specs.Verdict as meant;
 ghost use Rattle.nc_machine.specs.inner.Courses as course;
 
@@ -22,6 +23,7 @@ impl Server {
     // What an operation comes to.
     #[tactic(auto, unfolding(crate::specs::inner::Courses::asked_course))]
     fn asked_course(&self, session: u32, asked: &Asked) -> Result<Course, Memory>
+        requires good { IsGood self.now }
         ensures { IfOk result (λ it. it ≡ course.asked_course self.now session asked.now) }
     {
         match asked {
@@ -85,6 +87,7 @@ impl Server {
     /// before its parameters are looked at.
     #[tactic(auto, unfolding(crate::specs::inner::Courses::course))]
     pub(crate) fn course(&self, session: u32, request: &Request) -> Result<Course, Memory>
+        requires good { IsGood self.now }
         ensures { IfOk result (λ it. it ≡ course.course self.now session request.now) }
     {
         if let Some(cause) = self.operation_refusal(session, &request.operation)? {

@@ -12,6 +12,7 @@ ghost use Rattle.nc_machine.specs.inner.Courses as course;
 use crate::causes::done_unless;
 use crate::course::{Change, Course, refused_course};
 use crate::datastores::unsupported_target;
+use crate::draft::Draft;
 use crate::payload::edits_of;
 use crate::server::Server;
 use nc_edit::{apply, apply_freely};
@@ -33,7 +34,7 @@ fn with_cause(causes: Many<Cause>, cause: Option<Cause>) -> Result<Many<Cause>, 
 }
 
 // What is set, where the rows have a violation or not.
-fn change_by(test: TestOption, is_violated: bool, rows: Config) -> Change
+fn change_by(test: TestOption, is_violated: bool, rows: Draft) -> Change
     ensures { result ≡ course.change_by test is_violated rows }
 {
     match test {
@@ -64,13 +65,13 @@ impl Server {
     fn edit_course(
         &self,
         test: TestOption,
-        rows: Config,
+        rows: Draft,
         causes: Many<Cause>,
     ) -> Result<Course, Memory>
         ensures { IfOk result (λ it. it ≡
             course.edit_course self.now.schema test (Ok (record { rows = rows; causes = causes }))) }
     {
-        let violation = self.tested(test, &rows)?;
+        let violation = self.tested(test, rows.rows())?;
         let is_violated = violation.is_some();
         let causes = with_cause(causes, violation)?;
         Ok(Course::Answer {
@@ -101,6 +102,16 @@ impl Server {
         Ok(causes)
     }
 
+    // Rows that edits made of those of the candidate. One that is modified gets them as they are.
+    fn draft(&self, rows: Config, edits: &[Edit]) -> Result<Draft, Memory>
+        ensures { IfOk result (λ it. it ≡ rows) }
+    {
+        if self.is_modified() {
+            return Ok(Draft::plain(rows));
+        }
+        Draft::edited(rows, self.in_force(), edits)
+    }
+
     // Edits are made on a copy of the candidate.
     fn edit_by(
         &self,
@@ -114,8 +125,10 @@ impl Server {
             (candidate_in_force self.now) edits.now))) }
     {
         let mut rows = self.in_force().copy()?;
-        let causes = self.make(session, &mut rows, edits.as_slice(), on_error)?;
-        self.edit_course(test, rows, causes)
+        let asked = edits.as_slice();
+        let causes = self.make(session, &mut rows, asked, on_error)?;
+        let draft = self.draft(rows, asked)?;
+        self.edit_course(test, draft, causes)
     }
 
     // The payload is read, and its edits are made.

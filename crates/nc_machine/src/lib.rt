@@ -22,6 +22,7 @@ mod course;
 mod datastores;
 mod decide;
 mod denied;
+mod draft;
 mod edit;
 mod event;
 mod get;

@@ -1,6 +1,6 @@
 //! The datastores, locks and sessions of the server, seen as the state of the definitions (RFC 6241 5.1,
 //! 7.5, 8.1, 8.3 and 8.4; RFC 5717 2.1).
-ghost use Rattle.std.specs.Prelude.{◌≡◌, ◌≤◌, None, Some, IfOk, is_some, if◌then◌else◌};
+ghost use Rattle.std.specs.Prelude.{◌≡◌, ◌≤◌, None, Some, IfOk, is_some, false, true, if◌then◌else◌};
 ghost use Rattle.nc_model.specs.Access as access;
 ghost use Rattle.nc_model.specs.Policy.{policy_of};
 ghost use Rattle.nc_model.specs.State as state;
@@ -9,6 +9,7 @@ ghost use Rattle.nc_model.specs.Verdict.{holder_of, is_candidate, stored};
 ghost use Rattle.nc_outside.specs.Clocks.{last_reading};
 ghost use Rattle.nc_machine.specs.inner.Courses as course;
 
+use crate::draft::Draft;
 use crate::governed::Governed;
 use nc_locks::Locks;
 use nc_model::Session;
@@ -220,12 +221,25 @@ impl Server {
         self.expire();
     }
 
+    // Whether the candidate is to be modified so that it has rows. One that is modified has its own rows even
+    // after they are put in their own place, so they are compared only where it is not, and with running.
+    fn is_modified_by(&self, rows: &Draft) -> bool
+        ensures put { result ≡ true → record self.now { candidate = Some rows.now } ≡ with_candidate self.now
+            (Some rows.now) }
+        ensures left { result ≡ false → self.now ≡ with_candidate self.now (Some rows.now) }
+    {
+        match &self.candidate {
+            Some(_) => true,
+            None => !rows.is_same(self.running()),
+        }
+    }
+
     /// The candidate gets rows, unless they are its own.
-    pub(crate) fn set_candidate(&mut self, rows: Config)
+    pub(crate) fn set_candidate(&mut self, rows: Draft)
         ensures { self.new ≡ with_candidate self.old (Some rows) }
     {
-        if !rows.is_same(self.in_force()) {
-            self.candidate = Some(rows);
+        if self.is_modified_by(&rows) {
+            self.candidate = Some(rows.into_rows());
         }
     }
 

@@ -16,3 +16,4 @@ pub mod Walking
 pub mod Headers
 pub mod Outcomes
 pub mod Changing
+pub mod Growing

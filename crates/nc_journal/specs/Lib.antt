@@ -1,4 +1,5 @@
 pub mod Format
+pub mod Growing
 pub mod Files
 pub mod Images
 pub mod Journal

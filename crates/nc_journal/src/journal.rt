@@ -35,6 +35,8 @@ pub struct Journal<D> {
 impl<D: Disk> Journal<D> {
     ghost use Rattle.nc_journal.specs.Journal.{Stands, IsSound, allowed, disk_of, gate_of, records_of, start_of};
     ghost use Rattle.nc_journal.specs.Keeping.{Changes, KeepsCount};
+    ghost use Rattle.nc_journal.specs.Growing.{AreWithin, HasGrown, start_after, free_place as place_for};
+    ghost use Rattle.nc_journal.specs.inner.Placing.{HasPlaceOf};
     ghost use Rattle.nc_journal.specs.Format.{framed as in_frame, area as up_to_gate};
     ghost use Rattle.nc_journal.specs.Format.{areas_begin};
     ghost use Rattle.nc_names.specs.Limits.{body_limit};
@@ -54,6 +56,9 @@ impl<D: Disk> Journal<D> {
             Stands D.seen D.may_leave header self.old bodies doubt →
             LeavesOnly D.moment D.left_since (disk_of self.old) (disk_of self.new)
             (HoldsAmong header (allowed bodies doubt)) }
+        ensures placed { HasPlaceOf self.old self.new }
+        ensures within { Told (D.seen (disk_of self.old)) (λ _. (limit : ℕ) →
+            AreWithin D.may_leave limit (disk_of self.old) → AreWithin D.may_leave limit (disk_of self.new)) }
         ensures later { D.moment (disk_of self.old) ≤ D.moment (disk_of self.new) }
         ensures tells { is_some (D.seen (disk_of self.new)) ≡ is_some (D.seen (disk_of self.old)) }
         ensures cause { HasCause (D.faults (disk_of self.old)) (D.faults (disk_of self.new)) result }
@@ -82,6 +87,9 @@ impl<D: Disk> Journal<D> {
         ensures sound { (header : List ℕ) →
             Told (D.seen (disk_of self.old)) (λ file. IsSound D.seen D.may_leave header self.old) →
             Told (D.seen (disk_of self.new)) (λ file. IsSound D.seen D.may_leave header self.new) }
+        // The live area stays where it is, and the file grows at most to the end of the record.
+        ensures grown { Told (D.seen (disk_of self.old)) (λ _. HasGrown D.may_leave self.old self.new
+            (start_of self.old) (gate_of self.old + 1 + length framed.now)) }
         ensures later { D.moment (disk_of self.old) ≤ D.moment (disk_of self.new) }
         ensures tells { is_some (D.seen (disk_of self.new)) ≡ is_some (D.seen (disk_of self.old)) }
         ensures cause { KeepsCount (D.faults (disk_of self.old)) (D.faults (disk_of self.new)) result }
@@ -116,8 +124,9 @@ impl<D: Disk> Journal<D> {
     // Where an area with this many bytes goes: to the front where it ends there before the live area, else
     // directly after the live area's gate.
     fn free_place(&self, room: u64) -> u64
-        ensures { ((result ≡ areas_begin) × (areas_begin + room ≤ self.now.start)) ⊎
+        ensures free { ((result ≡ areas_begin) × (areas_begin + room ≤ self.now.start)) ⊎
             (result ≡ self.now.gate + 1) }
+        ensures place { result ≡ place_for self.now.start self.now.gate room }
     {
         if self.start >= AREAS_BEGIN && room <= self.start - AREAS_BEGIN {
             AREAS_BEGIN
@@ -148,6 +157,11 @@ impl<D: Disk> Journal<D> {
             All (λ body. length body ≤ body_limit) others → records ≡ length others →
             Told (D.seen (disk_of self.old)) (λ file. IsSound D.seen D.may_leave header self.old) →
             Told (D.seen (disk_of self.new)) (λ file. IsSound D.seen D.may_leave header self.new) }
+        // The area goes to the front where there is room, and the file grows at most to its end.
+        ensures grown { Told (D.seen (disk_of self.old)) (λ _. HasGrown D.may_leave self.old self.new
+            (start_after result (start_of self.old)
+            (place_for (start_of self.old) (gate_of self.old) (length area.now)))
+            (place_for (start_of self.old) (gate_of self.old) (length area.now) + length area.now)) }
         ensures later { D.moment (disk_of self.old) ≤ D.moment (disk_of self.new) }
         ensures tells { is_some (D.seen (disk_of self.new)) ≡ is_some (D.seen (disk_of self.old)) }
         ensures cause { KeepsCount (D.faults (disk_of self.old)) (D.faults (disk_of self.new)) result }

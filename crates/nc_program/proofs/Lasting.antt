@@ -69,7 +69,7 @@ module _ {D : Type 0} (seen : D → Option (List ℕ)) (may_leave : D → List �
 
   -- what a store at a later moment leaves is what a start of the device begins with
   leaves_so : (keeper : Storing D) (held : Option (List (List Row))) → is_some (seen disk) ≡ true
-      → Continues seen machine.keeper keeper → (t : ℕ) (among : List (List Row))
+      → Continues seen moment left_since machine.keeper keeper → (t : ℕ) (among : List (List Row))
       → StoreLeaves seen left_since keeper t among → Leaves (over keeper.disk held) device t among
   leaves_so keeper held some on t among leaves =
       subst (λ setup. (c : List ℕ) → left_since keeper.disk t c → Reopens setup among c) (on.setup_is ∙ begun.setup_is)
@@ -160,7 +160,7 @@ module _ {D : Type 0} (seen : D → Option (List ℕ)) (may_leave : D → List �
       let it = held_so held known in
       it.lasts last.keeper history (record {
         survives = (goes.stands it.home [] it.stands).survives;
-        continues = goes.continues machine.keeper (unmoved seen machine.keeper);
+        continues = goes.continues machine.keeper (unmoved seen moment left_since machine.keeper);
       })
 
   pub has_left : (held : Option (List (List Row))) → IfSome held (BeginsAmong device (may_leave disk)) → (now : D)

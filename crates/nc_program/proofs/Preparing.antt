@@ -1,7 +1,7 @@
 -- What the folder of a device comes to.
 use Rattle.std.proofs.Common.{◌≡◌, ◌≤◌, ◌<◌, ℕ, Bool, true, false, cond, List, [], ◌∷◌, length, Option, Some, None, Result, Ok, Err, refl, sym, subst, ap, ◌∙◌, map, arith}
 use Rattle.std.specs.List.{All, find, flat_map, position_or_len}
-use Rattle.std.specs.Prelude.{position, slice_index_or, is_some, Contains, IfErr, IfOk}
+use Rattle.std.specs.Prelude.{position, slice_index_or, is_some, IfErr, IfOk}
 use Rattle.std.proofs.lemmas.Bool.{lt-ltb}
 use Rattle.std.proofs.lemmas.Bool.Decides.{nat_tests}
 use Rattle.std.proofs.lemmas.List.Folds.{find_at}
@@ -22,7 +22,7 @@ use Rattle.nc_schema.specs.Proper.{IsProperSchema}
 use Rattle.nc_schema.specs.Tables.{Tables}
 use Rattle.nc_schema.specs.Violations.{IsValid}
 use Rattle.nc_store.specs.Keeping.{StoreLeaves, Storing}
-use Rattle.nc_store.specs.Opening.{HasBegun, IsRefused, IsUnread}
+use Rattle.nc_store.specs.Opening.{BeginsWith, HasBegun, IsRefused, IsUnread}
 use Rattle.nc_store.specs.Reopening.{Reopens}
 use Rattle.nc_store.specs.declared.fault.StoreFault.{StoreFault}
 use Rattle.nc_store.specs.declared.fault.StoreFault.TheVariants.{DiskFault}
@@ -169,18 +169,16 @@ ok_all P Q R S (Err e) so p q r = tt
 pub begins_by : {D : Type 0} (device : Device) (disk : Stored) (failed : ℕ) (tables schema : Tables) (store : Storing D)
     (running : List Row) (first : State) → tables ≡ device.schema → schema ≡ device.schema → IsProperSchema device.schema
     → HasBegun (record { header = device.header; tables = tables; initial = device.initial }) store running
-    → Told disk.seen (λ file. (among : List (List Row))
-    → Reopens (record { header = device.header; tables = tables; initial = device.initial }) among file → Contains among running)
+    → Told disk.seen (BeginsWith (record { header = device.header; tables = tables; initial = device.initial }) running)
     → first ≡ opening schema running failed → Begins device disk first
-begins_by device disk failed tables schema store running first same so proper begun among is = record {
+begins_by device disk failed tables schema store running first same so proper begun reads is = record {
   base = running;
   failed = failed;
   is = is ∙ ap (λ t. opening t running failed) so;
   proper = proper;
   configuration = subst (λ t. IsConfiguration t running) same begun.configuration;
   valid = subst (λ t. IsValid t running) same begun.valid;
-  among = subst (λ t. Told disk.seen (λ file. (among : List (List Row))
-      → Reopens (record { header = device.header; tables = t; initial = device.initial }) among file → Contains among running)) same among;
+  reads = subst (λ t. Told disk.seen (BeginsWith (record { header = device.header; tables = t; initial = device.initial }) running)) same reads;
 }
 
 pub refuses_by : (device : Device) (before now : Stored) (tables : Tables) (fault : StoreFault) → tables ≡ device.schema

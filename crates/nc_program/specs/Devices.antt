@@ -1,5 +1,5 @@
 -- The server that the folder of a device makes, and that which its store begins with.
-use Rattle.std.specs.Prelude.{◌≡◌, ℕ, List, length, Option, IfSome, Contains}
+use Rattle.std.specs.Prelude.{◌≡◌, ℕ, List, length, Option, IfSome}
 use Rattle.nc_names.specs.Counts.{Rose}
 use Rattle.nc_names.specs.declared.path.Row.{Row}
 use Rattle.nc_header.specs.Header.{IsStoreHeader}
@@ -13,7 +13,7 @@ use Rattle.nc_setup.specs.Folder.{Holds}
 use Rattle.nc_setup.specs.Setup.{IsRefused as IsNoSetup, IsSetup}
 use Rattle.nc_setup.specs.declared.fault.SetupFault.{SetupFault}
 use Rattle.nc_setup.specs.declared.folder.Contents.{Contents}
-use Rattle.nc_store.specs.Opening.{IsRefused, IsUnread}
+use Rattle.nc_store.specs.Opening.{BeginsWith, IsRefused, IsUnread}
 use Rattle.nc_store.specs.Reopening.{Reopens, Setup as Begun}
 use Rattle.nc_store.specs.declared.fault.StoreFault.{StoreFault}
 use Rattle.nc_store.specs.declared.fault.StoreFault.TheVariants.{DiskFault}
@@ -47,8 +47,8 @@ pub record MakesNone (files : Filing) (folder : List ℕ) (before now : Making) 
 abbrev pub begun_with : Device → Begun
 begun_with device = record { header = device.header; tables = device.schema; initial = device.initial }
 
--- The server of a device before its first event: running is a valid configuration, and one of those for which the file
--- stands. `failed` is how often the disk had failed by then.
+-- The server of a device before its first event: running is a valid configuration, and that which the file of its store
+-- holds. `failed` is how often the disk had failed by then.
 pub record Begins (device : Device) (disk : Stored) (first : State) : Type 0 where
   pub base : List Row
   pub failed : ℕ
@@ -56,8 +56,7 @@ pub record Begins (device : Device) (disk : Stored) (first : State) : Type 0 whe
   pub proper : IsProperSchema device.schema
   pub configuration : IsConfiguration device.schema base
   pub valid : IsValid device.schema base
-  pub among : Told disk.seen (λ file. (among : List (List Row)) →
-      Reopens (begun_with device) among file → Contains among base)
+  pub reads : Told disk.seen (BeginsWith (begun_with device) base)
 
 -- The store was not opened: the fault tells why the file is refused, and then no next start begins with anything of it;
 -- or the disk failed.

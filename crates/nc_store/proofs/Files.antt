@@ -1,16 +1,15 @@
 -- What the next start makes of what a crash leaves.
-use Rattle.std.proofs.Common.{◌≡◌, ◌⊎◌, ◌∙◌, ⊎_elim, ℕ, ◌+◌, ◌-◌, ◌*◌, ◌≤◌, max, List, [], ◌∷◌, ◌++◌, length, All, Contains, Option, Some, None, IfSome, refl, sym, ap, subst, arith, length-append}
+use Rattle.std.proofs.Common.{◌≡◌, ◌∙◌, ⊎_elim, ℕ, ◌+◌, ◌≤◌, List, [], ◌∷◌, ◌++◌, length, All, Contains, Option, Some, None, IfSome, refl, sym, ap, subst, arith, length-append}
 use Rattle.std.proofs.lemmas.List.Elements.{All-push}
 use Rattle.nc_names.specs.Limits.{body_limit}
 use Rattle.nc_names.specs.declared.path.Row.{Row}
-use Rattle.nc_schema.specs.Record.{record_body, record_size}
-use Rattle.nc_schema.proofs.RecordLemmas.{size_is}
+use Rattle.nc_schema.specs.Record.{record_body}
 use Rattle.nc_schema.proofs.TreeLemmas.{contains_cases}
 use Rattle.nc_outside.specs.Disks.{LeavesOnly}
 use Rattle.nc_journal.specs.Files.{HoldsAmong}
 use Rattle.nc_journal.specs.Format.{area, recorded}
 use Rattle.nc_journal.specs.Journal.{IsPlaced, Stands, allowed, at_rest, chooser_open, gate_open}
-use Rattle.nc_journal.specs.Keeping.{Change, KeepsBodies}
+use Rattle.nc_journal.specs.Keeping.{KeepsBodies}
 use Rattle.nc_journal.specs.declared.journal.Journal.{Journal}
 use Rattle.nc_journal.specs.declared.kept.Kept.{Kept}
 use Rattle.nc_journal.specs.declared.kept.Kept.TheVariants.{Kept as IsKept, Failed as HasFailed}
@@ -91,7 +90,7 @@ module _ {D : Type 0} (seen : D → Option (List ℕ)) (may_leave : D → List �
       (allowed_stand setup among bodies others base doubt is doubt_is (λ r has. there rows (standing base doubt) r has))) held) moments
 
   -- ---- how many bytes the live area has
-  placed : (header : List ℕ) (journal : Journal D) (bodies : List (List ℕ)) (doubt : Option (List (List ℕ))) → Stands seen may_leave header journal bodies doubt → IsPlaced seen header journal bodies
+  pub placed : (header : List ℕ) (journal : Journal D) (bodies : List (List ℕ)) (doubt : Option (List (List ℕ))) → Stands seen may_leave header journal bodies doubt → IsPlaced seen header journal bodies
   placed header journal bodies doubt (at_rest it undo none clean) = it
   placed header journal bodies doubt (gate_open body it undo some open_) = it
   placed header journal bodies doubt (chooser_open other others it undo some open_) = it

@@ -1,5 +1,5 @@
 -- A file of the store is opened.
-use Rattle.std.proofs.Common.{◌≡◌, ◌⊎◌, ◌∙◌, ◌+◌, ◌-◌, ◌^◌, min, ⊎_elim, inl, inr, ℕ, List, [], ◌∷◌, ◌++◌, length, Contains, Option, Some, None, is_some, IfSome, refl, sym, ap, subst, arith, length-append}
+use Rattle.std.proofs.Common.{◌≡◌, ◌∙◌, ◌+◌, ◌-◌, ◌^◌, min, ⊎_elim, inl, ℕ, List, [], ◌∷◌, ◌++◌, length, Contains, Option, Some, None, is_some, IfSome, refl, sym, ap, subst, arith, length-append}
 use Rattle.std.specs.Option.{option_map_or}
 use Rattle.std.specs.Prelude.{slice_get}
 use Rattle.nc_names.specs.declared.path.Row.{Row}
@@ -7,15 +7,15 @@ use Rattle.nc_schema.proofs.TreeLemmas.{contains_cases}
 use Rattle.nc_outside.specs.Disks.{LeavesOnly, Told}
 use Rattle.nc_outside.proofs.DiskFiles.{told_before}
 use Rattle.nc_journal.specs.Files.{Holds, IsNew}
-use Rattle.nc_journal.specs.Format.{area, gate_place}
+use Rattle.nc_journal.specs.Format.{gate_place}
 use Rattle.nc_journal.specs.Header.{IsHeader}
 use Rattle.nc_journal.specs.Images.{IsClean}
-use Rattle.nc_journal.specs.Journal.{IsPlaced, Stands, allowed, at_rest, chooser_open, gate_open}
-use Rattle.nc_journal.specs.Laws.{Outcome, Reads, damaged_file, new_file, other_file, whole_file}
+use Rattle.nc_journal.specs.Journal.{Stands, allowed, at_rest, chooser_open, gate_open}
+use Rattle.nc_journal.specs.Laws.{damaged_file, new_file, other_file, whole_file}
 use Rattle.nc_journal.specs.declared.journal.Journal.{Journal}
 use Rattle.nc_journal.specs.Beginning.{BeginsSafely, HasBegun}
-use Rattle.nc_journal.specs.Opening.{IsRead, StartsAmong, StartsFresh, fresh, left_before, left_before_making, made, stands, still_new}
-use Rattle.nc_journal.specs.Refusing.{HasOtherHeader, IsDamaged, IsRefused as IsNotRead}
+use Rattle.nc_journal.specs.Opening.{IsRead, Opens, StartsAmong, StartsFresh, as_new as opens_new, as_read, fresh, left_before, left_before_making, made, stands, still_new}
+use Rattle.nc_journal.specs.Refusing.{HasOtherHeader, IsDamaged, IsLeftAlone, IsRefused as IsNotRead}
 use Rattle.nc_journal.specs.declared.fault.JournalFault.{JournalFault}
 use Rattle.nc_journal.specs.declared.fault.JournalFault.TheVariants.{DiskFault, Damaged, OtherHeader, Memory}
 use Rattle.nc_journal.proofs.Numbers.{gate-push}
@@ -24,7 +24,7 @@ use Rattle.nc_journal.proofs.Outcomes.{outcomes_once}
 use Rattle.nc_journal.proofs.Standing.{only_as}
 use Rattle.nc_record.proofs.Above.{at_end}
 use Rattle.nc_store.specs.Keeping.{IsKeeping}
-use Rattle.nc_store.specs.Opening.{HasBadRecord, IsRefused, IsUnread, fault_by}
+use Rattle.nc_store.specs.Opening.{BeginsWith, HasBadRecord, IsRefused, IsUnread, fault_by}
 use Rattle.nc_store.specs.Reopening.{IsBase, IsValidRecord, Reopens, Setup, StandsAmong, as_held, as_new, no_record}
 use Rattle.nc_store.specs.inner.Finding.{FindsBase, gate_before}
 use Rattle.nc_store.proofs.Files.{among_reopens}
@@ -54,16 +54,22 @@ other_not setup modules features at file among header other (as_new new has) = d
 other_not setup modules features at file among header other (as_held bodies doubt holds are in_doubt) =
     differ_whole_other bodies at (outcomes_once modules features setup.header file header (whole_file bodies) (other_file at) (holds_is_read setup.header bodies doubt file holds) other)
 
+same_bytes : {one other : List ℕ} → Some one ≡ Some other → one ≡ other
+same_bytes is = cc
+
 -- why the journal refuses a file is why the store does
-pub refused_by : (setup : Setup) (fault : JournalFault) (before after : List ℕ) → IsNotRead setup.header fault before → IsRefused setup (fault_by fault) before after
-refused_by setup DiskFault before after it = tt
-refused_by setup (Damaged at) before after it = inl it
-refused_by setup (OtherHeader at) before after it =
+pub refused_by : {D : Type 0} (seen : D → Option (List ℕ)) (may_leave : D → List ℕ → Type 0) (start end : D) (setup : Setup) (fault : JournalFault) (before after : List ℕ)
+    → seen start ≡ Some before → seen end ≡ Some after → IsNotRead setup.header fault before → IsLeftAlone seen may_leave fault start end
+    → IsRefused setup (fault_by fault) before after
+refused_by seen may_leave start end setup DiskFault before after told told_too it left = tt
+refused_by seen may_leave start end setup (Damaged at) before after told told_too it left =
+    inl (it, same_bytes (sym told_too ∙ left.0 ∙ told))
+refused_by seen may_leave start end setup (OtherHeader at) before after told told_too it left =
     let within = it.differs.within_ours in
     let few = it.is_ours.few in
     let same : at ≡ min at (2 ^ 32 - 1) = omega (arith, within, few) in
-    subst (λ n. HasOtherHeader setup.header n before) same it
-refused_by setup Memory before after it = tt
+    (subst (λ n. HasOtherHeader setup.header n before) same it, same_bytes (sym told_too ∙ left.0 ∙ told))
+refused_by seen may_leave start end setup Memory before after told told_too it left = tt
 
 pub unread_by : (setup : Setup) (modules : List (List ℕ)) (features : List ℕ) (fault : JournalFault) (file : List ℕ) (among : List (List Row)) → IsHeader modules features setup.header → IsNotRead setup.header fault file
     → IsUnread (fault_by fault) → ¬ Reopens setup among file
@@ -81,22 +87,43 @@ no_base setup among file found new_is held_is none (as_held bodies doubt holds a
     none are.rows (subst (λ b. IsBase setup.tables setup.initial b are.rows) (sym (held_is bodies doubt holds)) are.base)
 
 -- what is opened is one of those that the file stands for
-pub opened_among : (setup : Setup) (among : List (List Row)) (file : List ℕ) (found : List (List ℕ)) (rows : List Row) → (IsNew setup.header file → found ≡ [])
+opened_among : (setup : Setup) (among : List (List Row)) (file : List ℕ) (found : List (List ℕ)) (rows : List Row) → (IsNew setup.header file → found ≡ [])
     → ((bodies : List (List ℕ)) (doubt : Option (List (List ℕ))) → Holds setup.header bodies doubt file → found ≡ bodies)
     → FindsBase setup.tables setup.initial found (Some rows) → Reopens setup among file → Contains among rows
 opened_among setup among file found rows new_is held_is base (as_new new has) = subst (Contains among) (base.1 setup.initial (no_record (new_is new) refl)) has
 opened_among setup among file found rows new_is held_is base (as_held bodies doubt holds are in_doubt) =
     subst (Contains among) (base.1 are.rows (subst (λ b. IsBase setup.tables setup.initial b are.rows) (sym (held_is bodies doubt holds)) are.base)) are.is_among
 
+-- and the file has a reading
+pub begins_with : (setup : Setup) (file : List ℕ) (found : List (List ℕ)) (rows : List Row) → Opens setup.header found file
+    → (IsNew setup.header file → found ≡ [])
+    → ((bodies : List (List ℕ)) (doubt : Option (List (List ℕ))) → Holds setup.header bodies doubt file → found ≡ bodies)
+    → FindsBase setup.tables setup.initial found (Some rows) → BeginsWith setup rows file
+begins_with setup file found rows opens new_is held_is base = record {
+  bodies = found;
+  opens = opens;
+  base_is = base.0;
+  is_among = λ among reopens. opened_among setup among file found rows new_is held_is base reopens;
+}
+
+-- a file of which some record was read has a reading
+read_some : (header : List ℕ) (found front : List (List ℕ)) (body file : List ℕ) → Opens header found file → found ≡ front ++ body ∷ []
+    → IsRead header (front ++ body ∷ []) file
+read_some header found front body file (opens_new new empty) is =
+    absurd (let wrong : 0 ≡ length front + 1 = omega (arith, ap length empty, ap length is, length-append front (body ∷ [])) in omega (arith, wrong))
+read_some header found front body file (as_read read) is = subst (λ b. IsRead header b file) is read
+
 -- the last record of a journal at rest
-pub bad_record : {D : Type 0} (seen : D → Option (List ℕ)) (may_leave : D → List ℕ → Type 0) (setup : Setup) (journal : Journal D) (found front : List (List ℕ)) (body file : List ℕ) (at : ℕ)
+pub bad_record : {D : Type 0} (seen : D → Option (List ℕ)) (may_leave : D → List ℕ → Type 0) (setup : Setup) (journal : Journal D) (found front : List (List ℕ)) (body before file : List ℕ) (at : ℕ)
+    → Opens setup.header found before
     → Stands seen may_leave setup.header journal found None → may_leave journal.disk file → found ≡ front ++ body ∷ [] → at ≡ gate_before found journal.gate
-    → ((rows : List Row) → ¬ IsValidRecord setup.tables body rows) → HasBadRecord setup at file
-bad_record seen may_leave setup journal found front body file at (at_rest placed undo none clean) left is at_is bad = record {
+    → ((rows : List Row) → ¬ IsValidRecord setup.tables body rows) → HasBadRecord setup at before file
+bad_record seen may_leave setup journal found front body before file at opens (at_rest placed undo none clean) left is at_is bad = record {
   second = journal.second;
   place = journal.start;
   earlier = front;
   body = body;
+  read = read_some setup.header found front body before opens is;
   whole = subst (λ b. IsClean setup.header journal.second journal.start b file) is (clean file left);
   gate =
       let last : slice_get found (length found - 1) ≡ Some body = ap (λ l. slice_get l (length l - 1)) is ∙ at_end front body in
@@ -106,8 +133,8 @@ bad_record seen may_leave setup journal found front body file at (at_rest placed
       omega (arith, at_is, here, gate, push);
   none = bad;
 }
-bad_record seen may_leave setup journal found front body file at (gate_open other placed undo some open_) left is at_is bad = absurd (let wrong : None ≡ Some (found ++ other ∷ []) = some in cc)
-bad_record seen may_leave setup journal found front body file at (chooser_open other others placed undo some open_) left is at_is bad = absurd (let wrong : None ≡ Some others = some in cc)
+bad_record seen may_leave setup journal found front body before file at opens (gate_open other placed undo some open_) left is at_is bad = absurd (let wrong : None ≡ Some (found ++ other ∷ []) = some in cc)
+bad_record seen may_leave setup journal found front body before file at opens (chooser_open other others placed undo some open_) left is at_is bad = absurd (let wrong : None ≡ Some others = some in cc)
 
 module _ {D : Type 0} (seen : D → Option (List ℕ)) (may_leave : D → List ℕ → Type 0) (moment : D → ℕ) (left_since : D → ℕ → List ℕ → Type 0)
     (seen_is_left : (disk : D) (bytes : List ℕ) → seen disk ≡ Some bytes → may_leave disk bytes)
@@ -156,7 +183,8 @@ module _ {D : Type 0} (seen : D → Option (List ℕ)) (may_leave : D → List �
       }
 
   pub bad_at : (start : D) (journal : Journal D) (found : List (List ℕ)) (at : ℕ) → Told (seen start) (HasBegun seen may_leave h journal found) → FindsBase setup.tables setup.initial found None
-      → at ≡ gate_before found journal.gate → (file after : List ℕ) → seen start ≡ Some file → seen journal.disk ≡ Some after → HasBadRecord setup at after
+      → at ≡ gate_before found journal.gate → (file after : List ℕ) → seen start ≡ Some file → seen journal.disk ≡ Some after → HasBadRecord setup at file after
   bad_at start journal found at begun none at_is file after told told_too =
       let last = none_last_record setup.tables setup.initial found none in
-      bad_record seen may_leave setup journal found last.0 last.1 after at (begun_at journal found file (begun file told)).stands (seen_is_left journal.disk after told_too) last.2 at_is last.3
+      let had = begun_at journal found file (begun file told) in
+      bad_record seen may_leave setup journal found last.0 last.1 file after at had.opens had.stands (seen_is_left journal.disk after told_too) last.2 at_is last.3

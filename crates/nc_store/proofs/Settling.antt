@@ -7,7 +7,7 @@ use Rattle.nc_schema.proofs.RecordLemmas.{size_is}
 use Rattle.nc_schema.specs.Record.{record_body, record_size}
 use Rattle.nc_outside.specs.Disks.{LeavesOnly, Told}
 use Rattle.nc_outside.proofs.DiskFiles.{told_before}
-use Rattle.nc_journal.specs.Journal.{IsSound, allowed, records_of}
+use Rattle.nc_journal.specs.Journal.{IsSound, allowed}
 use Rattle.nc_journal.specs.declared.journal.Journal.{Journal}
 use Rattle.nc_journal.specs.declared.kept.Kept.{Kept}
 use Rattle.nc_journal.specs.declared.kept.Kept.TheVariants.{Kept as IsKept, Failed as HasFailed}
@@ -17,13 +17,10 @@ use Rattle.nc_store.specs.Keeping.{CanKeep, Continues, IsKeeping, IsReady, IsRec
 use Rattle.nc_store.specs.Reopening.{Reopens, Setup}
 use Rattle.nc_store.specs.declared.ready.Ready.{Ready}
 use Rattle.nc_store.specs.declared.ready.Way.{Way}
+use Rattle.nc_store.specs.inner.Growing.{GrowsBy}
 use Rattle.nc_store.specs.inner.Leaving.{reopens_fewer}
+use Rattle.nc_store.proofs.Bounds.{grown_within, storing}
 use Rattle.nc_store.proofs.Files.{allowed_stand, among_reopens, small_body}
-
--- a store as contracts see it
-abbrev pub storing : {D : Type 0} → Journal D → Setup → List Row → Option (List Row) → Storing D
-storing journal setup base doubt =
-    record { disk = journal.disk; setup = setup; base = base; doubt = doubt; live = live_size journal; records = records_of journal }
 
 -- how a record is written, by what is known of its parts
 pub way_seen : (live l : ℕ) (header h body b : List ℕ) (way : Way) → l ≡ live → h ≡ header → b ≡ body → IsWay l h b way → IsWay live header body way
@@ -128,14 +125,20 @@ module _ {D : Type 0} (seen : D → Option (List ℕ)) (may_leave : D → List �
       → ((setup : Setup) (base : List Row) (doubt : Option (List Row)) (rows : List Row) → IsKeeping seen may_leave setup old base doubt → IsRecord setup (live_size old) rows ready.way
       → IsSized result (live_size old) (live_size new) (area_limit (length setup.header) (record_size rows)))
       → is_some (seen new.disk) ≡ is_some (seen old.disk)
-      → Continues seen s (storing new setup later_base later_doubt)
-  goes_later setup old new base later_base doubt later_doubt s ready rows result is made keeping bounded tells =
-      subst (λ (x : Storing D). Continues seen x (storing new setup later_base later_doubt)) is
+      → Told (seen old.disk) (λ _. GrowsBy may_leave ready.way result old new)
+      → ((disk : D) (t : ℕ) (c : List ℕ) → t ≤ moment disk → may_leave disk c → left_since disk t c)
+      → Continues seen moment left_since s (storing new setup later_base later_doubt)
+  goes_later setup old new base later_base doubt later_doubt s ready rows result is made keeping bounded tells grown counts_now =
+      subst (λ (x : Storing D). Continues seen moment left_since x (storing new setup later_base later_doubt)) is
       (record {
         setup_is = refl;
         tells = tells;
         bounded = λ file told.
             let was = told_before (seen old.disk) (seen new.disk) tells file told in
             let record_is = ready_record old setup base doubt s ready rows is made in
-            sized_within result (live_size old) (live_size new) (length setup.header) rows (small_record setup (live_size old) rows ready.way record_is) (bounded setup base doubt rows (keeping was.0 was.1) record_is);
+            let k = keeping was.0 was.1 in
+            grown_within seen may_leave moment left_since only_now counts_now setup old new k.bodies k.others base later_base doubt later_doubt rows ready.way result k.stands record_is
+            (small_body setup (live_size old) rows ready.way record_is)
+            (sized_within result (live_size old) (live_size new) (length setup.header) rows (small_record setup (live_size old) rows ready.way record_is) (bounded setup base doubt rows k record_is))
+            (grown was.0 was.1);
       })

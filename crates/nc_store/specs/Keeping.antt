@@ -3,10 +3,9 @@ use Rattle.std.specs.Prelude.{◌≡◌, ◌≤◌, ◌<◌, ◌+◌, ◌*◌, �
 use Rattle.std.specs.Prelude.{Option, Some, None, is_some}
 use Rattle.nc_names.specs.Limits.{body_limit}
 use Rattle.nc_names.specs.declared.path.Row.{Row}
-use Rattle.nc_schema.specs.Record.{record_body, record_size}
+use Rattle.nc_schema.specs.Record.{record_body}
 use Rattle.nc_outside.specs.Disks.{Told}
-use Rattle.nc_journal.specs.Format.{framed as in_frame, area as up_to_gate}
-use Rattle.nc_journal.specs.Header.{IsHeader}
+use Rattle.nc_journal.specs.Format.{areas_begin, framed as in_frame, area as up_to_gate}
 use Rattle.nc_journal.specs.Journal.{IsSound, Stands, disk_of, gate_of, start_of}
 use Rattle.nc_journal.specs.declared.journal.Journal.{Journal}
 use Rattle.nc_journal.specs.declared.kept.Kept.{Kept}
@@ -17,13 +16,14 @@ use Rattle.nc_store.specs.declared.ready.Ready.{Ready}
 use Rattle.nc_store.specs.declared.ready.Way.{Way}
 use Rattle.nc_store.specs.declared.ready.Way.TheVariants.{Append, Replace}
 
--- a store to contracts: its disk, what it was started with, the configuration that comes back, the one in doubt, how
--- many bytes its live area has, from the header to the closed gate, and how many records
+-- a store to contracts: its disk, what it was started with, the configuration that comes back, the one in doubt, where
+-- its live area begins, how many bytes that has, from the header to the closed gate, and how many records
 pub record Storing (D : Type 0) : Type 0 where
   pub disk : D
   pub setup : Setup
   pub base : List Row
   pub doubt : Option (List Row)
+  pub start : ℕ
   pub live : ℕ
   pub records : ℕ
 
@@ -52,11 +52,34 @@ abbrev pub IsSized : Kept → (before now limit : ℕ) → Type 0
 IsSized IsKept before now limit = now ≤ limit
 IsSized (HasFailed doubt) before now limit = now ≡ before
 
--- A store at a later moment. Its live area is no larger than it was, or than one may grow by a body within the limit.
-pub record Continues {D : Type 0} (seen : D → Option (List ℕ)) (old new : Storing D) : Type 0 where
+-- no crash image of this moment is longer than this
+abbrev pub AreWithin : {D : Type 0} → (D → ℕ) → (D → ℕ → List ℕ → Type 0) → ℕ → D → Type 0
+AreWithin moment left_since limit disk = (c : List ℕ) → left_since disk (moment disk) c → length c ≤ limit
+
+-- how large the live area of a store may become: no larger than it is, or than one grows by a body within the limit
+abbrev pub most_live : {D : Type 0} → Storing D → ℕ
+most_live s = max s.live (area_limit (length s.setup.header) body_limit)
+
+-- where it may come to begin: no later than it does, or than after an area of that size before which there is no room
+-- for one with a single record
+abbrev pub most_start : {D : Type 0} → Storing D → ℕ
+most_start s = max s.start (areas_begin + whole_area (length s.setup.header) body_limit + most_live s)
+
+-- The file of a store at a later moment is bounded by what the store was: its live area, where that begins, and so how
+-- long the file is, unless it was longer.
+pub record IsBounded {D : Type 0} (moment : D → ℕ) (left_since : D → ℕ → List ℕ → Type 0) (old new : Storing D)
+    : Type 0 where
+  pub live_is : new.live ≤ most_live old
+  pub start_is : new.start ≤ most_start old
+  pub file_is : (limit : ℕ) → most_start old + most_live old ≤ limit
+      → AreWithin moment left_since limit old.disk → AreWithin moment left_since limit new.disk
+
+-- A store at a later moment.
+pub record Continues {D : Type 0} (seen : D → Option (List ℕ)) (moment : D → ℕ) (left_since : D → ℕ → List ℕ → Type 0)
+    (old new : Storing D) : Type 0 where
   pub setup_is : new.setup ≡ old.setup
   pub tells : is_some (seen new.disk) ≡ is_some (seen old.disk)
-  pub bounded : Told (seen new.disk) (λ _. new.live ≤ max old.live (area_limit (length old.setup.header) body_limit))
+  pub bounded : Told (seen new.disk) (λ _. IsBounded moment left_since old new)
 
 -- bodies in doubt stand for the configuration in doubt
 abbrev pub IsDoubt : Setup → Option (List (List ℕ)) → Option (List Row) → Type 0

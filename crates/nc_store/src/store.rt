@@ -1,6 +1,6 @@
 //! The store.
 ghost use Rattle.std.specs.Prelude.{◌≡◌, ◌≤◌, ◌∷◌, [], ℕ, List, Option};
-ghost use Rattle.std.specs.Prelude.{Some, None, Contains, is_some, IfOk, IfErr};
+ghost use Rattle.std.specs.Prelude.{Some, None, is_some, IfOk, IfErr};
 ghost use Rattle.nc_names.specs.Counts.{Rose};
 ghost use Rattle.nc_names.specs.declared.path.Row.{Row};
 ghost use Rattle.nc_schema.specs.Configuration.{IsConfiguration};
@@ -44,7 +44,7 @@ pub struct Store<D: Disk> {
 
 impl<D: Disk> Model for Store<D> {
     ghost use Rattle.nc_outside.specs.Disks.{Told};
-    ghost use Rattle.nc_journal.specs.Journal.{disk_of, records_of};
+    ghost use Rattle.nc_journal.specs.Journal.{disk_of, records_of, start_of};
     ghost use Rattle.nc_store.specs.Keeping.{IsKeeping, Storing, live_size};
 
     ghost Value = { Storing D };
@@ -54,6 +54,7 @@ impl<D: Disk> Model for Store<D> {
       setup = record { header = s.header; tables = s.schema.value; initial = s.initial };
       base = s.base;
       doubt = s.doubt;
+      start = start_of s.journal;
       live = live_size s.journal;
       records = records_of s.journal;
     } };
@@ -77,7 +78,7 @@ fn last_gate(bodies: &Many<Bytes>, gate: u64) -> u64
 
 impl<D: Disk> Store<D> {
     ghost use Rattle.nc_store.specs.Keeping.{StoreLeaves};
-    ghost use Rattle.nc_store.specs.Opening.{HasBegun, IsRefused, IsUnread};
+    ghost use Rattle.nc_store.specs.Opening.{BeginsWith, HasBegun, IsRefused, IsUnread};
     ghost use Rattle.nc_store.specs.declared.fault.StoreFault.TheVariants.{DiskFault};
 
     /// Opens the file of a disk, and gives the running configuration. The header is that of the modules and
@@ -85,7 +86,8 @@ impl<D: Disk> Store<D> {
     ///
     /// # Errors
     ///
-    /// The disk is handed back with the fault.
+    /// The disk is handed back with the fault. A file that is refused is left as it was, but for a byte that
+    /// a crash left torn.
     pub fn begin(
         alloc: Global,
         disk: D,
@@ -99,10 +101,9 @@ impl<D: Disk> Store<D> {
         requires valid { IsValid schema.value initial }
         ensures begun { IfOk result (λ it.
             HasBegun (record { header = header; tables = schema.value; initial = initial }) it.0 it.1) }
-        // It begins with one of the configurations for which the file stands.
-        ensures among { IfOk result (λ it. Told (D.seen disk) (λ file. (among : List (List Row)) →
-            Reopens (record { header = header; tables = schema.value; initial = initial }) among file →
-            Contains among it.1)) }
+        // It begins with what the file holds.
+        ensures reads { IfOk result (λ it. Told (D.seen disk)
+            (BeginsWith (record { header = header; tables = schema.value; initial = initial }) it.1)) }
         // From now on no other comes back.
         ensures now { IfOk result (λ it.
             StoreLeaves D.seen D.left_since it.0 (D.moment it.0.disk) (it.1 ∷ [])) }
@@ -194,7 +195,7 @@ impl<D: Disk> Keeper for Store<D> {
 
     ghost leaves = { λ s t among. StoreLeaves D.seen D.left_since s t among };
 
-    ghost continues = { λ old new. Continues D.seen old new };
+    ghost continues = { λ old new. Continues D.seen D.moment D.left_since old new };
 
     ghost readied = { λ s ready rows. IsReady s ready rows };
 
@@ -247,7 +248,8 @@ impl<D: Disk> Keeper for Store<D> {
     ghost fewer = { λ s t these those more leaves.
         leaves_fewer D.seen D.left_since s t these those more leaves };
 
-    ghost goes_on = { λ s. unmoved D.seen s };
+    ghost goes_on = { λ s. unmoved D.seen D.moment D.left_since s };
 
-    ghost goes_further = { λ one two three then last. further D.seen one two three then last };
+    ghost goes_further = { λ one two three then last.
+        further D.seen D.moment D.left_since one two three then last };
 }

@@ -19,7 +19,7 @@ use Rattle.nc_program.specs.declared.device.Device.{Device}
 abbrev pub store_words : {D : Type 0} → (seen : D → Option (List ℕ)) → (moment : D → ℕ) →
     (left_since : D → ℕ → List ℕ → Type 0) → Lasting (Storing D)
 store_words seen moment left_since = lasting (λ s. s.doubt) (λ s. moment s.disk)
-    (λ s t among. StoreLeaves seen left_since s t among) (λ old new. Continues seen old new)
+    (λ s t among. StoreLeaves seen left_since s t among) (λ old new. Continues seen moment left_since old new)
 
 -- The store of a device was opened on that disk: no configuration but running comes back from now on; a crash within
 -- the opening leaves one of those that the disk had; and the server stands for the history that begins now.

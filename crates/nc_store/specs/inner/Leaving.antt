@@ -1,10 +1,9 @@
 -- What begins with one of these begins with one of more; a store that goes on twice goes on.
-use Rattle.std.specs.Prelude.{ℕ, ◌≤◌, List, length, max, Option, Some, None, IfSome, Contains}
-use Rattle.std.proofs.Common.{◌∙◌, refl, subst, arith}
-use Rattle.nc_names.specs.Limits.{body_limit}
+use Rattle.std.specs.Prelude.{◌≡◌, ℕ, List, length, Option, Some, None, IfSome, Contains}
+use Rattle.std.proofs.Common.{◌∙◌, ap, refl, arith}
 use Rattle.nc_names.specs.declared.path.Row.{Row}
 use Rattle.nc_outside.proofs.DiskFiles.{told_before}
-use Rattle.nc_store.specs.Keeping.{Continues, StoreLeaves, Storing, area_limit}
+use Rattle.nc_store.specs.Keeping.{Continues, IsBounded, StoreLeaves, Storing}
 use Rattle.nc_store.specs.Reopening.{Reopens, Setup, StandsAmong, as_held, as_new}
 
 -- each of these is one of those
@@ -34,19 +33,36 @@ pub leaves_fewer : {D : Type 0} (seen : D → Option (List ℕ)) (left_since : D
 leaves_fewer seen left_since s t these those more leaves =
     λ file told c left. reopens_fewer s.setup these those c more (leaves file told c left)
 
-pub unmoved : {D : Type 0} (seen : D → Option (List ℕ)) (s : Storing D) → Continues seen s s
-unmoved seen s = record { setup_is = refl; tells = refl; bounded = λ file told. omega arith }
+pub unmoved : {D : Type 0} (seen : D → Option (List ℕ)) (moment : D → ℕ) (left_since : D → ℕ → List ℕ → Type 0)
+    (s : Storing D) → Continues seen moment left_since s s
+unmoved seen moment left_since s = record {
+  setup_is = refl;
+  tells = refl;
+  bounded = λ file told. record {
+    live_is = omega arith;
+    start_is = omega arith;
+    file_is = λ limit le before. before;
+  };
+}
 
-pub further : {D : Type 0} (seen : D → Option (List ℕ)) (one two three : Storing D)
-    → Continues seen one two → Continues seen two three → Continues seen one three
-further seen one two three a b = record {
+bounded_twice : {D : Type 0} (moment : D → ℕ) (left_since : D → ℕ → List ℕ → Type 0) (one two three : Storing D)
+    → length two.setup.header ≡ length one.setup.header → IsBounded moment left_since one two
+    → IsBounded moment left_since two three → IsBounded moment left_since one three
+bounded_twice moment left_since one two three same a b = record {
+  live_is = omega (arith, same, a.live_is, b.live_is);
+  start_is = omega (arith, same, a.live_is, a.start_is, b.start_is);
+  file_is = λ limit le before.
+      b.file_is limit (omega (arith, same, le, a.live_is, a.start_is)) (a.file_is limit le before);
+}
+
+pub further : {D : Type 0} (seen : D → Option (List ℕ)) (moment : D → ℕ) (left_since : D → ℕ → List ℕ → Type 0)
+    (one two three : Storing D) → Continues seen moment left_since one two → Continues seen moment left_since two three
+    → Continues seen moment left_since one three
+further seen moment left_since one two three a b = record {
   setup_is = b.setup_is ∙ a.setup_is;
   tells = b.tells ∙ a.tells;
   bounded = λ file told.
       let was = told_before (seen two.disk) (seen three.disk) b.tells file told in
-      let first = a.bounded was.0 was.1 in
-      let second =
-      subst (λ (s : Setup). three.live ≤ max two.live (area_limit (length s.header) body_limit)) a.setup_is
-      (b.bounded file told) in
-      omega (arith, first, second);
+      bounded_twice moment left_since one two three (ap (λ (s : Setup). length s.header) a.setup_is)
+      (a.bounded was.0 was.1) (b.bounded file told);
 }

@@ -1,4 +1,4 @@
-use Rattle.std.proofs.Common.{◌∙◌, sym, subst, ℕ, List}
+use Rattle.std.proofs.Common.{sym, subst, ℕ, List}
 use Rattle.nc_journal.proofs.Looking.{if_ok_also}
 use Rattle.nc_store.specs.inner.Finding.{FindsBase, FindsRecord}
 use Rattle.nc_store.proofs.Spelling.{base_found, initial_found, last_split, none_last}

@@ -1,4 +1,3 @@
-use Rattle.std.proofs.Common.{refl}
 use Rattle.nc_journal.proofs.Looking.{if_ok_also}
 use Rattle.nc_store.specs.inner.Finding.{FindsRecord, FindsValid}
 use Rattle.nc_store.proofs.Spelling.{none_found, record_found}

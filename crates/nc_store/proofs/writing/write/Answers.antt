@@ -1,10 +1,10 @@
-use Rattle.std.proofs.Common.{◌≡◌, ◌++◌, ◌∷◌, [], ◌+◌, ◌≤◌, ◌∙◌, None, refl, sym, subst, length, arith}
-use Rattle.nc_schema.specs.Record.{record_body, record_size}
+use Rattle.std.proofs.Common.{◌++◌, ◌∷◌, [], ◌+◌, ◌∙◌, ℕ, List, None, refl, sym, subst, length}
+use Rattle.nc_schema.specs.Record.{record_body}
 use Rattle.nc_schema.proofs.RecordLemmas.{size_is}
-use Rattle.nc_journal.specs.declared.kept.Kept.{Kept}
-use Rattle.nc_journal.specs.Keeping.{KeepsBodies}
 use Rattle.nc_store.specs.Keeping.{IsSized, IsWay, area_limit, live_size}
+use Rattle.nc_journal.specs.Growing.{HasGrown, free_place, start_after}
 use Rattle.nc_store.specs.declared.ready.Way.{Way}
+use Rattle.nc_store.specs.inner.Growing.{GrowsBy}
 use Rattle.nc_store.proofs.Files.{all_one, alone_base, alone_bounded, appended_base, appended_bounded, kept_as, kept_moments, sized, small_body}
 use Rattle.nc_store.proofs.writing.write.Goals as goal
 
@@ -69,3 +69,17 @@ returns-in-Replace-clause-bounded g c = λ setup base doubt rows keeping made.
     subst (λ n. IsSized c.replace.result live (live_size c.replace.new.self) (area_limit (length setup.header) n)) (sym (size_is rows))
     (sized g.D.Disk.seen g.D.Disk.may_leave g.D.Disk.moment g.D.Disk.left_since setup.header c.args.journal.now c.replace.new.self keeping.bodies keeping.others (record_body rows ∷ []) c.replace.result (area_limit (length setup.header) (length (record_body rows))) keeping.stands
     (λ stands. alone_bounded g.D.Disk.seen g.D.Disk.may_leave g.D.Disk.moment g.D.Disk.left_since setup.header c.replace.new.self None (record_body rows) stands) keeps)
+
+pub returns-in-Append-clause-grown : goal.returns-in-Append-clause-grown
+returns-in-Append-clause-grown g c = λ file told.
+    subst (λ (w : Way). GrowsBy g.D.Disk.may_leave w c.append.result c.args.journal.now c.append.new.self) (sym c.in-Append.is)
+    (subst (λ (b : List ℕ). HasGrown g.D.Disk.may_leave c.args.journal.now c.append.new.self c.args.journal.now.start (c.args.journal.now.gate + 1 + length b))
+    c.as_slice.ensures (c.append.ensures.grown file told))
+
+pub returns-in-Replace-clause-grown : goal.returns-in-Replace-clause-grown
+returns-in-Replace-clause-grown g c = λ file told.
+    let old = c.args.journal.now in
+    subst (λ (w : Way). GrowsBy g.D.Disk.may_leave w c.replace.result old c.replace.new.self) (sym c.in-Replace.is)
+    (subst (λ (b : List ℕ). HasGrown g.D.Disk.may_leave old c.replace.new.self (start_after c.replace.result old.start (free_place old.start old.gate (length b)))
+    (free_place old.start old.gate (length b) + length b))
+    c.as_slice-in-Replace.ensures (c.replace.ensures.grown file told))

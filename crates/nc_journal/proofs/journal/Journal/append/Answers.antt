@@ -8,6 +8,7 @@ use Rattle.nc_journal.specs.Journal.{Stands, at_rest, gate_open, IsPlaced, allow
 use Rattle.nc_journal.proofs.Numbers.{length-framed, gate-push, count_within}
 use Rattle.nc_journal.proofs.Changing.{changes_made}
 use Rattle.nc_journal.proofs.Standing.{among_first, among_more, among_new, among_old, only_as, only_then, rest_of, rest_within, placed_again, stage_kept, stage_moments, stage_done, gate_kept, gate_moments, gate_within, gate_done}
+use Rattle.nc_journal.proofs.Growing.{one_within}
 use Rattle.nc_journal.proofs.journal.Journal.append.Goals as goal
 
 pub returns-in-Err-clause-changes : goal.returns-in-Err-clause-changes
@@ -156,3 +157,37 @@ returns-clause-sound g c = λ header sound file told.
     let s = sound was.0 was.1 in
     let body = c.requires.framed in
     record { bodies = s.bodies ++ body.0 ∷ []; doubt = None; stands = (returns-clause-changes g c header s.bodies s.doubt body.0 s.stands body.1 body.2).keeps }
+
+pub returns-in-Err-clause-grown : goal.returns-in-Err-clause-grown
+returns-in-Err-clause-grown g c = λ file told. record {
+  start_is = c.resolve.ensures.placed.start;
+  within = λ limit le before. c.resolve.ensures.within file told limit before;
+}
+
+pub returns-in-Err-put-clause-grown : goal.returns-in-Err-put-clause-grown
+returns-in-Err-put-clause-grown g c = λ file told. record {
+  start_is = c.resolve.ensures.placed.start;
+  within = λ limit le before.
+      one_within g.D.Disk.seen g.D.Disk.may_leave g.D.Disk.moment g.D.Disk.left_since g.met.D.Disk.seen_is_left (c.resolve.new.self.gate + 1) (length c.args.framed.now) limit c.resolve.new.self.disk c.put.new.disk
+      (omega (arith, le, c.resolve.ensures.placed.gate)) c.put.ensures.passes (c.resolve.ensures.within file told limit before);
+}
+
+pub returns-in-Err-put-2-clause-grown : goal.returns-in-Err-put-2-clause-grown
+returns-in-Err-put-2-clause-grown g c = λ file told. record {
+  start_is = c.resolve.ensures.placed.start;
+  within = λ limit le before.
+      one_within g.D.Disk.seen g.D.Disk.may_leave g.D.Disk.moment g.D.Disk.left_since g.met.D.Disk.seen_is_left c.resolve.new.self.gate 1 limit c.put.new.disk c.put-2.new.disk
+      (omega (arith, le, c.resolve.ensures.placed.gate)) c.put-2.ensures.passes
+      (one_within g.D.Disk.seen g.D.Disk.may_leave g.D.Disk.moment g.D.Disk.left_since g.met.D.Disk.seen_is_left (c.resolve.new.self.gate + 1) (length c.args.framed.now) limit c.resolve.new.self.disk c.put.new.disk
+      (omega (arith, le, c.resolve.ensures.placed.gate)) c.put.ensures.passes (c.resolve.ensures.within file told limit before));
+}
+
+pub returns-clause-grown : goal.returns-clause-grown
+returns-clause-grown g c = λ file told. record {
+  start_is = c.resolve.ensures.placed.start;
+  within = λ limit le before.
+      one_within g.D.Disk.seen g.D.Disk.may_leave g.D.Disk.moment g.D.Disk.left_since g.met.D.Disk.seen_is_left c.resolve.new.self.gate 1 limit c.put.new.disk c.put-2.new.disk
+      (omega (arith, le, c.resolve.ensures.placed.gate)) c.put-2.ensures.passes
+      (one_within g.D.Disk.seen g.D.Disk.may_leave g.D.Disk.moment g.D.Disk.left_since g.met.D.Disk.seen_is_left (c.resolve.new.self.gate + 1) (length c.args.framed.now) limit c.resolve.new.self.disk c.put.new.disk
+      (omega (arith, le, c.resolve.ensures.placed.gate)) c.put.ensures.passes (c.resolve.ensures.within file told limit before));
+}

@@ -1,5 +1,6 @@
 use Rattle.std.proofs.Common.{◌≡◌, Option, Some, None, refl, sym, arith}
 use Rattle.nc_journal.proofs.Standing.{undo_within, undo_moments, undo_kept, undo_done, stands_now, on_err}
+use Rattle.nc_journal.proofs.Growing.{undo_grows}
 use Rattle.nc_journal.proofs.journal.Journal.resolve.Goals as goal
 
 pub put-requires : goal.put-requires
@@ -37,3 +38,15 @@ pub returns-in_default-clause-moments : goal.returns-in_default-clause-moments
 returns-in_default-clause-moments g c = λ header bodies doubt stands.
     stands_now g.D.Disk.seen g.D.Disk.may_leave g.D.Disk.moment g.D.Disk.left_since g.met.D.Disk.seen_is_left g.met.D.Disk.only_now
     header c.args.self.now bodies doubt stands
+
+pub returns-in_err-put-clause-within : goal.returns-in_err-put-clause-within
+returns-in_err-put-clause-within g c = λ file told limit before.
+    let s = c.requires.1 file told in
+    undo_grows g.D.Disk.seen g.D.Disk.may_leave g.D.Disk.moment g.D.Disk.left_since g.met.D.Disk.seen_is_left
+    c.requires.0 c.args.self.now s.bodies s.doubt s.stands c.in-Some.undo c.in-Some.is c.put.new.disk c.put.ensures.passes limit before
+
+pub returns-in_ok-put-clause-within : goal.returns-in_ok-put-clause-within
+returns-in_ok-put-clause-within g c = λ file told limit before.
+    let s = c.requires.1 file told in
+    undo_grows g.D.Disk.seen g.D.Disk.may_leave g.D.Disk.moment g.D.Disk.left_since g.met.D.Disk.seen_is_left
+    c.requires.0 c.args.self.now s.bodies s.doubt s.stands c.in-Some.undo c.in-Some.is c.put.new.disk c.put.ensures.passes limit before

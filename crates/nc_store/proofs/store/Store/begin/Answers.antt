@@ -1,22 +1,24 @@
-use Rattle.std.proofs.Common.{◌≡◌, ◌∙◌, ◌∷◌, [], inl, inr, ap, ℕ, List, Contains, Option, Some, None, sym, subst}
+use Rattle.std.proofs.Common.{◌≡◌, ◌∙◌, ◌∷◌, [], inr, ap, ℕ, List, Option, Some, None, sym, subst}
 use Rattle.nc_names.specs.declared.path.Row.{Row}
 use Rattle.nc_schema.specs.Tables.{Tables}
 use Rattle.nc_outside.specs.Disks.{LeavesOnly}
 use Rattle.nc_journal.specs.Refusing.{IsRefused as IsNotRead}
 use Rattle.nc_store.specs.Keeping.{StoreLeaves}
-use Rattle.nc_store.specs.Opening.{IsRefused, IsUnread}
+use Rattle.nc_store.specs.Opening.{BeginsWith, IsRefused, IsUnread}
 use Rattle.nc_store.specs.Reopening.{Reopens, Setup}
 use Rattle.nc_store.specs.declared.fault.StoreFault.{StoreFault}
 use Rattle.nc_store.specs.inner.Finding.{FindsBase, gate_before}
-use Rattle.nc_store.proofs.Opened.{bad_at, begun_at, keeping_at, moments_at, no_base, opened_among, refused_by, unread_by}
-use Rattle.nc_store.proofs.Settling.{settled_leaves, storing}
+use Rattle.nc_store.proofs.Bounds.{storing}
+use Rattle.nc_store.proofs.Opened.{bad_at, begins_with, begun_at, keeping_at, moments_at, no_base, refused_by, unread_by}
+use Rattle.nc_store.proofs.Settling.{settled_leaves}
 use Rattle.nc_store.proofs.store.Store.begin.Goals as goal
 
 pub returns-in-Err-clause-refused : goal.returns-in-Err-clause-refused
 returns-in-Err-clause-refused g c = λ before told after told_too.
     let setup : Setup = record { header = c.args.header; tables = c.args.schema.value; initial = c.args.initial } in
     subst (λ (f : StoreFault). IsRefused setup f before after) (sym c.fault_of.ensures)
-    (refused_by setup c.in-Err.fault before after (subst (λ (h : List ℕ). IsNotRead h c.in-Err.fault before) c.as_slice.ensures (c.in-Err.ensures.refused.0 before told)))
+    (refused_by g.D.Disk.seen g.D.Disk.may_leave c.args.disk c.in-Err.disk setup c.in-Err.fault before after told told_too
+    (subst (λ (h : List ℕ). IsNotRead h c.in-Err.fault before) c.as_slice.ensures (c.in-Err.ensures.refused.0 before told)) c.in-Err.ensures.refused.1)
 
 pub returns-in-Err-clause-unread : goal.returns-in-Err-clause-unread
 returns-in-Err-clause-unread g c = λ unread file told among.
@@ -76,13 +78,14 @@ invariant_of-store g c =
     (subst (λ (o : Option (List Row)). FindsBase c.deref.result.now c.args.initial c.in-Ok.opened.1 o) c.in-Ok-Some.field-0-is c.in-Ok-Some.ensures) in
     keeping_at g.D.Disk.seen g.D.Disk.may_leave g.D.Disk.moment g.D.Disk.left_since g.met.D.Disk.seen_is_left c.as_slice.result.now setup c.as_slice.ensures c.args.disk c.in-Ok.opened.0 c.in-Ok.opened.1 c.in-Ok-Some.rows c.in-Ok.ensures.begun base c.in-Ok.ensures.tells.0
 
-pub returns-clause-among : goal.returns-clause-among
-returns-clause-among g c = λ file told among reopens.
+pub returns-clause-reads : goal.returns-clause-reads
+returns-clause-reads g c = λ file told.
     let setup : Setup = record { header = c.args.header; tables = c.args.schema.value; initial = c.args.initial } in
     let base : FindsBase setup.tables setup.initial c.in-Ok.opened.1 (Some c.in-Ok-Some.rows) = subst (λ (t : Tables). FindsBase t c.args.initial c.in-Ok.opened.1 (Some c.in-Ok-Some.rows)) c.deref.ensures
     (subst (λ (o : Option (List Row)). FindsBase c.deref.result.now c.args.initial c.in-Ok.opened.1 o) c.in-Ok-Some.field-0-is c.in-Ok-Some.ensures) in
     let begun = begun_at g.D.Disk.seen g.D.Disk.may_leave g.D.Disk.moment g.D.Disk.left_since g.met.D.Disk.seen_is_left c.as_slice.result.now setup c.as_slice.ensures c.in-Ok.opened.0 c.in-Ok.opened.1 file (c.in-Ok.ensures.begun file told) in
-    subst (Contains among) (sym c.in-Ok-copy.ensures) (opened_among setup among file c.in-Ok.opened.1 c.in-Ok-Some.rows begun.fresh begun.held base reopens)
+    subst (λ (r : List Row). BeginsWith setup r file) (sym c.in-Ok-copy.ensures)
+    (begins_with setup file c.in-Ok.opened.1 c.in-Ok-Some.rows begun.opens begun.fresh begun.held base)
 
 pub returns-clause-now : goal.returns-clause-now
 returns-clause-now g c =

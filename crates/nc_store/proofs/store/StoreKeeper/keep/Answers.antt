@@ -1,5 +1,4 @@
-use Rattle.std.proofs.Common.{◌≡◌, ◌∙◌, ◌≤◌, List, Some, None, sym, ap, subst, refl}
-use Rattle.nc_names.specs.declared.path.Row.{Row}
+use Rattle.std.proofs.Common.{◌∙◌, Some, None, ap, subst}
 use Rattle.nc_journal.specs.declared.kept.Kept.{Kept}
 use Rattle.nc_journal.specs.declared.kept.Kept.TheVariants.{Failed as HasFailed}
 use Rattle.nc_store.specs.Keeping.{KeptAs, live_size}
@@ -41,7 +40,7 @@ pub returns-in-Kept-clause-continues : goal.returns-in-Kept-clause-continues
 returns-in-Kept-clause-continues g c =
     let setup : Setup = record { header = c.self.inside.header; tables = c.self.inside.schema.value; initial = c.self.inside.initial } in
     goes_later g.D.Disk.seen g.D.Disk.may_leave g.D.Disk.moment g.D.Disk.left_since g.met.D.Disk.seen_is_left g.met.D.Disk.only_now setup c.self.inside.journal c.write.new.journal c.self.inside.base c.args.ready.rows c.self.inside.doubt None c.args.self.now c.args.ready c.requires.0 c.write.result c.self.view_is c.requires.1 c.self.invariant
-    c.write.ensures.bounded c.write.ensures.tells
+    c.write.ensures.bounded c.write.ensures.tells c.write.ensures.grown g.met.D.Disk.counts_now
 
 pub invariant_of-self-in-Nothing : goal.invariant_of-self-in-Nothing
 invariant_of-self-in-Nothing g c =
@@ -68,7 +67,7 @@ pub returns-in-Nothing-clause-continues : goal.returns-in-Nothing-clause-continu
 returns-in-Nothing-clause-continues g c =
     let setup : Setup = record { header = c.self.inside.header; tables = c.self.inside.schema.value; initial = c.self.inside.initial } in
     goes_later g.D.Disk.seen g.D.Disk.may_leave g.D.Disk.moment g.D.Disk.left_since g.met.D.Disk.seen_is_left g.met.D.Disk.only_now setup c.self.inside.journal c.write.new.journal c.self.inside.base c.self.inside.base c.self.inside.doubt None c.args.self.now c.args.ready c.requires.0 c.write.result c.self.view_is c.requires.1 c.self.invariant
-    c.write.ensures.bounded c.write.ensures.tells
+    c.write.ensures.bounded c.write.ensures.tells c.write.ensures.grown g.met.D.Disk.counts_now
 
 pub invariant_of-self-in-Earlier : goal.invariant_of-self-in-Earlier
 invariant_of-self-in-Earlier g c =
@@ -95,7 +94,7 @@ pub returns-in-Earlier-clause-continues : goal.returns-in-Earlier-clause-continu
 returns-in-Earlier-clause-continues g c =
     let setup : Setup = record { header = c.self.inside.header; tables = c.self.inside.schema.value; initial = c.self.inside.initial } in
     goes_later g.D.Disk.seen g.D.Disk.may_leave g.D.Disk.moment g.D.Disk.left_since g.met.D.Disk.seen_is_left g.met.D.Disk.only_now setup c.self.inside.journal c.write.new.journal c.self.inside.base c.self.inside.base c.self.inside.doubt c.self.inside.doubt c.args.self.now c.args.ready c.requires.0 c.write.result c.self.view_is c.requires.1 c.self.invariant
-    c.write.ensures.bounded c.write.ensures.tells
+    c.write.ensures.bounded c.write.ensures.tells c.write.ensures.grown g.met.D.Disk.counts_now
 
 pub invariant_of-self-in-This : goal.invariant_of-self-in-This
 invariant_of-self-in-This g c =
@@ -122,4 +121,4 @@ pub returns-in-This-clause-continues : goal.returns-in-This-clause-continues
 returns-in-This-clause-continues g c =
     let setup : Setup = record { header = c.self.inside.header; tables = c.self.inside.schema.value; initial = c.self.inside.initial } in
     goes_later g.D.Disk.seen g.D.Disk.may_leave g.D.Disk.moment g.D.Disk.left_since g.met.D.Disk.seen_is_left g.met.D.Disk.only_now setup c.self.inside.journal c.write.new.journal c.self.inside.base c.self.inside.base c.self.inside.doubt (Some c.args.ready.rows) c.args.self.now c.args.ready c.requires.0 c.write.result c.self.view_is c.requires.1 c.self.invariant
-    c.write.ensures.bounded c.write.ensures.tells
+    c.write.ensures.bounded c.write.ensures.tells c.write.ensures.grown g.met.D.Disk.counts_now

@@ -1,4 +1,4 @@
-use Rattle.std.proofs.Common.{◌≡◌, ◌∙◌, ap, List}
+use Rattle.std.proofs.Common.{◌∙◌, ap}
 use Rattle.nc_schema.specs.Record.{record_body}
 use Rattle.nc_store.specs.Keeping.{Storing}
 use Rattle.nc_store.proofs.Settling.{way_seen}

@@ -40,6 +40,14 @@ pub record IsPeerLine (names : List (List ℕ)) (bytes : List ℕ) : Type 0 wher
 abbrev pub BeginsNone : List ℕ → Type 0
 BeginsNone bytes = (names : List (List ℕ)) (rest : List ℕ) → IsPeerLine names (bytes ++ rest) → ⊥
 
+-- no line has ended among these bytes
+abbrev pub HasNoFeed : List ℕ → Type 0
+HasNoFeed bytes = All (λ b. b ≢ line_feed) bytes
+
+-- nor before the last of these: whoever took them took no byte past the end of a line
+abbrev pub StopsAtFeed : List ℕ → Type 0
+StopsAtFeed bytes = (front : List ℕ) (last : ℕ) → bytes ≡ front ++ last ∷ [] → HasNoFeed front
+
 -- the place at which bytes that begin no line stop to be one: the last of them, or the first that is no text
 abbrev pub bad_place : List ℕ → ℕ
 bad_place bytes = min (length bytes - 1) (utf8_valid_len bytes)

@@ -1,9 +1,9 @@
 -- A peer's line that is being read.
-use Rattle.std.specs.Prelude.{◌≡◌, ◌<◌, ◌≤◌, ℕ, Bool, true, false, List, [], ◌∷◌, ◌++◌, length, All, Option, Result, Ok, Err}
+use Rattle.std.specs.Prelude.{◌≡◌, ◌<◌, ◌≤◌, ◌+◌, ℕ, Bool, true, false, List, [], ◌∷◌, ◌++◌, length, All, Option, Result, Ok, Err}
 use Rattle.std.specs.Io.KnownBytes.{prepend_known, IsAtEnd}
 use Rattle.nc_names.specs.Counts.{Rose}
 use Rattle.std.specs.List.{flat_map}
-use Rattle.nc_peer.specs.Lines.{space, peer_limit, IsName, IsNameByte, IsPeerLine, BeginsNone, bad_place}
+use Rattle.nc_peer.specs.Lines.{space, peer_limit, IsName, IsNameByte, IsPeerLine, BeginsNone, HasNoFeed, StopsAtFeed, bad_place}
 use Rattle.nc_peer.specs.declared.fault.PeerFault.{PeerFault}
 use Rattle.nc_peer.specs.declared.fault.PeerFault.TheVariants.{BadPeer, InputEnded, ReadFault, Memory}
 
@@ -31,8 +31,8 @@ abbrev pub NamesReadAs : (bytes : List ℕ) → (left : Option (List ℕ)) → (
     Result (List (List ℕ)) PeerFault → Type 0
 NamesReadAs bytes left before now (Ok names) = IsPeerLine names bytes × (0 < length names)
 NamesReadAs bytes left before now (Err (BadPeer at)) = BeginsNone bytes × (at ≡ bad_place bytes)
-NamesReadAs bytes left before now (Err InputEnded) = IsAtEnd left
-NamesReadAs bytes left before now (Err ReadFault) = Rose before now
+NamesReadAs bytes left before now (Err InputEnded) = IsAtEnd left × HasNoFeed bytes
+NamesReadAs bytes left before now (Err ReadFault) = Rose before now × HasNoFeed bytes
 NamesReadAs bytes left before now (Err Memory) = Unit {0}
 
 -- these bytes were taken of the source, and the names come of them
@@ -40,4 +40,6 @@ pub record ReadsNames (left_before left_now : Option (List ℕ)) (before now : �
     (result : Result (List (List ℕ)) PeerFault) : Type 0 where
   pub bytes : List ℕ
   pub taken : left_before ≡ prepend_known bytes left_now
+  pub few : length bytes ≤ peer_limit + 1
+  pub stops : StopsAtFeed bytes
   pub reads : NamesReadAs bytes left_now before now result

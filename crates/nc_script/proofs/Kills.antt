@@ -1,4 +1,4 @@
--- A session that a script finds killed.
+-- A session that a script finds killed was ended by an entry that is none of its connection's own.
 use Rattle.std.proofs.Common.{◌≡◌, ℕ, true, false, List, [], ◌∷◌, ◌++◌, Option, None, Some, refl, sym, ap, subst, ◌∙◌, append-nil, append_assoc}
 use Rattle.std.specs.List.{All, Contains}
 use Rattle.std.proofs.lemmas.List.Elements.{All-append, All-cons, All-contains, All-head, All-nil, All-push, All-tail, All-weaker, Contains-append_left, Contains-append_right}
@@ -21,7 +21,6 @@ use Rattle.nc_session.specs.declared.end.SessionEnd.{SessionEnd}
 use Rattle.nc_session.specs.declared.end.SessionEnd.TheVariants.{Killed}
 use Rattle.nc_session.specs.Sessions.{is_close}
 use Rattle.nc_script.specs.Connections.{Board, Connection, GoesOn, no_connections}
-use Rattle.nc_script.specs.Laws.{KilledByAnother, WasEnded}
 use Rattle.nc_script.specs.Leaving.{IsAnsweredSo, StaysLive}
 use Rattle.nc_script.specs.Runs.{DoesAll}
 use Rattle.nc_script.specs.Steps.{AreOf, Begins, Comes, DoesTo, Ends, Greeted, HasEnded, Hears, HearsBy, Leaves, Stops, StopsDead, Unplaced, Waits, WasClosed, WasDead, WasKilled, WasOver}
@@ -29,12 +28,12 @@ use Rattle.nc_script_text.specs.declared.step.ScriptStep.{ScriptStep}
 use Rattle.nc_script_text.specs.declared.step.ScriptStep.TheVariants.{Begin, Piece, End, Reading}
 
 -- ---- lists
-all_left : {X : Type 0} (P : X → Type 0) (xs ys : List X) → All P (xs ++ ys) → All P xs
+pub all_left : {X : Type 0} (P : X → Type 0) (xs ys : List X) → All P (xs ++ ys) → All P xs
 all_left P [] ys all = All-nil P
 all_left P (x ∷ xs) ys all =
     All-cons P x xs (All-head P x (xs ++ ys) all) (all_left P xs ys (All-tail P x (xs ++ ys) all))
 
-all_right : {X : Type 0} (P : X → Type 0) (xs ys : List X) → All P (xs ++ ys) → All P ys
+pub all_right : {X : Type 0} (P : X → Type 0) (xs ys : List X) → All P (xs ++ ys) → All P ys
 all_right P [] ys all = all
 all_right P (x ∷ xs) ys all = all_right P xs ys (All-tail P x (xs ++ ys) all)
 
@@ -93,6 +92,13 @@ all_quiet first opening session past (request ∷ asked) (e ∷ answers) more le
     (All-tail StaysLive e answers live))
 
 -- ---- a connection, and the entries so far
+-- an entry that is none of the connection's own ended its session
+pub record HasEnder (entries : List Entry) (c : Connection) : Type 0 where
+  pub ender : Entry
+  pub there : Contains entries ender
+  pub ends : EndsSession c.session ender.event ender.outcome
+  pub another : ¬ Contains c.course.entries ender
+
 record Lives (past : List Entry) (c : Connection) : Type 0 where
   front : List Entry
   between : List Entry
@@ -107,7 +113,7 @@ record Lives (past : List Entry) (c : Connection) : Type 0 where
 
 record Tracked (past : List Entry) (c : Connection) : Type 0 where
   lives : c.end ≡ None → Lives past c
-  killed : c.end ≡ Some Killed → WasEnded past c
+  killed : c.end ≡ Some Killed → HasEnder past c
 
 tracked_more : (past group : List Entry) (c : Connection) → Tracked past c → Tracked (past ++ group) c
 tracked_more past group c t = record {
@@ -156,7 +162,7 @@ lives_on past group c d l same grown quiet = record {
 dies : (first : ℕ) (opening : State) (past quiet : List Entry) (last : Entry) (c d : Connection) → Lives past c
     → d.session ≡ c.session → d.course.entries ≡ c.course.entries ++ (quiet ++ last ∷ [])
     → All (Quiet c.session) quiet → IsOf c.session last.event → last.outcome ≡ NotLive
-    → IsLegal first opening (past ++ (quiet ++ last ∷ [])) → WasEnded (past ++ (quiet ++ last ∷ [])) d
+    → IsLegal first opening (past ++ (quiet ++ last ∷ [])) → HasEnder (past ++ (quiet ++ last ∷ [])) d
 dies first opening past quiet last c d l same grown all of dead legal =
     let past_is : past ++ (quiet ++ last ∷ []) ≡ l.front ++ l.start ∷ ((l.between ++ quiet) ++ last ∷ []) =
     ap (λ p. p ++ (quiet ++ last ∷ [])) l.past_is
@@ -219,7 +225,7 @@ front_of session (request ∷ asked) (e ∷ before) last are =
     let rest = front_of session asked before last (cc are) in
     (request ∷ rest.0, λ i. is i ∷ rest.1 i)
 
-of_end : (session : ℕ) (e : Entry) → e.event ≡ Ending session → IsOf session e.event
+pub of_end : (session : ℕ) (e : Entry) → e.event ≡ Ending session → IsOf session e.event
 of_end session e is = subst (IsOf session) (sym is) refl
 
 heard_tracked : (first : ℕ) (opening : State) (past : List Entry) (piece : List ℕ) (group : List Entry) (c d : Connection)
@@ -257,7 +263,7 @@ heard_tracked first opening past piece group c d legal l h = by h.ended d.end re
         record {
           lives = λ none. absurd (cc (is, none));
           killed = λ killed.
-              subst (λ g. WasEnded (past ++ g) d) (sym group_is)
+              subst (λ g. HasEnder (past ++ g) d) (sym group_is)
               (dies first opening past last.before last.last c d l same
               (h.entries_are ∙ ap (λ g. c.course.entries ++ g) group_is) quiet
               (of_requests c.session h.asked last.before last.last are) last.is here);
@@ -275,7 +281,7 @@ heard_tracked first opening past piece group c d legal l h = by h.ended d.end re
         record {
           lives = λ none. absurd (cc (is, none));
           killed = λ killed.
-              subst (λ g. WasEnded (past ++ g) d) (sym group_is)
+              subst (λ g. HasEnder (past ++ g) d) (sym group_is)
               (dies first opening past h.answers e c d l same
               (h.entries_are ∙ ap (λ g. c.course.entries ++ g) group_is) quiet (of_end c.session e event) out here);
         }
@@ -359,7 +365,9 @@ all_tracked first opening past (step ∷ script) board entries last legal (next,
     (all_tracked first opening (past ++ group) script next more last whole rest
     (step_tracked first opening past step board group next here does.does all))
 
-pub killed_by_another : KilledByAnother
-killed_by_another first opening script entries board legal does =
-    All-weaker (Tracked entries) (λ c. c.end ≡ Some Killed → WasEnded entries c) (λ c t. t.killed) board.connections
+pub has_ender : (first : ℕ) (opening : State) (script : List ScriptStep) (entries : List Entry) (board : Board)
+    → IsLegal first opening entries → DoesAll script no_connections entries board
+    → All (λ c. c.end ≡ Some Killed → HasEnder entries c) board.connections
+has_ender first opening script entries board legal does =
+    All-weaker (Tracked entries) (λ c. c.end ≡ Some Killed → HasEnder entries c) (λ c t. t.killed) board.connections
     (all_tracked first opening [] script no_connections entries board legal does (All-nil (Tracked [])))

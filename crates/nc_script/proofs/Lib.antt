@@ -10,3 +10,5 @@ mod Steppings
 mod Runnings
 mod Loads
 mod Kills
+mod LastIds
+mod Owners

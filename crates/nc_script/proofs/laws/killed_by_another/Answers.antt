@@ -1,4 +1,4 @@
-use Rattle.nc_script.proofs.Kills as lemmas
+use Rattle.nc_script.proofs.Owners as lemmas
 use Rattle.nc_script.proofs.laws.killed_by_another.Goals as goal
 
 pub returns : goal.returns

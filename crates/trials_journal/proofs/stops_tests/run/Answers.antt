@@ -1,0 +1,31 @@
+use Rattle.std.proofs.Common.{None, refl}
+use Rattle.nc_memdisk.specs.States.{told}
+use Rattle.trials_journal.proofs.stops_tests.run.Goals as goal
+
+pub add-requires-clause-sound : goal.add-requires-clause-sound
+add-requires-clause-sound c = (
+  c.args.header.now,
+  λ bytes is. record {
+    bodies = _;
+    doubt = None;
+    stands = (c.in-Ok.ensures.begun (told c.args.disk) refl).stands;
+  },
+)
+
+pub add-requires-2-clause-sound : goal.add-requires-2-clause-sound
+add-requires-2-clause-sound c = (
+  c.args.header.now,
+  c.add.ensures c.args.header.now (λ bytes is. record {
+    bodies = _;
+    doubt = None;
+    stands = (c.in-Ok.ensures.begun (told c.args.disk) refl).stands;
+  }),
+)
+
+pub swap-requires-clause-sound : goal.swap-requires-clause-sound
+swap-requires-clause-sound c =
+    c.add-2.ensures c.args.header.now (c.add.ensures c.args.header.now (λ bytes is. record {
+      bodies = _;
+      doubt = None;
+      stands = (c.in-Ok.ensures.begun (told c.args.disk) refl).stands;
+    }))

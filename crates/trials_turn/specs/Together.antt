@@ -33,6 +33,12 @@ pub record IsTogether (one other first second : ℕ) (counter : Counter) : Type 
   pub other_work : IsWork other second history theirs
   pub apart : AreApart mine theirs
 
+-- one legal history, for which the counter stands
+pub record IsAlone (counter : Counter) : Type 0 where
+  pub history : List Entry
+  pub legal : IsLegal 0 counter_home.opening history
+  pub counts : Counts counter history
+
 -- a pass of that turn that has no ticket
 pub record IsPassOf (turn : Turn Counter) (pass : Pass Counter) : Type 0 where
   pub of : IsOf (λ (x : Counter). counter_home) turn pass

@@ -1,4 +1,4 @@
-//! Two threads that enter a hundred events each.
+//! Threads that enter events, and the counter that they leave.
 use super::*;
 use std::process::Abort;
 use std::test::*;
@@ -9,5 +9,13 @@ fn two_threads_enter_a_hundred_events_each(rt: HostRuntime) -> Result<(), Fail> 
     assert_eq!(rt; it.first, 100);
     assert_eq!(rt; it.second, 100);
     assert_eq!(rt; it.counter.count, 200);
+    Ok(())
+}
+
+#[test]
+fn sixty_four_threads_enter_a_thousand_events_each(rt: HostRuntime) -> Result<(), Fail> {
+    let it = enter_by_many(&rt, rt.alloc(), 64, 1_000).ok_or("all enter")?;
+    assert_eq!(rt; it.entered, 64_000);
+    assert_eq!(rt; it.counter.count, 64_000);
     Ok(())
 }

@@ -205,7 +205,7 @@ def no_stores(table, say):
 
 
 def other_users(table, say):
-    """A store that the user of the program may not read, not write or not make, and one that another program has."""
+    """A store that the user of the program may not read, not write or not make."""
     device = Device(table.room)
     image = made(table.program, device, None, commit(10))
     as_other = {"user": 65534, "group": 65534, "extra_groups": []} if os.getuid() == 0 else {}

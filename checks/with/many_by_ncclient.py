@@ -12,6 +12,7 @@ from ncclient.xml_ import to_ele
 
 BASE = "urn:ietf:params:xml:ns:netconf:base:1.0"
 PARTIAL = "urn:ietf:params:xml:ns:netconf:partial-lock:1.0"
+ACM = "urn:ietf:params:xml:ns:yang:ietf-netconf-acm"
 DEVICE = "urn:example:device"
 counts = {True: 0, False: 0}
 
@@ -81,6 +82,19 @@ def check_confirmed_commits(one, two):
     says("it stays", name(two), "edge-4")
 
 
+def check_access(one, two):
+    rules = '<rule-list nc:operation="delete"><name>administrators</name></rule-list>'
+    config = f'<config xmlns="{BASE}"><nacm xmlns="{ACM}" xmlns:nc="{BASE}">{rules}</nacm></config>'
+    says("an edit that takes its user's rights", refusal(lambda: one.edit_config(config, target="candidate")), "ok")
+    says("its confirmed commit", refusal(lambda: one.commit(confirmed=True, timeout="1")), "ok")
+    says("an edit without rights", rename(one, "edge-5"), "access-denied")
+    says("a kill-session without rights", refusal(lambda: one.kill_session(two.session_id)), "access-denied")
+    says("what may be read", name(two), "edge-4")
+    time.sleep(1.5)
+    says("an edit once the commit was taken back", rename(one, "edge-5"), "ok")
+    says("and its end", refusal(one.discard_changes), "ok")
+
+
 def check_ends(one, two):
     says("a lock", refusal(lambda: two.lock("running")), "ok")
     says("a session that is killed", refusal(lambda: one.kill_session(two.session_id)), "ok")
@@ -96,7 +110,7 @@ def check_ends(one, two):
 def main():
     one, two = connect(), connect()
     says("sessions have numbers of their own", one.session_id != two.session_id, True)
-    for check in (check_locks, check_partial_locks, check_confirmed_commits, check_ends):
+    for check in (check_locks, check_partial_locks, check_confirmed_commits, check_access, check_ends):
         check(one, two)
     print(f"{counts[True]} passed, {counts[False]} failed")
     sys.exit(1 if counts[False] else 0)

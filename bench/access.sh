@@ -1,10 +1,30 @@
 #!/usr/bin/env bash
 # Times `nc_nacm`: what a policy of so many rules takes to read, an `Access` to make, the rows of a configuration to hide, and
-# one decision; with rules that name entries by their keys, with rules of which each gives other keys, with many groups in
-# each of many rule-lists, and with many users in each of many groups. Prints microseconds.
+# the decisions on all its rows; with rules that name entries by their keys, with rules of which each gives other keys, with
+# many groups in each of many rule-lists, and with many users in each of many groups.
 set -euo pipefail
-exec "$(dirname "$0")/program" access 'nc_names nc_schema nc_protocol nc_tree nc_nacm' <<'RT'
-//! Times access control.
+works=(
+    # rules, and entries of three rows each
+    'policy 1000 10000' 'policy 2000 10000' 'policy 10000 10000'
+    'access 1000 0' 'access 10000 0'
+    'visible 1000 10000' 'visible 10000 10000' 'visible 1000 30000'
+    'may 1000 10000' 'may 10000 10000' 'may 1000 30000'
+    'sees 1000 10000'
+    # rules that give other keys each, and entries of one row each
+    'shapes-policy 1000 0' 'shapes-policy 2000 0' 'shapes-policy 4000 0'
+    'shapes-access 1000 0' 'shapes-access 2000 0' 'shapes-access 4000 0'
+    'shapes-visible 1000 10000' 'shapes-visible 1000 30000' 'shapes-visible 4000 10000'
+    'shapes-may 1000 10000' 'shapes-may 2000 10000' 'shapes-may 4000 10000'
+    # rule-lists, and groups of each
+    'lists-policy 300 0' 'lists-policy 1000 0' 'lists-access 300 0' 'lists-access 1000 0'
+    # groups, and users of each
+    'groups-policy 300 0' 'groups-policy 1000 0' 'groups-access 300 0' 'groups-access 1000 0'
+    # as many rule-lists, each for as many groups, and groups; at last a decision without an `Access`
+    'both-access 300 0' 'both-access 1000 0' 'both-plain 100 0' 'both-plain 300 0'
+)
+exec "$(dirname "$0")/program" access 'nc_names nc_schema nc_protocol nc_tree nc_nacm' "${works[@]}" <<'RT'
+//! Times access control. A line of input has a number of turns, what is done in each, how many rules there are (or rule-lists
+//! and groups of each, or groups and users of each), and how many entries.
 #![tactic(auto)]
 
 use nc_nacm::{Access, Policy};
@@ -14,7 +34,6 @@ use nc_schema::{Case, Choice, Deny, Kind, Node, Schema};
 use nc_tree::Config;
 use std::alloc::Global;
 use std::io;
-use std::time::Instant;
 
 const CONTAINER: Kind = Kind::Container { presence: false };
 
@@ -62,31 +81,6 @@ const NODES: &[Entry] = &[
     ("j", 27, Kind::Leaf, 0, "", 9),
     ("k", 27, Kind::Leaf, 0, "", 9),
     ("l", 27, Kind::Leaf, 0, "", 9),
-];
-
-/// What is timed: its name; rules, or the size of lists and groups; ports.
-const WORKS: &[(&str, u32, u32)] = &[
-    ("policy", 1000, 15000),
-    ("policy", 10000, 15000),
-    ("access", 1000, 0),
-    ("access", 10000, 0),
-    ("visible", 1000, 15000),
-    ("visible", 10000, 15000),
-    ("may", 1000, 15000),
-    ("may", 10000, 15000),
-    ("sees", 1000, 15000),
-    ("shapes-access", 1000, 0),
-    ("shapes-access", 4000, 0),
-    ("shapes-may", 1000, 15000),
-    ("shapes-may", 4000, 15000),
-    ("lists-policy", 300, 0),
-    ("lists-policy", 1000, 0),
-    ("lists-access", 300, 0),
-    ("lists-access", 1000, 0),
-    ("groups-policy", 300, 0),
-    ("groups-policy", 1000, 0),
-    ("groups-access", 300, 0),
-    ("groups-access", 1000, 0),
 ];
 
 fn text(alloc: Global, chars: &str) -> Result<Text, Memory> {
@@ -226,6 +220,22 @@ fn put_group(rows: &mut Many<Row>, name: &str, users: u32) -> Result<(), Memory>
     Ok(())
 }
 
+// A group without the user who asks.
+fn put_other_group(rows: &mut Many<Row>, name: &str) -> Result<(), Memory> {
+    put(rows, &[(0, ""), (6, ""), (7, name)], "")?;
+    put(rows, &[(0, ""), (6, ""), (7, name), (8, "")], name)?;
+    put(rows, &[(0, ""), (6, ""), (7, name), (9, "bob")], "bob")
+}
+
+fn put_other_groups(rows: &mut Many<Row>, count: u32) -> Result<(), Memory> {
+    let alloc = rows.alloc();
+    for at in 0..count {
+        let name = format!(in alloc; "group-{at}")?;
+        put_other_group(rows, name.as_str())?;
+    }
+    Ok(())
+}
+
 fn put_list(rows: &mut Many<Row>, name: &str, groups: u32) -> Result<(), Memory> {
     let alloc = rows.alloc();
     put(rows, &[(0, ""), (10, name)], "")?;
@@ -264,7 +274,7 @@ fn put_rules(rows: &mut Many<Row>, count: u32, shapes: bool) -> Result<(), Memor
     for at in 0..count {
         let name = format!(in alloc; "p{at}")?;
         let path = if shapes {
-            path_of(alloc, at)?
+            path_of(alloc, at.wrapping_add(1))?
         } else {
             format!(in alloc; "/ex:ports/ex:port[ex:name='p{at}']")?
         };
@@ -278,6 +288,7 @@ fn put_ports(rows: &mut Many<Row>, count: u32) -> Result<(), Memory> {
     for at in 0..count {
         let name = format!(in alloc; "p{at}")?;
         put(rows, &[(22, ""), (23, name.as_str())], "")?;
+        put(rows, &[(22, ""), (23, name.as_str()), (24, "")], name.as_str())?;
         put(rows, &[(22, ""), (23, name.as_str()), (25, "")], "1500")?;
     }
     Ok(())
@@ -316,8 +327,11 @@ fn put_nacm(rows: &mut Many<Row>, kind: &str, size: u32) -> Result<(), Memory> {
             put_group(rows, name.as_str(), size)?;
         }
     }
+    if kind.starts_with("both") {
+        put_other_groups(rows, size)?;
+    }
     put_group(rows, "g", 0)?;
-    if kind.starts_with("lists") {
+    if kind.starts_with("lists") || kind.starts_with("both") {
         for at in 0..size {
             let name = format!(in alloc; "l{at}")?;
             put_list(rows, name.as_str(), size)?;
@@ -391,6 +405,22 @@ fn made_often(alloc: Global, schema: &Schema, policy: &Policy, times: u32) -> Re
     Ok(made)
 }
 
+// Whether a port is seen, without an `Access`.
+fn seen_plainly(alloc: Global, schema: &Schema, policy: &Policy, times: u32) -> Result<u64, Memory> {
+    let peer = peer(alloc)?;
+    let mut rows = Many::new(alloc);
+    put_ports(&mut rows, 1)?;
+    let mut seen: u64 = 0;
+    for _ in 0..times {
+        for row in rows.as_slice() {
+            if policy.may_see(schema, &peer, &row.path) {
+                seen = seen.wrapping_add(1);
+            }
+        }
+    }
+    Ok(seen)
+}
+
 fn once(access: &Access<'_>, alloc: Global, kind: &str, config: &Config) -> Result<u64, Memory> {
     if kind.ends_with("may") {
         return asked(access, alloc, config);
@@ -411,52 +441,60 @@ fn asked_often(
 ) -> Result<u64, Memory> {
     let peer = peer(alloc)?;
     let access = policy.access(alloc, schema, &peer)?;
-    let mut all: u64 = 0;
+    let mut found: u64 = 0;
     for _ in 0..times {
-        all = all.wrapping_add(once(&access, alloc, kind, config)?);
+        found = once(&access, alloc, kind, config)?;
     }
-    Ok(all)
+    Ok(found)
 }
 
-fn work(
-    alloc: Global,
-    schema: &Schema,
-    config: &Config,
-    kind: &str,
-    times: u32,
-) -> Result<u64, Memory> {
+fn work(alloc: Global, times: u32, kind: &str, size: u32, ports: u32) -> Result<u64, Memory> {
+    let mut schema = Schema::new(alloc);
+    fill(alloc, &mut schema)?;
+    let config = config(alloc, kind, size, ports)?;
     if kind.ends_with("policy") {
-        return read_often(alloc, schema, config, times);
+        return read_often(alloc, &schema, &config, times);
     }
-    let policy = Policy::of(alloc, schema, config)?;
+    let policy = Policy::of(alloc, &schema, &config)?;
     if kind.ends_with("access") {
-        return made_often(alloc, schema, &policy, times);
+        return made_often(alloc, &schema, &policy, times);
     }
-    asked_often(alloc, schema, &policy, config, kind, times)
+    if kind.ends_with("plain") {
+        return seen_plainly(alloc, &schema, &policy, times);
+    }
+    asked_often(alloc, &schema, &policy, &config, kind, times)
 }
 
-fn worked(alloc: Global, schema: &Schema, config: &Config, kind: &str, times: u32) -> u64 {
-    work(alloc, schema, config, kind, times).unwrap_or(0)
+fn number(words: &[&str], at: usize) -> u32 {
+    match words.get(at) {
+        Some(word) => word.parse::<u32>().unwrap_or(0),
+        None => 0,
+    }
 }
 
-fn no_memory(_: Memory) -> io::Error {
-    io::Error::from(io::ErrorKind::OutOfMemory)
+fn word<'a>(words: &[&'a str], at: usize) -> &'a str {
+    match words.get(at) {
+        Some(word) => *word,
+        None => "",
+    }
+}
+
+fn done(alloc: Global, line: &str) -> Result<u64, Memory> {
+    let mut words = Vec::new(alloc);
+    for word in line.split(' ') {
+        words.push(word)?;
+    }
+    let words = words.as_slice();
+    work(alloc, number(words, 0), word(words, 1), number(words, 2), number(words, 3))
 }
 
 fn main(rt: HostRuntime) -> io::Result<()> {
     let alloc = rt.alloc();
-    let mut schema = Schema::new(alloc);
-    fill(alloc, &mut schema).map_err(no_memory)?;
-    for (kind, size, ports) in WORKS {
-        let config = config(alloc, kind, *size, *ports).map_err(no_memory)?;
-        let start = Instant::now(&rt)?;
-        worked(alloc, &schema, &config, kind, 1);
-        let first = start.elapsed(&rt)?.as_micros();
-        let again = Instant::now(&rt)?;
-        let answer = worked(alloc, &schema, &config, kind, 11);
-        let all = again.elapsed(&rt)?.as_micros();
-        let each = all.saturating_sub(first) / 10;
-        println!(rt; "{kind} {size} {ports}: {each} us, answer {answer}")?;
+    for line in rt.lines(alloc) {
+        match done(alloc, line?.as_str()) {
+            Ok(count) => println!(rt; "{count}")?,
+            Err(_) => println!(rt; "out of memory")?,
+        }
     }
     Ok(())
 }

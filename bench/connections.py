@@ -54,6 +54,7 @@ class Server:
                 return
             except OSError:
                 time.sleep(0.01)
+        self.process.kill()
         raise SystemExit(f"the server does not listen: {self.process.stderr.read().decode().strip()}")
 
     def __enter__(self):

@@ -1,12 +1,13 @@
 #!/usr/bin/env python3
 """Times payloads of 1,000, 10,000 and 20,000 list entries, each with a key and a leaf: as the inline configuration of a
 copy-config, whose entries come in order, in reverse order, in no order, ordered by the user, and in a case of a choice;
-and as edits: a merge of all into nothing, edits of 333 of them, and a replace by entries ordered by the user.
+and as edits: a merge of all into nothing, edits of 333 of them, and a replace by entries ordered by the user. Then an entry
+with 1,000 keys, a container with 20,000 leafs, and 4,000 entries of 10,000 that are deleted one by one.
 Usage: bench/edits.py [PROGRAM [SIZE..]]
 """
 import tempfile
 
-from payloads import Timer, copy, device, edit, entries, head, kb, module, ms, row, top, words
+from payloads import BASE, Timer, copy, device, edit, entries, head, kb, module, ms, row, top, words
 
 LISTS = "".join(f"list {name} {{ key name; {more} leaf name {{ type string; }} leaf type {{ type string; }} }}\n"
                 for name, more in [("user", ""), ("rule", "ordered-by user;")])
@@ -41,6 +42,32 @@ def edits_of(count):
            [edit(top("users", entries(RULE, count, "mixed")), REPLACE)], [all_users])
 
 
+def leafs(count):
+    return "".join(f"leaf l{at} {{ type string; }}\n" for at in range(count))
+
+
+def values(count):
+    return "".join(f"<l{at}>v{at}</l{at}>" for at in range(count))
+
+
+def look_at_wide_nodes(program, room):
+    """What has many leafs, and many requests of one deletion each."""
+    named = " ".join(f"l{at}" for at in range(1_000))
+    many = device(room, {"ex": module("ex", f'list entry {{ key "{named}";\n{leafs(1_000)}}}\n')})
+    wide = device(room, {"ex": module("ex", f"container all {{\n{leafs(20_000)}}}\n")})
+    users = device(room, {"ex": MODULE})
+    gone = [edit(top("users", f'<user xmlns:nc="{BASE}" nc:operation="delete"><name>u{at + 100_000}</name></user>'))
+            for at in range(4_000)]
+    for count, name, folder, requests, before in [
+        (1_000, "edit-config, an entry with so many keys", many, [edit(top("entry", values(1_000)))], []),
+        (20_000, "edit-config, so many leafs of a container", wide, [edit(top("all", values(20_000)))], []),
+        (10_000, "4,000 of them deleted, a request each", users, gone, [edit(top("users", entries(USER, 10_000)))]),
+    ]:
+        seconds, ran = Timer(program, folder).time(requests, before=before)
+        row(f"{count:,}", name, f"{sum(map(len, requests)):,}", ms(seconds * len(requests)),
+            kb(ran.memory) + ", refused" * ran.errors)
+
+
 def main():
     program, sizes = words([1_000, 10_000, 20_000])
     head("Entries", "Request", "Octets", "Time", "Memory")
@@ -50,6 +77,7 @@ def main():
             for name, requests, before in [*rows_of(count), *edits_of(count)]:
                 seconds, ran = timer.time(requests, before=before)
                 row(f"{count:,}", name, f"{len(requests[0]):,}", ms(seconds), kb(ran.memory) + ", refused" * ran.errors)
+        look_at_wide_nodes(program, room)
 
 
 main()

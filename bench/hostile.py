@@ -2,7 +2,8 @@
 """Sends what a hostile or a careless client would, and prints what the program takes for it: messages of up to 4 MB with
 many attributes, prefixes, matches and entries, long keys, references, rules and locks; and connections that stop reading or
 say nothing, beside a session that goes on. A time is processor time of the program; memory is its peak.
-A session that takes more than half a minute of processor time is ended. A number after the program divides all sizes, for a trial.
+A session that takes more than half a minute of processor time is ended. What takes more than two seconds is told last.
+A number after the program divides all sizes, for a trial.
 Usage: bench/hostile.py [PROGRAM [DIVISOR]]
 """
 import tempfile
@@ -11,9 +12,10 @@ import time
 from connections import Server, Session, many_files
 from filters import MODULE as TAGGED, tags, triples, users
 from payloads import SPACE, Timer, device, edit, entries, get_config, head, kb, module, ms, row, top, words
-from validity import LINK, LISTS, PORT, VALIDATE
+from validity import LINK, LISTS, PORT
 
 LIMIT = 30
+PATIENCE = 2
 
 USERS = module("ex", """container users {
 list user { key name; leaf name { type string; } leaf type { type string; } }
@@ -65,20 +67,27 @@ def messages(by):
 list inner { key at; leaf at { type string; } } }
 """), None, [], [edit(f'<outer xmlns="{SPACE}"><name>{key}</name>{entries("<inner><at>u#</at></inner>", 20_000 // by)}</outer>')])
     count = 10_000 // by
-    yield (f"{count:,} leafrefs, validated", module("ex", LISTS), entries(PORT, count) + entries(LINK, count), [], [VALIDATE])
+    yield (f"a commit of {count:,} new leafrefs", module("ex", LISTS), entries(PORT, count), [],
+           [edit(entries(LINK, count)), "<commit/>"])
     count = 100_000 // by
-    yield f"`unique` over {count:,} entries, validated", module("ex", LISTS), entries(PORT, count), [], [VALIDATE]
+    yield (f"a commit of an entry beside {count:,} under `unique`", module("ex", LISTS), entries(PORT, count), [],
+           [edit(PORT.replace("#", "more")), "<commit/>"])
     yield (f"a get over {10_000 // by:,} entries under {1_000 // by:,} rules", USERS,
            access_rules(1_000 // by) + top("users", entries(USER, 10_000 // by)), [], [get_config()])
 
 
 def look_at_messages(program, room, by):
+    """The rows of the messages; the names of those that took too long."""
+    slow = []
     for name, texts, initial, before, requests in messages(by):
         timer = Timer(program, device(room, {"ex": texts}, initial))
         seconds, ran = timer.time(requests, before=before, limit=LIMIT)
         taken = f"more than {LIMIT} s" if ran.cut else ms(seconds * len(requests))
         told = "ended" if ran.cut else f"{ran.errors} refused" if ran.errors else "answered"
         row(name, f"{sum(map(len, requests)):,}", taken, kb(ran.memory), told)
+        if ran.cut or seconds * len(requests) > PATIENCE:
+            slow.append(name)
+    return slow
 
 
 def answer_time(session):
@@ -123,8 +132,9 @@ def main():
     program, chosen = words([1])
     head("What comes", "Octets", "Time", "Memory", "Answer")
     with tempfile.TemporaryDirectory() as room:
-        look_at_messages(program, room, chosen[0])
+        slow = look_at_messages(program, room, chosen[0])
         look_at_connections(program, room, chosen[0])
+    print(f"\n{len(slow)} took more than {PATIENCE} s" + "".join(f"; {name}" for name in slow))
 
 
 if __name__ == "__main__":

@@ -5,27 +5,35 @@ use Rattle.nc_script.specs.declared.output.ScriptRun.{ScriptRun}
 use Rattle.nc_program.specs.Notes.{line_end}
 use Rattle.nc_program.specs.declared.count.Found.{Found}
 
+-- what stands before each number
 unfoldable pub modules_word : List ℕ
 modules_word = codes "modules "
 
+-- .. the data nodes
 unfoldable pub nodes_word : List ℕ
 nodes_word = codes " nodes "
 
+-- .. the rows of running
 unfoldable pub rows_word : List ℕ
 rows_word = codes " rows "
 
+-- .. the records of the store
 unfoldable pub records_word : List ℕ
 records_word = codes " records "
 
+-- .. the edits that were asked for
 unfoldable pub load_word : List ℕ
 load_word = codes "load "
 
+-- .. the entries
 unfoldable pub entries_word : List ℕ
 entries_word = codes ": entries "
 
+-- .. the replies without an error
 unfoldable pub ok_word : List ℕ
 ok_word = codes " ok "
 
+-- .. the replies with one
 unfoldable pub errors_word : List ℕ
 errors_word = codes " errors "
 

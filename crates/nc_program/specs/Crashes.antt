@@ -22,6 +22,7 @@ pub record Crashing : Type 1 where
   pub ended : ℕ
   pub left_since : ℕ → List ℕ → Type 0
 
+-- the same of a disk, by what it tells before the run and after it
 abbrev pub crashing : {D : Type 0} → (seen : D → Option (List ℕ)) → (may_leave : D → List ℕ → Type 0) →
     (moment : D → ℕ) → (left_since : D → ℕ → List ℕ → Type 0) → Option (List (List Row)) → (old new : D) → Crashing
 crashing seen may_leave moment left_since held old new = record {

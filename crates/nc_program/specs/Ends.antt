@@ -64,6 +64,7 @@ script_status (ScriptSpent n) = 14
 script_status ScriptMemory = 9
 script_status (Done printed) = printed_status printed
 
+-- the exit status of each end: several share one, and 9 is that of several
 abbrev pub status_of : RunEnd → ℕ
 status_of Words = 2
 status_of Files = 13

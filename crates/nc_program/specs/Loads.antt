@@ -22,6 +22,7 @@ load_module =
     ++ codes "      leaf name { type string; }\n      leaf tag { type uint16; }\n    }\n"
     ++ codes "    leaf up { type leafref { path \"../port/name\"; } }\n  }\n}\n"
 
+-- the name of its file
 unfoldable pub load_file : List ℕ
 load_file = codes "ex.yang"
 

@@ -27,75 +27,99 @@ use Rattle.nc_program.specs.declared.end.ScriptEnd.TheVariants.{Absent, BadLine,
 unfoldable pub words_line : List ℕ
 words_line = codes "netconfd: words\n"
 
+-- status 13
 unfoldable pub files_line : List ℕ
 files_line = codes "netconfd: files failed\n"
 
+-- status 9
 unfoldable pub memory_line : List ℕ
 memory_line = codes "netconfd: memory\n"
 
+-- status 6
 unfoldable pub input_line : List ℕ
 input_line = codes "netconfd: input failed\n"
 
+-- status 7
 unfoldable pub output_line : List ℕ
 output_line = codes "netconfd: output failed\n"
 
+-- status 14
 unfoldable pub spent_line : List ℕ
 spent_line = codes "netconfd: spent\n"
 
+-- status 10: the client's hello
 unfoldable pub bad_hello_line : List ℕ
 bad_hello_line = codes "netconfd: session: BadHello\n"
 
+-- .. the byte of the session from which on it is not framed (RFC 6242 4)
 unfoldable pub bad_frame_word : List ℕ
 bad_frame_word = codes "netconfd: session: BadFrame at "
 
+-- .. the byte of the session at which a message is longer than the server reads
 unfoldable pub too_big_word : List ℕ
 too_big_word = codes "netconfd: session: TooBig at "
 
+-- .. the byte of a message that spells none
 unfoldable pub malformed_word : List ℕ
 malformed_word = codes "netconfd: session: Malformed at "
 
+-- status 3: .. the name of a module's file
 unfoldable pub modules_word : List ℕ
 modules_word = codes "netconfd: modules: "
 
+-- .. the line at which it breaks a rule
 unfoldable pub line_word : List ℕ
 line_word = codes " line "
 
+-- .. the rule
 unfoldable pub colon_word : List ℕ
 colon_word = codes ": "
 
+-- status 3: .. the line that names no feature
 unfoldable pub features_word : List ℕ
 features_word = codes "netconfd: features: line "
 
+-- status 4: .. the byte from which on it is no XML
 unfoldable pub unread_word : List ℕ
 unread_word = codes "netconfd: initial: not read at "
 
+-- status 4: .. the error-tag of what is refused
 unfoldable pub initial_word : List ℕ
 initial_word = codes "netconfd: initial: "
 
+-- status 5: .. the byte from which on the store has no reading
 unfoldable pub damaged_word : List ℕ
 damaged_word = codes "netconfd: store: damaged at "
 
+-- status 5: .. the place of the first module that differs
 unfoldable pub other_modules_word : List ℕ
 other_modules_word = codes "netconfd: store: other modules at "
 
+-- status 8
 unfoldable pub disk_line : List ℕ
 disk_line = codes "netconfd: disk failed\n"
 
+-- status 11
 unfoldable pub listener_line : List ℕ
 listener_line = codes "netconfd: listener failed\n"
 
+-- status 12: there is no such file
 unfoldable pub absent_line : List ℕ
 absent_line = codes "netconfd: script: absent\n"
 
+-- status 12: .. the line that is none
 unfoldable pub script_line_word : List ℕ
 script_line_word = codes "netconfd: script: line "
 
+-- status 12: .. the step that cannot be done
 unfoldable pub script_step_word : List ℕ
 script_step_word = codes "netconfd: script: step "
 
+-- between two parts of a line
 unfoldable pub space_word : List ℕ
 space_word = codes " "
 
+-- the end of each line
 unfoldable pub line_end : List ℕ
 line_end = codes "\n"
 
@@ -126,6 +150,7 @@ path_part (Some path) = space_word ++ (path ++ line_end)
 abbrev pub why_part : ModuleWhy → List ℕ
 why_part why = colon_word ++ (why_word why ++ line_end)
 
+-- a rule that a module breaks, at a line of its file
 abbrev pub module_line : List ℕ → ℕ → ModuleWhy → List ℕ
 module_line file line why = modules_word ++ (file ++ (line_word ++ (decimal line ++ why_part why)))
 
@@ -133,6 +158,7 @@ module_line file line why = modules_word ++ (file ++ (line_word ++ (decimal line
 abbrev pub invalid_line : CauseKind → Option (List ℕ) → List ℕ
 invalid_line kind path = initial_word ++ ((error_row kind).tag ++ path_part path)
 
+-- why the folder makes no server
 abbrev pub setup_line : SetupFault → List ℕ
 setup_line (Module file line why) = module_line file line why
 setup_line (Feature line) = number_line features_word line
@@ -140,6 +166,7 @@ setup_line (Unread at) = number_line unread_word at
 setup_line (Invalid kind path) = invalid_line kind path
 setup_line SetupMemory = memory_line
 
+-- how a session ended; nothing where it was closed, or its input ended
 abbrev pub session_line : SessionEnd → List ℕ
 session_line Closed = []
 session_line InputEnded = []
@@ -154,20 +181,24 @@ session_line (TooBig at) = number_line too_big_word at
 session_line (Malformed at why) = number_line malformed_word at
 session_line (Spent ticket) = spent_line
 
+-- why the store is not opened
 abbrev pub store_line : StoreFault → List ℕ
 store_line (Damaged at) = number_line damaged_word at
 store_line (OtherModules place) = number_line other_modules_word place
 store_line DiskFault = disk_line
 store_line StoreMemory = memory_line
 
+-- how serving ended
 abbrev pub serve_line : ServeEnd → List ℕ
 serve_line NoMore = []
 serve_line (ListenFault in_a_row) = listener_line
 
+-- whether all was written to standard output
 abbrev pub printed_line : Printed → List ℕ
 printed_line IsPart = output_line
 printed_line IsWhole = []
 
+-- what a script came to
 abbrev pub script_line : ScriptEnd → List ℕ
 script_line Absent = absent_line
 script_line (BadLine line) = number_line script_line_word line
@@ -193,6 +224,7 @@ pub record Told : Type 0 where
   pub taken : Option (List ℕ)
   pub failed : ℕ
 
+-- that, of what is seen
 abbrev pub told : Option (List ℕ) → ℕ → Told
 told taken failed = record { taken = taken; failed = failed }
 

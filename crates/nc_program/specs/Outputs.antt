@@ -7,6 +7,7 @@ use Rattle.nc_session.specs.declared.end.SessionEnd.{SessionEnd}
 use Rattle.nc_session.specs.declared.end.SessionEnd.TheVariants.{Closed, InputEnded, BadHello, BadFrame, Malformed, TooBig, Killed, ReadFault, WriteFault, Full, Spent, Memory}
 use Rattle.nc_program.specs.Notes.{line_end, space_word}
 
+-- what each connection's line begins with
 unfoldable pub output_word : List ℕ
 output_word = codes "== "
 
@@ -30,6 +31,7 @@ end_word (Some Memory) = codes "Memory"
 abbrev pub number_part : ℕ → List ℕ
 number_part connection = output_word ++ (decimal connection ++ space_word)
 
+-- how its session ended, and how many bytes follow
 abbrev pub end_part : Option SessionEnd → ℕ → List ℕ
 end_part end count = end_word end ++ (space_word ++ decimal count)
 
@@ -37,6 +39,7 @@ end_part end count = end_word end ++ (space_word ++ decimal count)
 abbrev pub told_part : List ℕ → List ℕ
 told_part bytes = line_end ++ (bytes ++ line_end)
 
+-- what one connection was told, after its line
 abbrev pub output_text : Output → List ℕ
 output_text output =
     number_part output.connection ++ (end_part output.end (length output.bytes) ++ told_part output.bytes)

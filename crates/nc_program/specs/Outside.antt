@@ -9,6 +9,7 @@ pub record Filing : Type 0 where
   pub files : Option (List NamedFile)
   pub failed : ℕ
 
+-- that, of what is seen
 abbrev pub filing : Option (List NamedFile) → ℕ → Filing
 filing files failed = record { files = files; failed = failed }
 
@@ -17,6 +18,7 @@ pub record Stored : Type 0 where
   pub seen : Option (List ℕ)
   pub failed : ℕ
 
+-- that, of what is seen
 abbrev pub stored : Option (List ℕ) → ℕ → Stored
 stored seen failed = record { seen = seen; failed = failed }
 
@@ -25,6 +27,7 @@ pub record Times : Type 0 where
   pub given : Option (List ℕ)
   pub answers : ℕ
 
+-- that, of what is seen
 abbrev pub times : Option (List ℕ) → ℕ → Times
 times given answers = record { given = given; answers = answers }
 
@@ -33,6 +36,7 @@ pub record Listening : Type 0 where
   pub failed : ℕ
   pub over : Bool
 
+-- that, of what is seen
 abbrev pub listening : ℕ → Bool → Listening
 listening failed over = record { failed = failed; over = over }
 
@@ -41,6 +45,7 @@ pub record Making : Type 0 where
   pub refusals : ℕ
   pub last : Option (List ℕ)
 
+-- that, of what is seen
 abbrev pub making : ℕ → Option (List ℕ) → Making
 making refusals last = record { refusals = refusals; last = last }
 
@@ -54,6 +59,7 @@ pub record Ground : Type 0 where
   pub disk : Stored
   pub maker : Making
 
+-- that, of its parts
 abbrev pub ground : Filing → Stored → Making → Ground
 ground files disk maker = record { files = files; disk = disk; maker = maker }
 
@@ -66,6 +72,7 @@ pub record Outside : Type 0 where
   pub listener : Listening
   pub maker : Making
 
+-- that, of its parts
 abbrev pub outside : Filing → Stored → Streams → Times → Listening → Making → Outside
 outside files disk streams times listener maker = record {
   files = files;

@@ -18,6 +18,7 @@ pub record Sitting : Type 0 where
   pub streams : Streams
   pub times : Times
 
+-- that, of its parts
 abbrev pub sitting : Streams → Times → Sitting
 sitting streams times = record { streams = streams; times = times }
 

@@ -19,9 +19,11 @@ pub data Task : Type 0 where
   -- the script of a load test with so many edits
   Load : (edits : ℕ) → Task
 
+-- `-`
 abbrev pub hyphen : ℕ
 hyphen = 45
 
+-- a flag: no other word begins so
 abbrev pub begins_with_hyphen : List ℕ → Bool
 begins_with_hyphen [] = false
 begins_with_hyphen (c ∷ cs) = c == hyphen
@@ -40,9 +42,11 @@ is_unknown_flag word = begins_with_hyphen word && not (is_recovery word)
 abbrev pub arguments : List (List ℕ) → List (List ℕ)
 arguments words = filter (λ word. not (is_recovery word)) words
 
+-- how often the flag stands there
 abbrev pub count_recovery : List (List ℕ) → ℕ
 count_recovery words = length (filter is_recovery words)
 
+-- once, where it is asked for
 abbrev pub zero_or_one : Bool → ℕ
 zero_or_one b = if b then 1 else 0
 

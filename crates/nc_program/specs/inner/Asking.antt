@@ -7,9 +7,11 @@ use Rattle.nc_program.specs.declared.words.Command.TheVariants.{Folder, Load, St
 use Rattle.nc_program.specs.declared.words.Work.{Work}
 use Rattle.nc_program.specs.declared.words.Work.TheVariants.{Check, Script, Serve}
 
+-- they ask for no session on standard input and output
 abbrev pub IsNoStdio : List (List ℕ) → Type 0
 IsNoStdio words = (folder : List ℕ) (peer : Peer) → ¬ IsStdio words folder peer
 
+-- they ask for no load test
 abbrev pub IsNoLoad : List (List ℕ) → Type 0
 IsNoLoad words = (edits : ℕ) → ¬ IsLoad words edits
 
@@ -19,11 +21,13 @@ pub record IsNoFolder (words : List (List ℕ)) : Type 0 where
   pub script : (folder file : List ℕ) → ¬ IsScript words folder file
   pub serve : (folder address : List ℕ) → ¬ IsServe words folder address
 
+-- they ask for this work, done with a folder
 abbrev pub AsksIn : List (List ℕ) → List ℕ → Work → Type 0
 AsksIn words folder Check = IsCheck words folder
 AsksIn words folder (Script file) = IsScript words folder file.now
 AsksIn words folder (Serve address) = IsServe words folder address.now
 
+-- they ask for this command, or are none
 abbrev pub AsksFor : List (List ℕ) → Option Command → Type 0
 AsksFor words None = HasNoReading words
 AsksFor words (Some (Stdio it)) = IsStdio words it.folder.now (record {

@@ -30,6 +30,7 @@ Reads found (Err (BadLine line)) = (text : List ℕ) × (found ≡ Some text) ×
 Reads found (Err Memory) = Unit {0}
 Reads found (Err end) = ⊥
 
+-- the end by which a fault of a script is told
 abbrev pub Tells : ScriptFault → ScriptEnd → Type 0
 Tells (StepIsBad n) end = end ≡ BadStep n
 Tells (IsSpent n) end = end ≡ Spent n

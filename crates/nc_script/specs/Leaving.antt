@@ -15,6 +15,7 @@ IsAnsweredSo closed closes outcome = ⊥
 abbrev pub StaysLive : Entry → Type 0
 StaysLive e = IsAnsweredSo false (is_close e.event) e.outcome
 
+-- an answer closes it: that to a close-session that is done
 abbrev pub Closes : Entry → Type 0
 Closes e = IsAnsweredSo true (is_close e.event) e.outcome
 

@@ -12,24 +12,30 @@ client_hello =
     codes "<hello xmlns=\"urn:ietf:params:xml:ns:netconf:base:1.0\"><capabilities>"
     ++ codes "<capability>urn:ietf:params:netconf:base:1.0</capability></capabilities></hello>]]>]]>"
 
+-- a commit (RFC 6241 8.3.4.1)
 unfoldable pub commit_text : List ℕ
 commit_text = codes "<rpc xmlns=\"urn:ietf:params:xml:ns:netconf:base:1.0\" message-id=\"1\"><commit/></rpc>]]>]]>"
 
+-- a close-session (RFC 6241 7.8)
 unfoldable pub close_text : List ℕ
 close_text =
     codes "<rpc xmlns=\"urn:ietf:params:xml:ns:netconf:base:1.0\" message-id=\"1\"><close-session/></rpc>]]>]]>"
 
+-- an edit-config up to the number of its port
 unfoldable pub edit_head : List ℕ
 edit_head =
     codes "<rpc xmlns=\"urn:ietf:params:xml:ns:netconf:base:1.0\" message-id=\"1\"><edit-config>"
     ++ codes "<target><candidate/></target><config><top xmlns=\"urn:ex\"><port><name>p"
 
+-- from there to its tag
 unfoldable pub edit_middle : List ℕ
 edit_middle = codes "</name><tag>"
 
+-- from there to its end
 unfoldable pub edit_tail : List ℕ
 edit_tail = codes "</tag></port></top></config></edit-config></rpc>]]>]]>"
 
+-- the user of its sessions
 unfoldable pub load_user : List ℕ
 load_user = codes "load"
 
@@ -56,9 +62,11 @@ abbrev pub load_turns : ℕ → List ScriptStep
 load_turns zero = []
 load_turns (suc turn) = load_turns turn ++ load_turn turn
 
+-- four connections begin and greet
 abbrev pub begin_steps : List ScriptStep
 begin_steps = greeting 1 ++ (greeting 2 ++ (greeting 3 ++ greeting 4))
 
+-- a last commit, and each session is closed
 abbrev pub close_steps : List ScriptStep
 close_steps =
     Piece 1 commit_text ∷ Piece 1 close_text ∷ Piece 2 close_text ∷ Piece 3 close_text ∷ Piece 4 close_text ∷ []

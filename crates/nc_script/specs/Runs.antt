@@ -32,10 +32,12 @@ abbrev pub is_refusal : Verdict → Bool
 is_refusal (Refused causes) = true
 is_refusal verdict = false
 
+-- an answer without an error
 abbrev pub is_reply : Outcome → Bool
 is_reply (Answered verdict reply) = not (is_refusal verdict)
 is_reply outcome = false
 
+-- an answer with errors
 abbrev pub is_error : Outcome → Bool
 is_error (Answered verdict reply) = is_refusal verdict
 is_error outcome = false

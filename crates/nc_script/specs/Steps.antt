@@ -89,6 +89,7 @@ pub data Leaves (session : ℕ) : Option SessionEnd → List Entry → Option Se
   WasKilled : (e : Entry) → e.event ≡ Ending session → e.outcome ≡ NotLive
       → Leaves session None (e ∷ []) (Some Killed)
 
+-- a connection is over, and its session has left
 pub record Ends (group : List Entry) (old new : Connection) : Type 0 where
   pub leaves : Leaves old.session old.end group new.end
   pub new_is : new ≡ record old {
@@ -112,6 +113,7 @@ pub record Reads (group : List Entry) : Type 0 where
 
 -- ---- steps
 
+-- what each step enters, and what it makes of the connections
 abbrev pub DoesTo : ScriptStep → Board → List Entry → Board → Type 0
 DoesTo (Begin number peer) board group next =
     IsNew number board.connections × ((c : Connection) × Begins number peer group c

@@ -22,6 +22,7 @@ use Rattle.nc_script_text.specs.declared.step.ScriptStep.{ScriptStep}
 use Rattle.nc_script.specs.declared.talks.Talks.{Talks}
 use Rattle.nc_script.specs.declared.tally.Tally.{Tally}
 
+-- the numbers of connections, in the order in which they began
 abbrev pub numbers : List Connection → List ℕ
 numbers connections = map (λ c. c.number) connections
 
@@ -34,6 +35,7 @@ pub record StandsAt (numbers : List ℕ) (number place : ℕ) : Type 0 where
   pub before : All (λ n. n ≢ number) front
   pub after : All (λ n. n ≢ number) behind
 
+-- where a number stands, or that it stands nowhere
 abbrev pub IsPlace : List ℕ → ℕ → Option ℕ → Type 0
 IsPlace numbers number None = All (λ n. n ≢ number) numbers
 IsPlace numbers number (Some place) = StandsAt numbers number place

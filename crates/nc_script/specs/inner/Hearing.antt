@@ -116,11 +116,13 @@ Stopping words session at stop old new (Ok end) =
     × (((e.outcome ≡ Ended) × (end ≡ stop)) ⊎ ((e.outcome ≡ NotLive) × (end ≡ Killed)))
 Stopping words session at stop old new (Err fault) = Breaks words at old new fault []
 
+-- a turn in which a request was answered
 abbrev pub turn_of : Result (Option SessionEnd) StepFault → Result Turn StepFault
 turn_of (Ok None) = Ok Answered
 turn_of (Ok (Some end)) = Ok (Over end)
 turn_of (Err fault) = Err fault
 
+-- a turn in which the session ended
 abbrev pub over_of : Result SessionEnd StepFault → Result Turn StepFault
 over_of (Ok end) = Ok (Over end)
 over_of (Err fault) = Err fault
@@ -159,6 +161,7 @@ pub record Heard {K : Type 0} (words : Lasting K) (schema : Tables) (session at 
   pub comes : Comes session (further course base asked (answers ++ ended)) answers ended end
   pub lives : LivesIf end schema session core text (further course base asked (answers ++ ended))
 
+-- what a session makes of a piece: it has heard, or a step of it broke off
 abbrev pub Listens : {K : Type 0} → Lasting K → Tables → ℕ → ℕ → Course → Serving K → Serving K → Core → List ℕ
     → Tally → Tally → Result (Option SessionEnd) StepFault → Type 0
 Listens words schema session at course old new core text told tells (Ok end) =

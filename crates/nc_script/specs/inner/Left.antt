@@ -12,6 +12,7 @@ use Rattle.nc_script.specs.Leaving.{Closes, StaysLive}
 use Rattle.nc_script.specs.declared.leaving.Left.{Left}
 use Rattle.nc_script.specs.declared.leaving.Left.TheVariants.{Live, Closed, Dead}
 
+-- live, closed, or found dead
 abbrev pub IsLeft : Entry → Left → Type 0
 IsLeft e Live = StaysLive e × IsAnswered e.outcome
 IsLeft e Closed = Closes e × IsAnswered e.outcome

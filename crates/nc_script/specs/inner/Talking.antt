@@ -44,6 +44,7 @@ pub record Stands (schema : Tables) (talk : Talk) (c : Connection) : Type 0 wher
 
 -- ---- a connection begins
 
+-- the state in which a connection begins, by what its Start came to
 abbrev pub Placed : Outcome → State → Type 0
 Placed (Started number) (Live session core) = (session ≡ number) × ((base : Base) → IsAt core base [] [])
 Placed (Started number) (Over end) = ⊥
@@ -52,6 +53,7 @@ Placed (IsFull live last) (Over end) = end ≡ Full live last
 Placed outcome (Live session core) = ⊥
 Placed outcome (Over end) = end ≡ EndMemory
 
+-- what it is told first: the hello, or nothing where there is no place
 abbrev pub Greets : Tables → State → Result (List ℕ) StepFault → Type 0
 Greets schema (Live session core) (Ok text) = text ≡ hello_text schema.modules session
 Greets schema (Over end) (Ok text) = text ≡ []
@@ -76,6 +78,7 @@ abbrev pub IsNoneIf : StepFault → List Entry → Type 0
 IsNoneIf Spent part = part ≡ []
 IsNoneIf fault part = Unit {0}
 
+-- it begins, or its beginning broke off
 abbrev pub BeginsAt : {K : Type 0} → Lasting K → ℕ → Peer → ℕ → Serving K → Serving K → Result Talk StepFault → Type 0
 BeginsAt words number peer at old new (Ok talk) = HasBegun words number peer at old new talk
 BeginsAt words number peer at old new (Err fault) =
@@ -109,12 +112,14 @@ pub record HeardPart {K : Type 0} (words : Lasting K) (piece : List ℕ) (at : �
   pub at_is : All (λ e. e.at ≡ at) part
   pub breaks : Breaks words at old new fault part
 
+-- a session in a state hears a piece, or broke off
 abbrev pub HearsIn : {K : Type 0} → Lasting K → Tables → List ℕ → ℕ → Connection → Serving K → Serving K → List ℕ
     → Tally → Tally → Result State StepFault → Type 0
 HearsIn words schema piece at c old new text told tells (Ok state) =
     HasHeardAs words schema piece at c old new told tells (λ next. IsIn schema state text next)
 HearsIn words schema piece at c old new text told tells (Err fault) = HeardPart words piece at c old new fault
 
+-- a connection hears a piece, or broke off
 abbrev pub HasHeard : {K : Type 0} → Lasting K → Tables → List ℕ → ℕ → Connection → Serving K → Serving K → Talk
     → Tally → Tally → Result (Unit {0}) StepFault → Type 0
 HasHeard words schema piece at c old new talk told tells (Ok u) =
@@ -133,6 +138,7 @@ LeavesIn words at old new (Over end) (Ok other) = (other ≡ end) × (new ≡ ol
 LeavesIn words at old new (Live session core) (Err fault) = Breaks words at old new fault []
 LeavesIn words at old new (Over end) (Err fault) = ⊥
 
+-- a connection is over, and is kept so
 pub record HasLeftAs {K : Type 0} (words : Lasting K) (schema : Tables) (at : ℕ) (c : Connection)
     (old new : Serving K) (talk : Talk) : Type 0 where
   pub next : Connection
@@ -143,6 +149,7 @@ pub record HasLeftAs {K : Type 0} (words : Lasting K) (schema : Tables) (at : �
   pub unanswered : All (λ e. (is_reply e.outcome ≡ false) × (is_error e.outcome ≡ false)) group
   pub kept : Stands schema talk next
 
+-- the same, or its End could not be entered
 abbrev pub HasLeft : {K : Type 0} → Lasting K → Tables → ℕ → Connection → Serving K → Serving K → Talk
     → Result (Unit {0}) StepFault → Type 0
 HasLeft words schema at c old new talk (Ok u) = HasLeftAs words schema at c old new talk

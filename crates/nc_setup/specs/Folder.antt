@@ -10,12 +10,15 @@ use Rattle.nc_outside.specs.declared.files.NamedFile.{NamedFile}
 use Rattle.nc_yang_texts.specs.declared.text.ModuleText.{ModuleText}
 use Rattle.nc_setup.specs.declared.folder.Contents.{Contents}
 
+-- where the texts of the modules are, in the folder of a device
 unfoldable pub modules_word : List ℕ
 modules_word = codes "/modules"
 
+-- the file of the features that are on
 unfoldable pub features_word : List ℕ
 features_word = codes "/features.txt"
 
+-- the file of the initial configuration
 unfoldable pub initial_word : List ℕ
 initial_word = codes "/initial.xml"
 
@@ -38,6 +41,7 @@ pub record HoldsModules (files : List NamedFile) (folder : List ℕ) (texts : Li
   pub in_order : IsSorted (slice_cmp nat_cmp) names
   pub are : texts ≡ map (text_in files (folder ++ modules_word)) names
 
+-- what ends a line
 abbrev pub line_feed : ℕ
 line_feed = 10
 

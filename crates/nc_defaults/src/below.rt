@@ -26,7 +26,8 @@ fn parent_of(schema: &Schema, number: u32) -> Option<u32>
 }
 
 fn stands_in(parent: Option<u32>, spot: &Spot<'_>) -> bool
-    ensures { (rows : List Row) → result ≡ uses.stands_in parent (place_here rows spot.now.steps spot.now.here) }
+    ensures { (rows : List Row) → result ≡ uses.stands_in parent
+        (place_here rows spot.now.steps spot.now.here) }
 {
     is_same_number(parent, node_there(spot.steps.as_slice()))
 }
@@ -57,7 +58,8 @@ fn values_at<'a>(
     Ok(Many::new(alloc))
 }
 
-/// Adds the values in use in an instance of a data node, whose number is `number - 1`, and in all places below it.
+/// Adds the values in use in an instance of a data node, whose number is `number - 1`, and in all places
+/// below it.
 #[cycle(values)]
 fn add_values<'a>(
     out: &mut Many<&'a Text>,
@@ -147,8 +149,10 @@ fn add_parts<'a>(
     requires known { child.0 < length children.now.nodes }
     requires few { child.0 + 1 < 2 ^ 32 }
     ensures { OnOk result (texts out.new ≡ texts out.old ++ values_among children.now leaf
-        (places_with children.now (place_here config.now spot.now.steps spot.now.here) child.entry.0 child.entry.1.now
-        (places.place_parts (place_here config.now spot.now.steps spot.now.here) child.entry.0 child.entry.1.now.kind))) }
+        (places_with children.now (place_here config.now spot.now.steps spot.now.here) child.entry.0
+        child.entry.1.now
+        (places.place_parts (place_here config.now spot.now.steps spot.now.here) child.entry.0
+        child.entry.1.now.kind))) }
 {
     let alloc = out.alloc();
     let schema = children.schema();
@@ -189,8 +193,8 @@ fn add_parts<'a>(
     Ok(())
 }
 
-/// The values in use of a leaf or leaf-list in a place and all below it (RFC 7950 7.6.1, 7.7.2). It goes from one place
-/// to the next and keeps the steps to the one in which it is.
+/// The values in use of a leaf or leaf-list in a place and all below it (RFC 7950 7.6.1, 7.7.2). It goes from
+/// one place to the next and keeps the steps to the one in which it is.
 pub fn values_below<'a>(
     alloc: Global,
     children: &Children<'a>,

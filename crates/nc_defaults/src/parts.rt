@@ -87,7 +87,8 @@ pub fn count_parts(config: &Listed, depth: usize, from: u64, to: u64, number: u3
     count
 }
 
-/// How many instances of a data node there are in a place, counted until there are enough: it looks no further then.
+/// How many instances of a data node there are in a place, counted until there are enough: it looks no
+/// further then.
 pub fn count_up_to(
     config: &Listed,
     depth: usize,

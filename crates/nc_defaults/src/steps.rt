@@ -6,8 +6,8 @@ use nc_tree::Listed;
 use std::alloc::Global;
 use std::marker::Model;
 
-/// Steps that contracts see as the list of them. Where they are the first steps of a row's path they are those of
-/// the row and take no memory.
+/// Steps that contracts see as the list of them. Where they are the first steps of a row's path they are
+/// those of the row and take no memory.
 #[derive(Debug, Drop)]
 pub struct Steps<'a> {
     own: Option<Many<Step>>,

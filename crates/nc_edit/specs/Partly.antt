@@ -10,7 +10,8 @@ use Rattle.nc_protocol.specs.declared.asked.ErrorOption.{ErrorOption}
 use Rattle.nc_protocol.specs.declared.asked.ErrorOption.TheVariants.{Rollback}
 use Rattle.nc_protocol.specs.declared.edit.Edit.{Edit}
 
--- the rows that the first edits leave, however many these are; and where a refusal is to undo all, the rows at the start
+-- the rows that the first edits leave, however many these are; and where a refusal is to undo all, the rows at the
+-- start
 abbrev pub LeavesPart : Tables → (Path → Right → Decision) → ErrorOption → List Row → List Edit → List Row → Type 0
 LeavesPart tables rights Rollback before edits now = now ≡ before
 LeavesPart tables rights on_error before edits now =

@@ -22,8 +22,8 @@ fn any_hidden<S: Sees>(sees: &S, causes: &[Cause]) -> bool
     causes.iter().any(|cause| is_hidden(sees, &cause.path))
 }
 
-/// Whether a verdict is a refusal with a path that the session does not see. For every other verdict the reply is the
-/// same whatever the request names.
+/// Whether a verdict is a refusal with a path that the session does not see. For every other verdict the
+/// reply is the same whatever the request names.
 pub fn hides_path<S: Sees>(sees: &S, verdict: &Verdict) -> bool
     ensures { result ≡ meant.hides_path (S.seen sees.now) verdict.now }
 {

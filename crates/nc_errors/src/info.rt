@@ -238,7 +238,8 @@ fn push_cause(alloc: Global, texts: &[Text], parts: &mut Many<Part>) -> Result<(
 // What stands in error-info.
 fn inner(alloc: Global, kind: CauseKind, names: &Many<Text>) -> Result<Many<Part>, Memory>
     ensures { IfOk result (λ it. it
-        ≡ map reply.info_part (rows.standard_info kind names.now) ++ reply.cause_parts (rows.own_info kind names.now)) }
+        ≡ map reply.info_part (rows.standard_info kind names.now)
+        ++ reply.cause_parts (rows.own_info kind names.now)) }
 {
     let mut parts = Many::new(alloc);
     push_standard(alloc, kind, names, &mut parts)?;

@@ -1,6 +1,6 @@
 //! The rows that a filter may keep, found by one of its content matches before the rest is looked at: of a
-//! filter that asks for one entry by its key few rows are left (RFC 6241 6.2.5). Where the content match is met
-//! in one instance, they are looked up in the tree.
+//! filter that asks for one entry by its key few rows are left (RFC 6241 6.2.5). Where the content match is
+//! met in one instance, they are looked up in the tree.
 ghost use Rattle.std.specs.Prelude.{◌≡◌, ◌∷◌, [], true, false, List, None, IfOk, IfSome, map, option_map};
 ghost use Rattle.std.specs.List.{filter, last_or};
 ghost use Rattle.std.specs.Option.{option_map_or};
@@ -299,8 +299,8 @@ fn lone<'a>(
     Ok(Some(top))
 }
 
-// The rows of a configuration that are met: those of the one instance, where there is one, and else those that
-// are found by a look at each.
+// The rows of a configuration that are met: those of the one instance, where there is one, and else those
+// that are found by a look at each.
 #[tactic(auto, using(crate::proofs::LoneLemmas::lone_rows))]
 fn met_by<'a>(
     alloc: Global,

@@ -26,9 +26,11 @@ lasting doubt moment leaves continues = record {
 
 -- whatever a crash now leaves, the next start begins with the base or with what is in doubt
 abbrev pub LeavesStanding : {K : Type 0} → (K → List Row) → Lasting K → K → Type 0
-LeavesStanding base words keeper = words.leaves keeper (words.moment keeper) (standing (base keeper) (words.doubt keeper))
+LeavesStanding base words keeper =
+    words.leaves keeper (words.moment keeper) (standing (base keeper) (words.doubt keeper))
 
--- the base after an event, by whether the event reached the disk and whether that failed, where the rows were to be kept
+-- the base after an event, by whether the event reached the disk and whether that failed, where the rows were to be
+-- kept
 abbrev pub base_after : Bool → Bool → List Row → List Row → List Row
 base_after true false rows before = rows
 base_after reaches failed rows before = before

@@ -131,8 +131,8 @@ impl Server {
         done_unless(self.alloc(), refusal, Change::Revert)
     }
 
-    /// What a confirmed commit comes to that nothing stands against. What is to be running is made before anything
-    /// is changed.
+    /// What a confirmed commit comes to that nothing stands against. What is to be running is made before
+    /// anything is changed.
     pub(crate) fn confirmed_course(
         &self,
         timeout: u32,

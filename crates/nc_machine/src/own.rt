@@ -34,7 +34,8 @@ impl Named for Own {
 
 // What a request names. Its payload is read again for it.
 fn named(alloc: Global, schema: &Schema, asked: &Result<Asked, Cause>) -> Result<Own, Memory>
-    ensures { IfOk result (λ it. (path : Path) → own_names it path ≡ reply.named_by schema.now asked.now path) }
+    ensures { IfOk result (λ it. (path : Path) → own_names it path
+        ≡ reply.named_by schema.now asked.now path) }
 {
     match asked {
         Ok(asked) => Ok(Own {
@@ -61,9 +62,9 @@ fn unnamed<S: Sees>(
     reply_naming(alloc, schema, request, verdict, sees, &none)
 }
 
-/// The reply to a request with its verdict, for a session that sees what `sees` says. A path stands in it where the
-/// session sees the path or the request's payload names it; the payload is looked at only where that decides. Want of
-/// memory alone is an error.
+/// The reply to a request with its verdict, for a session that sees what `sees` says. A path stands in it
+/// where the session sees the path or the request's payload names it; the payload is looked at only where
+/// that decides. Want of memory alone is an error.
 pub(crate) fn reply<S: Sees>(
     alloc: Global,
     schema: &Arc<Schema, Global>,

@@ -14,6 +14,7 @@ OneTree = (bytes : List ℕ) (a b : Tree) → SpellsTree bytes a → SpellsTree 
 abbrev pub NoTreeAtFault : Type 0
 NoTreeAtFault = (bytes : List ℕ) (at : ℕ) (why : Why) (tree : Tree) → IsFault bytes at why → SpellsTree bytes tree → ⊥
 
--- what is written of a tree is read back: the same names, attributes and parts, empty text dropped and adjacent text joined
+-- what is written of a tree is read back: the same names, attributes and parts, empty text dropped and adjacent text
+-- joined
 abbrev pub WrittenIsRead : Type 0
 WrittenIsRead = (tree : Tree) → IsProperTree tree → SpellsTree (written tree) (read_back tree)

@@ -25,7 +25,8 @@ use Rattle.nc_message.specs.Written.{is_declarable, uses}
 
 -- the default namespace that a start tag declares: its element's, where it is another one than above and not empty
 abbrev pub own_default : (above space : List ℕ) → List Bound
-own_default above space = if bytes_eq above space then [] else (if is_empty space then [] else record { prefix = []; space = space } ∷ [])
+own_default above space =
+    if bytes_eq above space then [] else (if is_empty space then [] else record { prefix = []; space = space } ∷ [])
 
 abbrev pub is_first_use : List (List ℕ) → Bound → Bool
 is_first_use seen bound = is_declarable bound.prefix && not (list_any (bytes_eq bound.prefix) seen)
@@ -33,7 +34,8 @@ is_first_use seen bound = is_declarable bound.prefix && not (list_any (bytes_eq 
 -- of the uses of prefixes the first of each that has to be declared
 abbrev pub first_uses : (seen : List (List ℕ)) → List Bound → List Bound
 first_uses seen [] = []
-first_uses seen (bound ∷ more) = (if is_first_use seen bound then bound ∷ [] else []) ++ first_uses (seen ++ bound.prefix ∷ []) more
+first_uses seen (bound ∷ more) =
+    (if is_first_use seen bound then bound ∷ [] else []) ++ first_uses (seen ++ bound.prefix ∷ []) more
 
 -- what a written start tag declares
 abbrev pub declared_in : (above : List ℕ) → QName → List Bound → List Attr → List Part → Declared

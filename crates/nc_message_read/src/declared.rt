@@ -108,7 +108,8 @@ pub(crate) fn begins_declaration(text: &[u8]) -> bool
 
 // Whether a name that has come so far ends here.
 fn ends_xml(text: &[u8]) -> bool
-    ensures { result ≡ (not (pieces.first_passes names.is_in_name text.now) && not (starts_with nat_eq text.now (58 ∷ []))) }
+    ensures { result ≡ (not (pieces.first_passes names.is_in_name text.now)
+        && not (starts_with nat_eq text.now (58 ∷ []))) }
 {
     match text.first() {
         Some(byte) => !is_in_name(*byte) && *byte != b':',

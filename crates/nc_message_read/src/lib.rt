@@ -2,8 +2,9 @@
 //! (XML 1.0, Namespaces in XML 1.0, RFC 6241 3).
 //!
 //! It stands on the definition of what bytes spell in nc_message. It goes once through the message, token by
-//! token, with a stack of the elements that are open. Namespaces, bindings and names that repeat are shared in
-//! the tree, and what a client names is looked up by order, so time and memory stay near-linear in the message.
+//! token, with a stack of the elements that are open. Namespaces, bindings and names that repeat are shared
+//! in the tree, and what a client names is looked up by order, so time and memory stay near-linear in the
+//! message.
 //!
 //! Laws: a message has one tree, a fault none, and what nc_message writes of a tree is read back.
 #![tactic(auto)]

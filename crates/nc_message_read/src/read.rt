@@ -37,9 +37,11 @@ impl Parser<'_> {
     fn turn(&mut self) -> Result<Option<Stop>, Memory>
         requires { 0 < length self.old.reader.rest.now }
         ensures turn { IfOk result (λ stop. MatchOption stop
-            (Takes (state_of self.old.stack) self.old.reader.rest.now (state_of self.new.stack) self.new.reader.rest.now)
+            (Takes (state_of self.old.stack) self.old.reader.rest.now
+            (state_of self.new.stack) self.new.reader.rest.now)
             (λ stop. Stops (state_of self.old.stack) self.old.reader.rest.now stop)) }
-        ensures shorter { IfOk result (λ stop. IfNone stop (length self.new.reader.rest.now < length self.old.reader.rest.now)) }
+        ensures shorter { IfOk result (λ stop. IfNone stop (length self.new.reader.rest.now
+            < length self.old.reader.rest.now)) }
     {
         let left = self.reader.rest.len();
         let is_doctype = self.reader.rest.starts_with(b"<!DOCTYPE");
@@ -70,7 +72,8 @@ impl Parser<'_> {
 
 /// The tree of a message, or where and why it has none.
 fn read_all(alloc: Global, bytes: &[u8]) -> Result<Result<Tree, Stop>, Memory>
-    ensures { IfOk result (λ it. MatchResult it (λ tree. SpellsTree bytes.now tree) (λ stop. IsStop bytes.now stop)) }
+    ensures { IfOk result (λ it. MatchResult it (λ tree. SpellsTree bytes.now tree)
+        (λ stop. IsStop bytes.now stop)) }
 {
     let mut parser = Parser {
         reader: Reader { alloc, rest: bytes },

@@ -167,7 +167,8 @@ impl<'a> Reader<'a> {
             (pieces.attributes (suc (length self.old.rest.now)) self.old.rest.now ≡ None)
             (λ attrs. pieces.attributes (suc (length self.old.rest.now)) self.old.rest.now
             ≡ Some (attrs, self.new.rest.now))) }
-        ensures within { IfOk result (λ found. OnSome found (length self.new.rest.now ≤ length self.old.rest.now)) }
+        ensures within { IfOk result (λ found. OnSome found (length self.new.rest.now
+            ≤ length self.old.rest.now)) }
     {
         let mut attrs = Many::new(self.alloc);
         loop {
@@ -208,7 +209,8 @@ impl<'a> Reader<'a> {
         ensures read { IfOk result (λ found. MatchOption found
             (pieces.start self.old.rest.now ≡ None)
             (λ tag. pieces.start self.old.rest.now ≡ Some (tag, self.new.rest.now))) }
-        ensures within { IfOk result (λ found. OnSome found (length self.new.rest.now < length self.old.rest.now)) }
+        ensures within { IfOk result (λ found. OnSome found (length self.new.rest.now
+            < length self.old.rest.now)) }
     {
         if self.bytes(b"<").is_none() {
             return Ok(None);
@@ -305,7 +307,8 @@ impl<'a> Reader<'a> {
 
     // Whether the name of a processing instruction ends here.
     fn ends_target(&self) -> bool
-        ensures { result ≡ (starts_with nat_eq self.now.rest.now (63 ∷ 62 ∷ []) || pieces.first_passes signs.is_white self.now.rest.now) }
+        ensures { result ≡ (starts_with nat_eq self.now.rest.now (63 ∷ 62 ∷ [])
+            || pieces.first_passes signs.is_white self.now.rest.now) }
     {
         self.rest.starts_with(b"?>") || self.is_at_white()
     }
@@ -316,7 +319,8 @@ impl<'a> Reader<'a> {
         ensures read { IfOk result (λ found. MatchOption found
             (pieces.declaration self.old.rest.now ≡ None)
             (λ _. pieces.declaration self.old.rest.now ≡ Some self.new.rest.now)) }
-        ensures within { IfOk result (λ found. OnSome found (length self.new.rest.now < length self.old.rest.now)) }
+        ensures within { IfOk result (λ found. OnSome found (length self.new.rest.now
+            < length self.old.rest.now)) }
     {
         if self.bytes(b"<?xml").is_none() {
             return Ok(None);
@@ -339,7 +343,8 @@ impl<'a> Reader<'a> {
         ensures read { IfOk result (λ found. MatchOption found
             (pieces.questioned self.old.rest.now ≡ None)
             (λ token. pieces.questioned self.old.rest.now ≡ Some (token_of token, self.new.rest.now))) }
-        ensures within { IfOk result (λ found. OnSome found (length self.new.rest.now < length self.old.rest.now)) }
+        ensures within { IfOk result (λ found. OnSome found (length self.new.rest.now
+            < length self.old.rest.now)) }
     {
         if begins_declaration(self.rest) {
             return match self.declaration()? {
@@ -356,7 +361,8 @@ impl<'a> Reader<'a> {
         ensures read { IfOk result (λ found. MatchOption found
             (pieces.token self.old.rest.now ≡ None)
             (λ token. pieces.token self.old.rest.now ≡ Some (token_of token, self.new.rest.now))) }
-        ensures within { IfOk result (λ found. OnSome found (0 < length self.old.rest.now → length self.new.rest.now < length self.old.rest.now)) }
+        ensures within { IfOk result (λ found. OnSome found (0 < length self.old.rest.now
+            → length self.new.rest.now < length self.old.rest.now)) }
     {
         if self.rest.starts_with(b"</") {
             return Ok(self.end().map(Token::End));
@@ -382,7 +388,9 @@ impl<'a> Reader<'a> {
 pub(crate) fn count_before(mark: &[u8], bytes: &[u8]) -> Option<usize>
     ensures { MatchOption result
         (pieces.up_to mark.now bytes.now ≡ None)
-        (λ n. (n ≤ length bytes.now) × (pieces.up_to mark.now bytes.now ≡ Some (take n bytes.now, drop (length mark.now) (drop n bytes.now))) × (starts_with nat_eq (drop n bytes.now) mark.now ≡ true)) }
+        (λ n. (n ≤ length bytes.now) × (pieces.up_to mark.now bytes.now
+        ≡ Some (take n bytes.now, drop (length mark.now) (drop n bytes.now)))
+        × (starts_with nat_eq (drop n bytes.now) mark.now ≡ true)) }
 {
     for place in 0..bytes.len() {
         if tail(bytes, place).starts_with(mark) {
@@ -395,7 +403,8 @@ pub(crate) fn count_before(mark: &[u8], bytes: &[u8]) -> Option<usize>
 /// The characters that these bytes are.
 #[tactic(auto, using(crate::proofs::Utf8::utf8_yes, crate::proofs::Utf8::utf8_no))]
 pub(crate) fn chars_of(bytes: &[u8]) -> Option<&str>
-    ensures { MatchOption result (is_utf8 bytes.now ≡ false) (λ chars. (chars.now ≡ bytes.now) × (is_utf8 bytes.now ≡ true)) }
+    ensures { MatchOption result (is_utf8 bytes.now ≡ false) (λ chars. (chars.now ≡ bytes.now)
+        × (is_utf8 bytes.now ≡ true)) }
 {
     match str::from_utf8(bytes) {
         Ok(chars) => Some(chars),

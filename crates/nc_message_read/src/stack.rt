@@ -150,7 +150,8 @@ impl Stack {
     fn run_inside(&mut self, raw: &[u8]) -> Result<Option<()>, Memory>
         ensures { IfOk result (λ done. MatchOption done
             (reads.add_text (state_of self.old).above (texts.text_of raw.now) ≡ None)
-            (λ _. reads.add_text (state_of self.old).above (texts.text_of raw.now) ≡ Some (state_of self.new))) }
+            (λ _. reads.add_text (state_of self.old).above (texts.text_of raw.now)
+            ≡ Some (state_of self.new))) }
     {
         let text = text_of(self.alloc, raw)?;
         self.add_text(text)

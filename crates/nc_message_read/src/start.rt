@@ -224,7 +224,8 @@ fn is_unbound_attribute(
     name: &Name<'_>,
 ) -> Result<bool, Memory>
     requires { DeclaredPrefixes prefixes.now attributes.now }
-    ensures { IfOk result (λ it. it ≡ (not (resolved.is_declaration name.now) && resolved.is_unbound outer.now attributes.now name.now.prefix)) }
+    ensures { IfOk result (λ it. it ≡ (not (resolved.is_declaration name.now)
+        && resolved.is_unbound outer.now attributes.now name.now.prefix)) }
 {
     if is_declaration(name) {
         return Ok(false);
@@ -240,7 +241,8 @@ fn has_unbound_attribute(
     prefixes: &BTreeSet<Text>,
 ) -> Result<bool, Memory>
     requires { DeclaredPrefixes prefixes.now attributes.now }
-    ensures { IfOk result (λ it. it ≡ list_any (λ a. not (resolved.is_declaration a.name) && resolved.is_unbound outer.now attributes.now a.name.prefix) attributes.now) }
+    ensures { IfOk result (λ it. it ≡ list_any (λ a. not (resolved.is_declaration a.name)
+        && resolved.is_unbound outer.now attributes.now a.name.prefix) attributes.now) }
 {
     for attribute in attributes {
         if is_unbound_attribute(alloc, outer, attributes, prefixes, &attribute.name)? {

@@ -14,7 +14,8 @@ pub(crate) struct Stop {
 /// Why no tree was read.
 #[derive(Clone, Copy, Debug, PartialEq, Eq)]
 pub enum MessageFault {
-    /// The bytes spell no tree: how many bytes the longest beginning of whole tokens that fit has, and why no more fits.
+    /// The bytes spell no tree: how many bytes the longest beginning of whole tokens that fit has, and why no
+    /// more fits.
     Malformed {
         /// The place, in bytes from the message's begin.
         at: u64,

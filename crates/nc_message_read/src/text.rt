@@ -46,7 +46,8 @@ pub(crate) fn all_chars(text: &str) -> bool
 
 #[tactic(auto, using(crate::proofs::Utf8::utf8_yes, crate::proofs::Utf8::utf8_no))]
 fn as_utf8(bytes: Bytes) -> Option<String>
-    ensures { MatchOption result (is_utf8 bytes ≡ false) (λ chars. (string_bytes chars ≡ bytes) × (is_utf8 bytes ≡ true)) }
+    ensures { MatchOption result (is_utf8 bytes ≡ false) (λ chars. (string_bytes chars ≡ bytes)
+        × (is_utf8 bytes ≡ true)) }
 {
     match String::from_utf8(bytes.into_vec()) {
         Ok(chars) => Some(chars),
@@ -139,7 +140,8 @@ fn push_first<'a>(
 ) -> Result<Option<&'a [u8]>, Memory>
     ensures read { IfOk result (λ left. MatchOption left
         (texts.resolved refers in_value 0 (first ∷ more.now) ≡ None)
-        (λ left. texts.onto out.old (texts.resolved refers in_value 0 (first ∷ more.now)) ≡ texts.onto out.new (texts.resolved refers in_value 0 left.now))) }
+        (λ left. texts.onto out.old (texts.resolved refers in_value 0 (first ∷ more.now))
+        ≡ texts.onto out.new (texts.resolved refers in_value 0 left.now))) }
     ensures within { IfOk result (λ left. IfSome left (λ left. length left.now ≤ length more.now)) }
 {
     if begins_reference(refers, first) {

@@ -1,5 +1,5 @@
--- The fixed texts of access control and of limits (RFC 8341 3.5.2, RFC 6241 appendix C, RFC 5717 appendix B). Those that
--- requests and replies have too stand in nc_protocol.
+-- The fixed texts of access control and of limits (RFC 8341 3.5.2, RFC 6241 appendix C, RFC 5717 appendix B). Those
+-- that requests and replies have too stand in nc_protocol.
 use Rattle.std.specs.Prelude.{ℕ, List, codes}
 
 -- ---- access control

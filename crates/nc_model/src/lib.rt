@@ -3,8 +3,8 @@
 //!
 //! The types are what the parts of the server hand to one another; a `Desk` is where a session hands in its
 //! events. The specifications beside them are the definitions by which those parts are proved: the state, the
-//! decisions of access control, the verdict on a request, one step, and histories of steps. What a request and
-//! its reply are stands in `nc_protocol`.
+//! decisions of access control, the verdict on a request, one step, and histories of steps. What a request
+//! and its reply are stands in `nc_protocol`.
 #![tactic(auto)]
 
 mod called;

@@ -1,5 +1,5 @@
-//! The fixed texts of access control and of limits (RFC 8341 3.5.2, RFC 6241 appendix C, RFC 5717 appendix B),
-//! each by a function that gives it.
+//! The fixed texts of access control and of limits (RFC 8341 3.5.2, RFC 6241 appendix C, RFC 5717 appendix
+//! B), each by a function that gives it.
 ghost use Rattle.std.specs.Prelude.{◌≡◌};
 ghost use Rattle.nc_model.specs.Words as words;
 

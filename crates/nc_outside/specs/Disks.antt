@@ -62,7 +62,8 @@ pub record Elapses (before now : ℕ) (past since : ℕ → List ℕ → Type 0)
   pub keeps : (t : ℕ) (c : List ℕ) → t ≤ before → past t c → since t c
 
 -- A crash at any moment from old to new leaves an image that has P.
-pub record LeavesOnly {D : Type 0} (moment : D → ℕ) (left_since : D → ℕ → List ℕ → Type 0) (old new : D) (P : List ℕ → Type 0) : Type 0 where
+pub record LeavesOnly {D : Type 0} (moment : D → ℕ) (left_since : D → ℕ → List ℕ → Type 0) (old new : D)
+    (P : List ℕ → Type 0) : Type 0 where
   pub later : moment old ≤ moment new
   pub each : (c : List ℕ) → left_since new (moment old) c → P c
   -- the same for moments before old: it leaves what was left by then, or an image that has P
@@ -76,6 +77,7 @@ pub record Passes {D : Type 0} (may_leave : D → List ℕ → Type 0) (moment :
   pub moments : LeavesOnly moment left_since old new (After step (may_leave old))
 
 -- a read gives this file, and the file is durable
-pub record IsSettled {D : Type 0} (seen : D → Option (List ℕ)) (may_leave : D → List ℕ → Type 0) (disk : D) (file : List ℕ) : Type 0 where
+pub record IsSettled {D : Type 0} (seen : D → Option (List ℕ)) (may_leave : D → List ℕ → Type 0) (disk : D)
+    (file : List ℕ) : Type 0 where
   pub told : seen disk ≡ Some file
   pub durable : Only file (may_leave disk)

@@ -14,8 +14,8 @@
 //! `settle` and `byte_at` are stretches of a few calls, proved for every disk; what stands on disks is
 //! proved over them.
 //!
-//! trials_sessions tests the source and the sink in memory, and trials_machine the clock; what stands over std is
-//! tested at the program.
+//! trials_sessions tests the source and the sink in memory, and trials_machine the clock; what stands over
+//! std is tested at the program.
 #![tactic(auto)]
 
 mod adapters;

@@ -16,11 +16,13 @@ predicate_of p = record { key = option_map name_of p.key; value = p.value.now }
 
 -- what was read with the text after it, or nothing
 abbrev pub ReadsName : List ℕ → Option (Name × Bor (List ℕ)) → Type 0
-ReadsName text found = MatchOption found (written_name text ≡ None) (λ x. written_name text ≡ Some (name_of x.0, x.1.now))
+ReadsName text found =
+    MatchOption found (written_name text ≡ None) (λ x. written_name text ≡ Some (name_of x.0, x.1.now))
 
 abbrev pub ReadsKey : List ℕ → Option (Option Name × Bor (List ℕ)) → Type 0
 ReadsKey text found =
     MatchOption found (predicate_key text ≡ None) (λ x. predicate_key text ≡ Some (option_map name_of x.0, x.1.now))
 
 abbrev pub ReadsPredicate : List ℕ → Option (Predicate × Bor (List ℕ)) → Type 0
-ReadsPredicate text found = MatchOption found (predicate text ≡ None) (λ x. predicate text ≡ Some (predicate_of x.0, x.1.now))
+ReadsPredicate text found =
+    MatchOption found (predicate text ≡ None) (λ x. predicate text ≡ Some (predicate_of x.0, x.1.now))

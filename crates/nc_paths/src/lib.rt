@@ -2,9 +2,9 @@
 //! identifiers (RFC 8341 3.5.2), the keys of an anchor (RFC 7950 7.8.6) and the paths of leafrefs
 //! (RFC 7950 9.9.2). It stands on the plain types of `nc_names` and on the schema.
 //!
-//! Each call answers exactly what the definitions of `nc_schema` say, or nothing exactly where they have nothing;
-//! keys are as they are written. The words, names and signs of path texts are read by calls of their own, on which
-//! `nc_path_places` stands: it says where a text is at fault.
+//! Each call answers exactly what the definitions of `nc_schema` say, or nothing exactly where they have
+//! nothing; keys are as they are written. The words, names and signs of path texts are read by calls of their
+//! own, on which `nc_path_places` stands: it says where a text is at fault.
 #![tactic(auto)]
 
 mod cut;

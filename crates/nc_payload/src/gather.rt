@@ -426,8 +426,8 @@ fn with_node(
     Ok(Turns { entries, cases })
 }
 
-// When each entry that the user orders comes, and which case each choice has. Nothing rests on it but time: what is
-// gathered by turns is compared with them step by step.
+// When each entry that the user orders comes, and which case each choice has. Nothing rests on it but time:
+// what is gathered by turns is compared with them step by step.
 fn turns_of(alloc: Global, schema: &Schema, merges: &Many<Edit>) -> Result<Turns, Memory> {
     let mut turns = Turns {
         entries: BTreeMap::new(alloc),

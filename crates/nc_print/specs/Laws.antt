@@ -114,7 +114,11 @@ ListEntryIsReadBack =
     (reading : Reading) (above earlier : List Step) (number : ℕ) (node : Node) (values : List (List ℕ))
     (below : List Part) (edits : List Edit) →
     let step : Step = record { node = number; keys = values } in
-    let it : Named = record { number = number; node = node; elem = printed_elem reading.tables number None below node } in
+    let it : Named = record {
+      number = number;
+      node = node;
+      elem = printed_elem reading.tables number None below node;
+    } in
     IsProperSchema reading.tables → slice_get reading.tables.nodes number ≡ Some node → node.kind ≡ ListKind →
     has_text below ≡ false → key_values reading it node.keys ≡ Some values →
     list_edits reading (inline_at (above ++ step ∷ []) (Some number)) [] below ≡ Ok edits →
@@ -138,7 +142,8 @@ key_parts tables keys values =
 abbrev pub PrintedKeysAreRead : Type 0
 PrintedKeysAreRead =
     (reading : Reading) (it : Named) (values : List (List ℕ)) (more : List Part) →
-    IsProperSchema reading.tables → AllPairs (λ key later. key ≢ later) it.node.keys → length values ≡ length it.node.keys →
+    IsProperSchema reading.tables → AllPairs (λ key later. key ≢ later) it.node.keys → length values
+    ≡ length it.node.keys →
     ((place key : ℕ) (value : List ℕ) → slice_get it.node.keys place ≡ Some key → slice_get values place ≡ Some value →
     IsKeyReadBack reading it.number key value) →
     it.elem.parts ≡ key_parts reading.tables it.node.keys values ++ more →

@@ -111,8 +111,8 @@ fn listed<'a>(alloc: Global, rows: &'a [Row]) -> Result<Many<&'a Row>, Memory>
     Ok(found)
 }
 
-/// The rows of a configuration as elements, in document order (RFC 7950 7.5.7, 7.6.5, 7.7.8 and 7.8.5). Want of
-/// memory alone is an error.
+/// The rows of a configuration as elements, in document order (RFC 7950 7.5.7, 7.6.5, 7.7.8 and 7.8.5). Want
+/// of memory alone is an error.
 pub fn print(alloc: Global, schema: &Schema, rows: &[Row]) -> Result<Many<Part>, Memory>
     ensures { IfOk result (λ it. it ≡ printed.printed schema.now rows.now) }
 {

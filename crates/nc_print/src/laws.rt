@@ -11,8 +11,8 @@ pub fn printed_value_is_read()
     ensures { PrintedValueIsRead }
 {}
 
-/// A printed leaf is read back as its row (RFC 7950 7.6.5), where its value is read back under the bindings of
-/// its element.
+/// A printed leaf is read back as its row (RFC 7950 7.6.5), where its value is read back under the bindings
+/// of its element.
 pub fn leaf_is_read_back()
     ensures { LeafIsReadBack }
 {}
@@ -37,7 +37,8 @@ pub fn nothing_below_its_end()
     ensures { NothingBelowItsEnd }
 {}
 
-/// A printed list entry is read back as itself (RFC 7950 7.8.5), with what is read back of the elements in it.
+/// A printed list entry is read back as itself (RFC 7950 7.8.5), with what is read back of the elements in
+/// it.
 pub fn list_entry_is_read_back()
     ensures { ListEntryIsReadBack }
 {}
@@ -47,7 +48,8 @@ pub fn printed_keys_are_read()
     ensures { PrintedKeysAreRead }
 {}
 
-/// The canonical text of a value is the canonical text of itself, under the bindings of its element (RFC 7950 9.1).
+/// The canonical text of a value is the canonical text of itself, under the bindings of its element (RFC 7950
+/// 9.1).
 pub fn canonical_is_read_as_itself()
     ensures { CanonicalIsReadAsItself }
 {}

@@ -1,12 +1,12 @@
 //! Rows of a configuration as elements (RFC 7950 7.5.7, 7.6.5, 7.7.8 and 7.8.5).
 //!
-//! `print` gives exactly the elements that nc_protocol's definition `printed` has for rows in document order: one
-//! for each row, and for each container without presence that has a row below it. Where a value may have module
-//! names as prefixes these are bound on its element. Each row is looked at once for each step of its path.
-//! `write_reply` appends the text of a reply: that of these elements where it shows rows, which no elements are made of.
-//! `path_bounds` gives the bindings that a path text needs. The laws say that an element so made for a data node is
-//! read back as that node, by nc_protocol's definition of a payload, and that the elements of a whole configuration
-//! are read back as its rows.
+//! `print` gives exactly the elements that nc_protocol's definition `printed` has for rows in document order:
+//! one for each row, and for each container without presence that has a row below it. Where a value may have
+//! module names as prefixes these are bound on its element. Each row is looked at once for each step of its
+//! path. `write_reply` appends the text of a reply: that of these elements where it shows rows, which no
+//! elements are made of. `path_bounds` gives the bindings that a path text needs. The laws say that an
+//! element so made for a data node is read back as that node, by nc_protocol's definition of a payload, and
+//! that the elements of a whole configuration are read back as its rows.
 #![tactic(auto)]
 
 mod element;

@@ -110,8 +110,9 @@ fn push_steps(schema: &Schema, steps: &[Step], bounds: &mut Many<Bound>) -> Resu
     Ok(())
 }
 
-/// The bindings of the module names that the text of a path has as prefixes, each once, in the order of first use:
-/// those of its steps and keys, and of the values in it whose types have names. Want of memory alone is an error.
+/// The bindings of the module names that the text of a path has as prefixes, each once, in the order of first
+/// use: those of its steps and keys, and of the values in it whose types have names. Want of memory alone is
+/// an error.
 pub fn path_bounds(alloc: Global, schema: &Schema, path: &Path) -> Result<Bounds, Memory>
     ensures { IfOk result (λ it. it ≡ names.path_bounds schema.now path.now) }
 {

@@ -121,7 +121,8 @@ fn write_run(
     write_ending(&node.name, text, inside, out)
 }
 
-// Appends the elements of rows at a depth, with so many levels of elements in them, below one of the namespace `above`.
+// Appends the elements of rows at a depth, with so many levels of elements in them, below one of the
+// namespace `above`.
 #[tactic(auto, using(nc_names::proofs::Extending::extends_self, nc_names::proofs::Extending::extends_more, nc_names::proofs::Extending::extends_twice, crate::proofs::WriteLemmas::text_step, crate::proofs::WriteLemmas::level_text, crate::proofs::WriteLemmas::no_level, crate::proofs::WriteLemmas::level_ends, crate::proofs::WriteLemmas::extends_on))]
 #[cycle(write)]
 fn write_parts(
@@ -203,8 +204,9 @@ fn write_shown(alloc: Global, tree: &Tree, shown: &Shown, out: &mut Bytes) -> Re
     write_end(&root.name, out)
 }
 
-/// Appends the text of a reply, as nc_message's `write` does of a tree. Rows that it shows are written as their
-/// elements are, but no elements are made of them (RFC 7950 7.5.7, 7.6.5, 7.7.8 and 7.8.5). `Memory` changes nothing.
+/// Appends the text of a reply, as nc_message's `write` does of a tree. Rows that it shows are written as
+/// their elements are, but no elements are made of them (RFC 7950 7.5.7, 7.6.5, 7.7.8 and 7.8.5). `Memory`
+/// changes nothing.
 pub fn write_reply(alloc: Global, reply: &Reply, out: &mut Bytes) -> Result<(), Memory>
     ensures ok { OnOk result (out.new ≡ out.old ++ written reply.now) }
     ensures err { OnErr result (out.new ≡ out.old) }

@@ -171,8 +171,8 @@ name_count BadElement = Some 1
 name_count MissingInstance = Some 2
 name_count kind = Some 0
 
--- a cause that is about one data node: its error has the node's path. A mandatory choice is about none where it stands at
--- the top level of the data tree
+-- a cause that is about one data node: its error has the node's path. A mandatory choice is about none where it stands
+-- at the top level of the data tree
 abbrev pub is_of_node : CauseKind → Bool
 is_of_node UnknownAttribute = true
 is_of_node BadAttribute = true

@@ -80,7 +80,8 @@ value_bounds tables number text = with_value tables [] number text
 -- with that of the module of a data node, which is its prefix in a path text
 abbrev pub with_node : Tables → List Bound → ℕ → List Bound
 with_node tables bounds number =
-    option_map_or (λ node. with_name tables bounds (module_name tables node.module)) (slice_get tables.nodes number) bounds
+    option_map_or (λ node. with_name tables bounds (module_name tables node.module))
+    (slice_get tables.nodes number) bounds
 
 -- with those of a key and its value
 abbrev pub with_key : Tables → List Bound → ℕ × List ℕ → List Bound
@@ -97,7 +98,8 @@ with_predicates tables bounds number ListKind keys values = fold (with_key table
 -- with those of a step
 abbrev pub with_step_names : Tables → List Bound → Step → List Bound
 with_step_names tables bounds step =
-    option_map_or (λ node. with_predicates tables (with_node tables bounds step.node) step.node node.kind node.keys step.keys)
+    option_map_or (λ node. with_predicates tables
+    (with_node tables bounds step.node) step.node node.kind node.keys step.keys)
     (slice_get tables.nodes step.node) bounds
 
 -- the bindings of the module names that the text of a path has as prefixes, each once, in the order of first use: those

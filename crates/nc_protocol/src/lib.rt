@@ -1,9 +1,11 @@
-//! What a client and a server say to one another, in plain terms: requests as they are read, the edits, rows and
-//! filters of their payloads, changes between configurations, causes, and replies (RFC 6241, RFC 5717, RFC 8341).
+//! What a client and a server say to one another, in plain terms: requests as they are read, the edits, rows
+//! and filters of their payloads, changes between configurations, causes, and replies (RFC 6241, RFC 5717,
+//! RFC 8341).
 //!
 //! The types are what the parts of the server hand to one another. The specifications beside them are the
-//! definitions by which those parts are proved: requests and payloads read, one edit and several, what a filter
-//! selects, rows printed, and the reply to a verdict. They know no state; the server's stands in `nc_model`.
+//! definitions by which those parts are proved: requests and payloads read, one edit and several, what a
+//! filter selects, rows printed, and the reply to a verdict. They know no state; the server's stands in
+//! `nc_model`.
 #![tactic(auto)]
 
 mod access;

@@ -81,7 +81,8 @@ impl<'a> Branches<'a> {
         step: &'a Step,
     ) -> Option<Here>
         requires within { IsWithin config.now here }
-        requires branches { AreBranches config.now (length steps.now) self.now.from self.now.to self.now.table }
+        requires branches { AreBranches config.now
+            (length steps.now) self.now.from self.now.to self.now.table }
         requires from { self.now.from ≡ here.from }
         requires to { self.now.to ≡ here.to }
         ensures place { option_map (place_here config.now (steps.now ++ step.now ∷ [])) result

@@ -19,7 +19,8 @@ fn with_node<'a>(
     nodes: BTreeSet<&'a [Step]>,
     steps: &'a [Step],
 ) -> Result<BTreeSet<&'a [Step]>, Memory>
-    ensures { IfOk result (λ it. (rows : List Row) → AllExist rows nodes.entry → exists rows steps.now ≡ true → AllExist rows it) }
+    ensures { IfOk result (λ it. (rows : List Row) → AllExist rows nodes.entry → exists rows steps.now
+        ≡ true → AllExist rows it) }
 {
     let mut nodes = nodes;
     nodes.insert(steps)?;
@@ -31,7 +32,8 @@ fn with_nodes<'a>(
     nodes: BTreeSet<&'a [Step]>,
     steps: &'a [Step],
 ) -> Result<BTreeSet<&'a [Step]>, Memory>
-    ensures { IfOk result (λ it. (rows : List Row) → AllExist rows nodes.entry → exists rows steps.now ≡ true → AllExist rows it) }
+    ensures { IfOk result (λ it. (rows : List Row) → AllExist rows nodes.entry → exists rows steps.now
+        ≡ true → AllExist rows it) }
 {
     let mut nodes = nodes;
     for at in 0..steps.len() {
@@ -82,7 +84,8 @@ fn is_one(
     text: &Text,
 ) -> Result<bool, Memory>
     ensures text { IfOk result (λ it. it ≡ true → names schema.now text.now path.now.steps ≡ true) }
-    ensures exists { (rows : List Row) → AllExist rows nodes.now → IfOk result (λ it. it ≡ true → exists rows path.now.steps ≡ true) }
+    ensures exists { (rows : List Row) → AllExist rows nodes.now → IfOk result (λ it. it ≡ true
+        → exists rows path.now.steps ≡ true) }
 {
     if !has_node(nodes, path.steps.as_slice()) {
         return Ok(false);
@@ -97,7 +100,8 @@ fn names_one(
     nodes: &BTreeSet<&[Step]>,
     text: &Text,
 ) -> Result<bool, Memory>
-    ensures { (rows : List Row) → AllExist rows nodes.now → IfOk result (λ it. it ≡ true → violations.is_named_node schema.now rows text.now ≡ true) }
+    ensures { (rows : List Row) → AllExist rows nodes.now → IfOk result (λ it. it ≡ true
+        → violations.is_named_node schema.now rows text.now ≡ true) }
 {
     match instance_path(alloc, schema, text.as_str(), schema)? {
         Some(path) => is_one(alloc, schema, nodes, &path, text),

@@ -65,7 +65,8 @@ pub(crate) fn turning_steps(above: Option<u32>, steps: &[Step]) -> &[Step]
 
 // With a value.
 fn with_value<'a>(values: BTreeSet<&'a Text>, value: &'a Text) -> Result<BTreeSet<&'a Text>, Memory>
-    ensures { IfOk result (λ it. (before : List (List ℕ)) → HasValues values.entry before → HasValues it (before ++ value.now ∷ [])) }
+    ensures { IfOk result (λ it. (before : List (List ℕ)) → HasValues values.entry before
+        → HasValues it (before ++ value.now ∷ [])) }
 {
     let mut values = values;
     values.insert(value)?;
@@ -111,7 +112,8 @@ fn values_referred<'a>(
     requires children { children.now ≡ schema.now }
     requires trail { IsTrail schema.now config.now trail }
     ensures trail { IfOk result (λ it. IsTrail schema.now config.now it.0) }
-    ensures values { IfOk result (λ it. HasValues it.1 (violations.values_referred schema.now config.now turning.now target)) }
+    ensures values { IfOk result (λ it. HasValues it.1
+        (violations.values_referred schema.now config.now turning.now target)) }
 {
     let (trail, reached) = trail.reach(alloc, schema, config, turning)?;
     let Some(here) = reached else {
@@ -140,7 +142,8 @@ impl<'a> Known<'a> {
     // Whether a text is among the values that are known for a leafref; `None` where they are not known.
     fn has(&self, leaf: u32, turning: &[Step], target: u32, text: &'a Text) -> Option<bool>
         ensures { (schema : Tables) (rows : List Row) → IsKnown schema rows self.now →
-            IfSome result (λ has. has ≡ violations.has_text text.now (violations.values_referred schema rows turning.now target)) }
+            IfSome result (λ has. has ≡ violations.has_text text.now
+            (violations.values_referred schema rows turning.now target)) }
     {
         let referred = self.referred.get(&leaf)?;
         if referred.target == target && same_steps(referred.turning, turning) {
@@ -150,7 +153,8 @@ impl<'a> Known<'a> {
         }
     }
 
-    /// Whether a text is in use at an instance of a leafref's target below the place at which its path turns down.
+    /// Whether a text is in use at an instance of a leafref's target below the place at which its path turns
+    /// down.
     pub(crate) fn refers(
         self,
         alloc: Global,
@@ -163,7 +167,8 @@ impl<'a> Known<'a> {
     ) -> Result<(Known<'a>, bool), Memory>
         requires { IsKnown schema.now config.now self }
         ensures known { IfOk result (λ it. IsKnown schema.now config.now it.0) }
-        ensures refers { IfOk result (λ it. it.1 ≡ violations.has_text text.now (violations.values_referred schema.now config.now turning.now target)) }
+        ensures refers { IfOk result (λ it. it.1 ≡ violations.has_text text.now
+            (violations.values_referred schema.now config.now turning.now target)) }
     {
         if let Some(has) = self.has(leaf, turning, target, text) {
             return Ok((self, has));

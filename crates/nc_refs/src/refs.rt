@@ -18,7 +18,8 @@ use nc_tree::{Listed, last_step, node_of};
 use std::alloc::Global;
 use std::collections::BTreeSet;
 
-/// What is known of a configuration: what leafrefs may refer to, and the nodes that exist, once one was asked for.
+/// What is known of a configuration: what leafrefs may refer to, and the nodes that exist, once one was asked
+/// for.
 #[derive(Drop)]
 pub(crate) struct About<'a> {
     pub(crate) known: Known<'a>,
@@ -61,7 +62,8 @@ fn dead_leafref<'a>(
     requires { IsAbout schema.now config.now about }
     ensures about { IfOk result (λ it. IsAbout schema.now config.now it.0) }
     ensures fault { IfOk result (λ it. fault_of steps.now it.1
-        ≡ violations.reference_violation schema.now config.now steps.now text.now (Leafref end.0 end.1 true)) }
+        ≡ violations.reference_violation schema.now config.now steps.now text.now
+        (Leafref end.0 end.1 true)) }
 {
     let About { known, nodes } = about;
     let (target, above) = end;
@@ -162,7 +164,8 @@ fn row_fault<'a>(
 ) -> Result<(About<'a>, Option<CauseKind>), Memory>
     requires { IsAbout schema.now config.now about }
     ensures about { IfOk result (λ it. IsAbout schema.now config.now it.0) }
-    ensures fault { IfOk result (λ it. fault_of row.now.path.steps it.1 ≡ violations.row_violation schema.now config.now row.now) }
+    ensures fault { IfOk result (λ it. fault_of row.now.path.steps it.1
+        ≡ violations.row_violation schema.now config.now row.now) }
 {
     let row = row.get();
     let steps = row.path.steps.as_slice();
@@ -208,9 +211,9 @@ fn path_of(row: &Shared<Row>) -> Result<Path, Memory>
     row.get().path.copy()
 }
 
-/// The first violation of a configuration's references (RFC 7950 9.9.3 and 9.13.2), in the order of its rows: a leafref
-/// whose value is in use at no instance of its target, or an instance-identifier whose node does not exist, where
-/// `require-instance` is true. `None` where there is none.
+/// The first violation of a configuration's references (RFC 7950 9.9.3 and 9.13.2), in the order of its rows:
+/// a leafref whose value is in use at no instance of its target, or an instance-identifier whose node does
+/// not exist, where `require-instance` is true. `None` where there is none.
 pub fn first_reference(
     alloc: Global,
     schema: &Schema,

@@ -65,7 +65,8 @@ impl<'a> Trail<'a> {
         here: Here,
     ) -> Result<Trail<'a>, Memory>
         requires { IsWithin config.now here }
-        ensures { IfOk result (λ it. (schema : Tables) → IsTrail schema config.now self.entry → IsTrail schema config.now it) }
+        ensures { IfOk result (λ it. (schema : Tables) → IsTrail schema config.now self.entry
+            → IsTrail schema config.now it) }
     {
         let mut trail = self;
         if trail.branches.contains_key(&above) {

@@ -159,7 +159,8 @@ fn text(alloc: Global, elems: &[Elem], parameter: Parameter) -> Result<Option<Te
 
 // `default-operation`, or `merge`.
 fn default_operation(alloc: Global, elems: &[Elem]) -> Result<Default3, Stop>
-    ensures { Reads result (has_or DefaultOperation (asking.word_in asking.default_operations) Merge elems.now) }
+    ensures { Reads result (has_or DefaultOperation
+        (asking.word_in asking.default_operations) Merge elems.now) }
 {
     match element_named(elems, Parameter::DefaultOperation) {
         None => Ok(Default3::Merge),
@@ -183,7 +184,8 @@ fn test_option(alloc: Global, elems: &[Elem]) -> Result<TestOption, Stop>
 
 // `error-option`, or `stop-on-error`.
 fn error_option(alloc: Global, elems: &[Elem]) -> Result<ErrorOption, Stop>
-    ensures { Reads result (has_or ErrorParameter (asking.word_in asking.error_options) StopOnError elems.now) }
+    ensures { Reads result (has_or ErrorParameter
+        (asking.word_in asking.error_options) StopOnError elems.now) }
 {
     match element_named(elems, Parameter::ErrorOption) {
         None => Ok(ErrorOption::Stop),

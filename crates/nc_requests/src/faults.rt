@@ -32,7 +32,8 @@ fn fault_as_parameter(
     elem: &Elem,
     parameter: Parameter,
 ) -> Result<Option<Cause>, Memory>
-    ensures { IfOk result (λ it. it ≡ decoded.fault_as elems.now earlier.now elem.now (Some (means parameter))) }
+    ensures { IfOk result (λ it. it ≡ decoded.fault_as elems.now earlier.now elem.now (Some
+        (means parameter))) }
 {
     if !repeats(parameter) && has_name(&elem.name, earlier) {
         return Ok(Some(Cause::naming(
@@ -55,7 +56,8 @@ fn fault_of(
     earlier: &[Elem],
     elem: &Elem,
 ) -> Result<Option<Cause>, Memory>
-    ensures { IfOk result (λ it. it ≡ decoded.fault_as elems.now earlier.now elem.now (decoded.parameter_named (map means among.now) elem.now.name)) }
+    ensures { IfOk result (λ it. it ≡ decoded.fault_as elems.now earlier.now elem.now
+        (decoded.parameter_named (map means among.now) elem.now.name)) }
 {
     match parameter_named(among, &elem.name) {
         None => Ok(Some(Cause::naming(

@@ -28,7 +28,8 @@ fn refused(alloc: Global, attributes: Many<Attr>, kind: CauseKind) -> Request
 
 // A request with a second operation.
 fn refused_for(alloc: Global, attributes: Many<Attr>, second: &Elem) -> Result<Request, Memory>
-    ensures { IfOk result (λ it. it ≡ decoded.refused_request attributes TwoOperations (second.now.name.name ∷ [])) }
+    ensures { IfOk result (λ it. it ≡ decoded.refused_request attributes TwoOperations
+        (second.now.name.name ∷ [])) }
 {
     let cause = Cause::naming(alloc, CauseKind::TwoOperations, second.name.name.as_str())?;
     Ok(Request {
@@ -40,7 +41,8 @@ fn refused_for(alloc: Global, attributes: Many<Attr>, second: &Elem) -> Result<R
 
 // The request of an `rpc` with one child element.
 fn request_by(alloc: Global, attributes: Many<Attr>, elem: Elem) -> Result<Request, Memory>
-    ensures { IfOk result (λ it. it ≡ decoded.request_by attributes elem (decoded.operation_named elem.name)) }
+    ensures { IfOk result (λ it. it ≡ decoded.request_by attributes elem
+        (decoded.operation_named elem.name)) }
 {
     let Some(operation) = operation_named(&elem.name) else {
         return Ok(refused(alloc, attributes, CauseKind::UnknownOperation));
@@ -113,8 +115,9 @@ fn is_rpc(elem: &Elem) -> bool
     elem.name.space.as_str() == words::base_namespace() && elem.name.name.as_str() == words::rpc()
 }
 
-/// The request of a message, which is given as its tree or as why it has none (RFC 6241 4.1). The attributes of `rpc`
-/// come with it; what is asked for, or the cause for which nothing is. Want of memory alone is an error.
+/// The request of a message, which is given as its tree or as why it has none (RFC 6241 4.1). The attributes
+/// of `rpc` come with it; what is asked for, or the cause for which nothing is. Want of memory alone is an
+/// error.
 pub fn decode(alloc: Global, message: Result<Tree, Why>) -> Result<Request, Memory>
     ensures { IfOk result (λ it. it ≡ decoded.decoded message) }
 {

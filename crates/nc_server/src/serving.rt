@@ -373,7 +373,8 @@ fn close<R: Threads + Wait, Q: Desks, H: Hangup + Drop>(
 )
     requires home { All (λ w. Q.home w.handle.promise.home.value ≡ Q.home desks.old) crew.old.items }
     requires out { MatchOption timer (Q.out desks.old ≡ vec_len crew.old)
-        (λ w. (Q.out desks.old ≡ vec_len crew.old + 1) × (Q.home w.handle.promise.home.value ≡ Q.home desks.old)) }
+        (λ w. (Q.out desks.old ≡ vec_len crew.old + 1) × (Q.home w.handle.promise.home.value
+        ≡ Q.home desks.old)) }
     ensures home { Q.home desks.new ≡ Q.home desks.old }
     ensures out { Q.out desks.new ≡ 0 }
 {

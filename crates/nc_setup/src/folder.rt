@@ -113,7 +113,8 @@ fn module_names<F: Files>(
 
 // The bytes of a file; those of one that is not there are none.
 fn bytes_of<F: Files>(alloc: Global, files: &mut F, path: &str) -> Result<Bytes, FileFault>
-    ensures bytes { IfOk result (λ it. IfSome (F.files files.old) (λ fs. it ≡ unwrap_or (file_of fs path.now) [])) }
+    ensures bytes { IfOk result (λ it. IfSome (F.files files.old) (λ fs. it
+        ≡ unwrap_or (file_of fs path.now) [])) }
     ensures files { F.files files.new ≡ F.files files.old }
     ensures cause { HasFileCause (F.faults files.old) (F.faults files.new) result }
 {
@@ -130,7 +131,8 @@ fn module_text<F: Files>(
     modules: &str,
     name: Text,
 ) -> Result<ModuleText, FileFault>
-    ensures text { IfOk result (λ it. IfSome (F.files files.old) (λ fs. it ≡ meant.text_in fs modules.now name)) }
+    ensures text { IfOk result (λ it. IfSome (F.files files.old) (λ fs. it
+        ≡ meant.text_in fs modules.now name)) }
     ensures files { F.files files.new ≡ F.files files.old }
     ensures cause { HasFileCause (F.faults files.old) (F.faults files.new) result }
 {
@@ -180,7 +182,8 @@ fn features_of<F: Files>(
     files: &mut F,
     folder: &str,
 ) -> Result<Many<Text>, FileFault>
-    ensures features { IfOk result (λ it. IfSome (F.files files.old) (λ fs. it ≡ meant.features_in fs folder.now)) }
+    ensures features { IfOk result (λ it. IfSome (F.files files.old) (λ fs. it
+        ≡ meant.features_in fs folder.now)) }
     ensures files { F.files files.new ≡ F.files files.old }
     ensures cause { HasFileCause (F.faults files.old) (F.faults files.new) result }
 {
@@ -195,7 +198,8 @@ fn initial_of<F: Files>(
     files: &mut F,
     folder: &str,
 ) -> Result<Option<Bytes>, FileFault>
-    ensures text { IfOk result (λ it. IfSome (F.files files.old) (λ fs. it ≡ meant.initial_in fs folder.now)) }
+    ensures text { IfOk result (λ it. IfSome (F.files files.old) (λ fs. it
+        ≡ meant.initial_in fs folder.now)) }
     ensures files { F.files files.new ≡ F.files files.old }
     ensures cause { HasFileCause (F.faults files.old) (F.faults files.new) result }
 {

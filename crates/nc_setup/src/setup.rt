@@ -168,8 +168,8 @@ fn running_of(alloc: Global, contents: &Contents, schema: &Schema) -> Result<Con
 
 /// Makes the server of what the folder of a device holds: the schema that the modules define where the
 /// features are on, and the initial configuration as the running one; `maker` makes the expressions of their
-/// patterns. It is refused for a rule that the modules break or a pattern that the maker refuses, then for the
-/// first line that names no feature of them, then for what the initial configuration lacks.
+/// patterns. It is refused for a rule that the modules break or a pattern that the maker refuses, then for
+/// the first line that names no feature of them, then for what the initial configuration lacks.
 pub fn set_up<M: Maker>(
     alloc: Global,
     contents: &Contents,

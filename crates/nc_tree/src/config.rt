@@ -243,7 +243,8 @@ fn with_tree(
     place: &Place,
     block: &Tree,
 ) -> Result<Tree, Memory>
-    ensures { IfOk result (λ it. it.rows ≡ with_block schema.now tree.now.rows path.now place.now block.now.rows) }
+    ensures { IfOk result (λ it. it.rows ≡ with_block schema.now tree.now.rows path.now place.now
+        block.now.rows) }
 {
     let orders = orders_of(alloc, schema, tree, place, &path.steps)?;
     let steps = path.steps.as_slice();

@@ -21,7 +21,8 @@ fn split_dot(text: &str) -> Option<(&str, &str)>
     text.split_once('.')
 }
 
-/// The text before the first point, and what stands after it: nothing where there is no point (RFC 7950 9.3.1).
+/// The text before the first point, and what stands after it: nothing where there is no point (RFC 7950
+/// 9.3.1).
 pub fn split_point(text: &str) -> (&str, &str)
     ensures before { result.0.now ≡ before_first (λ c. c == dot) text.now }
     ensures after { result.1.now ≡ numbers.fraction_of text.now }

@@ -180,8 +180,8 @@ fn text_in_type<K: Gives, B: Binds>(
     }
 }
 
-// Whether a text that was read by the names of modules is its own canonical text. Earlier members, which do not
-// admit it, then need not be asked again: in unions within unions each level would else ask twice.
+// Whether a text that was read by the names of modules is its own canonical text. Earlier members, which do
+// not admit it, then need not be asked again: in unions within unions each level would else ask twice.
 fn is_settled(by_names: bool, found: &Text, text: &str) -> bool
     ensures names { result ≡ true → by_names ≡ true }
     ensures same { result ≡ true → found.now ≡ text.now }

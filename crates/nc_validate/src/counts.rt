@@ -87,8 +87,8 @@ fn past_most(least: u64, most: u64, rows: u64) -> u64
     least
 }
 
-/// What the number of instances of a data node in a place breaks. It counts no further than to where one more makes no
-/// difference.
+/// What the number of instances of a data node in a place breaks. It counts no further than to where one more
+/// makes no difference.
 pub(crate) fn first_of_counts(
     alloc: Global,
     schema: &Schema,

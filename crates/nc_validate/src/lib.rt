@@ -1,6 +1,7 @@
 //! What a configuration breaks of the constraints on which nodes stand (RFC 7950 8.1): mandatory
 //! leafs and choices, the number of entries, and `unique`; with the references of `nc_refs` it is whether a
-//! configuration is valid. It stands on the schema and on the places of a configuration, which `nc_defaults` lists.
+//! configuration is valid. It stands on the schema and on the places of a configuration, which `nc_defaults`
+//! lists.
 //!
 //! `first_structural` gives exactly the first of the violations that the definition
 //! `structural_violations` lists, whatever the schema and the rows are. It looks at one place after

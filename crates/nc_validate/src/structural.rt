@@ -101,7 +101,8 @@ fn first_of_uniques<'a>(
     Ok(found)
 }
 
-// Whether nothing is asked of a data node, as of most: it is of no case, and its count and its entries are free.
+// Whether nothing is asked of a data node, as of most: it is of no case, and its count and its entries are
+// free.
 #[tactic(auto, using(crate::proofs::FreeLemmas::none_asked))]
 fn is_free(node: &Node) -> bool
     ensures { (tables : Tables) (place : Place) (number : ℕ) → result ≡ true →

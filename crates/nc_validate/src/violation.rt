@@ -37,8 +37,8 @@ fn violation_cause(alloc: Global, violation: Violation) -> Cause
     }
 }
 
-/// The first constraint that a configuration breaks (RFC 7950 8.1), as the cause of a refusal. `None` means that it is
-/// valid.
+/// The first constraint that a configuration breaks (RFC 7950 8.1), as the cause of a refusal. `None` means
+/// that it is valid.
 pub fn violation_in(
     alloc: Global,
     schema: &Schema,

@@ -1,5 +1,5 @@
--- Through how many types a value is read. A leafref asks the type of the leaf to which it leads, and a union each of its
--- member types (RFC 7950 9.9, 9.12); a value is read through 64 types at most, one after another.
+-- Through how many types a value is read. A leafref asks the type of the leaf to which it leads, and a union each of
+-- its member types (RFC 7950 9.9, 9.12); a value is read through 64 types at most, one after another.
 use Rattle.std.specs.Prelude.{◌≡◌, ℕ, zero, suc, Bool, false, if◌then◌else◌, Option, Some, None, option_map, slice_get, is_some}
 use Rattle.std.specs.List.{list_any}
 use Rattle.std.specs.Option.{option_map_or}

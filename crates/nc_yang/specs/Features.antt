@@ -14,7 +14,8 @@ use Rattle.nc_yang_texts.specs.declared.text.ModuleText.{ModuleText}
 -- a line names that feature of the module of a text
 abbrev pub names_it : List Statement → ℕ → List ℕ → List ℕ → Bool
 names_it texts text feature line =
-    has_colon line && (is_same_number (text_of texts (prefix_of line)) (Some text) && is_same_text (local_of line) feature)
+    has_colon line && (is_same_number (text_of texts (prefix_of line)) (Some text)
+    && is_same_text (local_of line) feature)
 
 -- the features that lines name: each by the text of its module and its name
 abbrev pub is_given : List Statement → List (List ℕ) → FeatureTest
@@ -30,7 +31,8 @@ has_feature texts feature text = not (has_colon feature) && is_some (resolved te
 
 -- a line names a feature of one of the modules
 abbrev pub is_feature : List Statement → List ℕ → Bool
-is_feature texts line = has_colon line && option_map_or (has_feature texts (local_of line)) (text_of texts (prefix_of line)) false
+is_feature texts line =
+    has_colon line && option_map_or (has_feature texts (local_of line)) (text_of texts (prefix_of line)) false
 
 -- the first of these lines that names no feature of one of these modules
 pub record IsFirstOther (texts : List Statement) (lines : List (List ℕ)) (place : ℕ) : Type 0 where

@@ -32,7 +32,8 @@ use Rattle.nc_yang.specs.Features.{is_given}
 
 -- texts whose statements keep all rules that need no data node, the numbers of these statements, and the features that
 -- are on by the lines that name some
-pub record IsBegun (modules : List ModuleText) (lines : List (List ℕ)) (scoping : Scoping) (on : FeatureTest) : Type 0 where
+pub record IsBegun (modules : List ModuleText) (lines : List (List ℕ)) (scoping : Scoping)
+    (on : FeatureTest) : Type 0 where
   pub read : HaveStatements modules scoping.texts
   pub keeps : KeepsTexts scoping.texts
   pub numbers : IsScoping scoping
@@ -59,15 +60,16 @@ pub record IsTypedOf (scoping : Scoping) (on : FeatureTest) (plan : Plan) (typed
   pub shallow : KeepsDepth scoping plan (without_patterns typed)
   pub defaults : KeepsDefaults scoping plan (without_patterns typed)
 
--- the schema of a plan of data nodes, which keep their rules: leafs and leaf-lists have their types, and then their defaults
+-- the schema of a plan of data nodes, which keep their rules: leafs and leaf-lists have their types, and then their
+-- defaults
 pub record IsSchemaOf (scoping : Scoping) (on : FeatureTest) (plan : Plan) (tables : Tables) : Type 0 where
   pub typed : Tables
   pub is : IsTypedOf scoping on plan typed
   pub defaults : HasDefaults scoping plan typed tables
 
--- data nodes of a plan break a rule: one on a data node or choice in its place; a leafref leads in a circle; the path of
--- a leafref leads nowhere; a value is read through too many types; a default suits no type, whatever its patterns, or only
--- by these. A rule on what others define is asked where these keep theirs
+-- data nodes of a plan break a rule: one on a data node or choice in its place; a leafref leads in a circle; the path
+-- of a leafref leads nowhere; a value is read through too many types; a default suits no type, whatever its patterns,
+-- or only by these. A rule on what others define is asked where these keep theirs
 pub data BreaksPlan (scoping : Scoping) (on : FeatureTest) (plan : Plan) : TextFault → Type 0 where
   in_place : (found : TextFault) → Contains (data_faults scoping on plan) found → BreaksPlan scoping on plan found
   circle : (found : TextFault) → data_faults scoping on plan ≡ [] → BreaksCircle (basis scoping on plan) found
@@ -77,14 +79,16 @@ pub data BreaksPlan (scoping : Scoping) (on : FeatureTest) (plan : Plan) : TextF
   deep : (found : TextFault) (typed : Tables) → data_faults scoping on plan ≡ [] → HasNoCircle (basis scoping on plan)
       → IsTyped (AreNames scoping on) (basis scoping on plan) typed
       → BreaksDepth scoping plan (without_patterns typed) found → BreaksPlan scoping on plan found
-  default : (found : TextFault) (typed : Tables) → data_faults scoping on plan ≡ [] → HasNoCircle (basis scoping on plan)
+  default : (found : TextFault) (typed : Tables) → data_faults scoping on plan ≡ []
+      → HasNoCircle (basis scoping on plan)
       → IsTyped (AreNames scoping on) (basis scoping on plan) typed
       → BreaksDefault scoping plan (without_patterns typed) found → BreaksPlan scoping on plan found
   by_pattern : (found : TextFault) (typed : Tables) → IsTypedOf scoping on plan typed
       → BreaksDefault scoping plan typed found → BreaksPlan scoping on plan found
 
 -- a maker refused a pattern in use where all rules are kept in which no pattern is asked
-pub record RefusesPlan (scoping : Scoping) (on : FeatureTest) (plan : Plan) (refusals : Refusals) (found : TextFault) : Type 0 where
+pub record RefusesPlan (scoping : Scoping) (on : FeatureTest) (plan : Plan) (refusals : Refusals)
+    (found : TextFault) : Type 0 where
   pub typed : Tables
   pub is : IsTypedOf scoping on plan typed
   pub refused : IsRefused (basis scoping on plan) refusals found
@@ -118,8 +122,8 @@ pub record Defines (modules : List ModuleText) (lines : List (List ℕ)) (tables
   pub begun : IsBegun modules lines scoping on
   pub gives : GivesSchema scoping on tables
 
--- a file breaks a rule: its text has no statements; a rule on statements and names is broken; or a rule on types and data
--- nodes is, where texts keep theirs
+-- a file breaks a rule: its text has no statements; a rule on statements and names is broken; or a rule on types and
+-- data nodes is, where texts keep theirs
 pub data Breaks (modules : List ModuleText) (lines : List (List ℕ)) : ℕ → Fault → Type 0 where
   unread : (file : ℕ) (fault : Fault) → IsUnread modules file fault → Breaks modules lines file fault
   text : (texts : List Statement) (file : ℕ) (fault : Fault) → HaveStatements modules texts
@@ -128,7 +132,8 @@ pub data Breaks (modules : List ModuleText) (lines : List (List ℕ)) : ℕ → 
       → BreaksSchema scoping on (in_file file fault) → Breaks modules lines file fault
 
 -- a maker refused a pattern that modules use, and these keep all rules in which no pattern is asked
-pub record Refuses (modules : List ModuleText) (lines : List (List ℕ)) (refusals : Refusals) (found : TextFault) : Type 0 where
+pub record Refuses (modules : List ModuleText) (lines : List (List ℕ)) (refusals : Refusals)
+    (found : TextFault) : Type 0 where
   pub scoping : Scoping
   pub on : FeatureTest
   pub begun : IsBegun modules lines scoping on

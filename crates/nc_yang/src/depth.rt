@@ -67,7 +67,8 @@ fn asks(schema: &Schema, marks: &[bool], found: &ValueType) -> bool
 
 // A mark for each type that asks one that is marked.
 fn asking(alloc: Global, schema: &Schema, marks: &[bool]) -> Result<Many<bool>, Memory>
-    ensures { IfOk result (λ it. it ≡ map (words.asks schema.now (marked.is_marked marks.now)) schema.now.types) }
+    ensures { IfOk result (λ it. it ≡ map (words.asks schema.now
+        (marked.is_marked marks.now)) schema.now.types) }
 {
     let types = schema.types();
     let mut out = Many::new(alloc);

@@ -1,21 +1,22 @@
 //! The schema that YANG modules define (RFC 7950).
 //!
 //! It stands on a crate for each pass: nc_yang_texts reads module texts and knows the rules that need no data
-//! node, nc_yang_nodes has features and the data nodes in order, nc_yang_meanings what types mean, nc_yang_data
-//! the nodes with their keys, cases and `unique` leafs, nc_yang_circles leafrefs in circles, nc_yang_leafs the
-//! table of types, nc_yang_identities the identities in it, and nc_yang_defaults the defaults. The expressions of
-//! patterns are made by a maker of nc_patterns that is handed in.
+//! node, nc_yang_nodes has features and the data nodes in order, nc_yang_meanings what types mean,
+//! nc_yang_data the nodes with their keys, cases and `unique` leafs, nc_yang_circles leafrefs in circles,
+//! nc_yang_leafs the table of types, nc_yang_identities the identities in it, and nc_yang_defaults the
+//! defaults. The expressions of patterns are made by a maker of nc_patterns that is handed in.
 //!
-//! Before the modules that are handed in stands ietf-netconf-acm, whose text is a definition (RFC 8341 3.5.2).
-//! `compile` promises the schema that modules define, a proper one with canonical defaults, or a rule that a
-//! file breaks, or a pattern that the maker refused; `first_unknown_feature` the first line that names no feature
-//! of the modules. By the law `types_mean`, in modules that keep all rules each `type` statement means something,
-//! and so does each member of a union, down to the last; by `planned_types_mean` each leaf and leaf-list of a
-//! plan has such a type, and by `data_types_mean` each one of a schema. By `modules_are_proper` the modules of a
-//! schema have names and namespaces of their own; the whole schema is proper by `schemas_are_proper`, and each
-//! default in it is a canonical text by `defaults_are_canonical`. By `never_both` modules that break a rule have
-//! no schema, and by `one_schema` the others have one, but for the numbers of its types. By
-//! `rules_refuse_nothing` PatternRefused is the reason of no rule: it comes only where the maker refused.
+//! Before the modules that are handed in stands ietf-netconf-acm, whose text is a definition (RFC 8341
+//! 3.5.2). `compile` promises the schema that modules define, a proper one with canonical defaults, or a rule
+//! that a file breaks, or a pattern that the maker refused; `first_unknown_feature` the first line that names
+//! no feature of the modules. By the law `types_mean`, in modules that keep all rules each `type` statement
+//! means something, and so does each member of a union, down to the last; by `planned_types_mean` each leaf
+//! and leaf-list of a plan has such a type, and by `data_types_mean` each one of a schema. By
+//! `modules_are_proper` the modules of a schema have names and namespaces of their own; the whole schema is
+//! proper by `schemas_are_proper`, and each default in it is a canonical text by `defaults_are_canonical`. By
+//! `never_both` modules that break a rule have no schema, and by `one_schema` the others have one, but for
+//! the numbers of its types. By `rules_refuse_nothing` PatternRefused is the reason of no rule: it comes only
+//! where the maker refused.
 #![tactic(auto)]
 
 mod access;

@@ -118,8 +118,8 @@ impl<'s, 'a> Names<'s, 'a> {
         names_of(alloc, self.scopes, self.spaces, numbers.as_slice())
     }
 
-    /// Whether the `base` statements of these numbers are known to name the same identities as the others: then
-    /// names that are derived from these are derived from those too, whichever features are on.
+    /// Whether the `base` statements of these numbers are known to name the same identities as the others:
+    /// then names that are derived from these are derived from those too, whichever features are on.
     pub(crate) fn are_alike(&self, bases: &[usize], others: &[usize]) -> bool
         ensures { result ≡ true → (on : FeatureTest)
             → AreAlike (AreNames self.now on) self.now.located bases.now others.now }

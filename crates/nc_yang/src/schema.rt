@@ -73,7 +73,8 @@ fn with_types<'a>(
     requires spaces { spaces.now ≡ map namespace_in scopes.now.texts }
     requires prefixes { ArePrefixes scopes.now.texts prefixes.now }
     ensures { MatchResult result
-        (AreTypings (schemas.AreNames scopes.now (is_on features.now)) (schemas.basis scopes.now (is_on features.now) plan.now))
+        (AreTypings (schemas.AreNames scopes.now (is_on features.now)) (schemas.basis scopes.now
+        (is_on features.now) plan.now))
         (OnBroken (BreaksLeafref (schemas.basis scopes.now (is_on features.now) plan.now))) }
 {
     let names = Names::of(alloc, scopes, spaces)?;
@@ -86,8 +87,8 @@ fn with_types<'a>(
     )
 }
 
-// The schema with the patterns of its types and the defaults of leafs and leaf-lists. These are looked at without
-// the patterns before they are with them, and where no value is read through too many types.
+// The schema with the patterns of its types and the defaults of leafs and leaf-lists. These are looked at
+// without the patterns before they are with them, and where no value is read through too many types.
 fn finished<M: Maker>(
     alloc: Global,
     scopes: &Scopes,
@@ -99,7 +100,8 @@ fn finished<M: Maker>(
     requires prefixes { ArePrefixes scopes.now.texts prefixes.now }
     requires ready { IsReady scopes.now plan.now typed.schema }
     requires readable { All (All (IsReadable scopes.now.located)) typed.patterns }
-    ensures { MatchResult result (Finishes scopes.now plan.now typed) (OnBroken (Ends scopes.now plan.now typed
+    ensures { MatchResult result (Finishes scopes.now plan.now typed) (OnBroken
+        (Ends scopes.now plan.now typed
         (refusing (M.refusals maker.old) (M.refusals maker.new) (M.last_refused maker.new)))) }
 {
     keep_depth(alloc, scopes, plan, &typed.schema)?;

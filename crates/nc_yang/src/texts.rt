@@ -132,12 +132,13 @@ fn of_modules<M: Maker>(
 }
 
 /// The schema that modules define (RFC 7950), with those features on which lines name, each `module:feature`:
-/// its data nodes and choices in document order, module after module, with groupings in place, their types and
-/// defaults; or a rule that is broken, or a limit that is passed, at its file and line. Before these modules
-/// comes ietf-netconf-acm, which they may import, so that its 22 data nodes have the numbers from 0 to 21 (RFC
-/// 8341 3.5.2). A line that names no feature of the modules counts for nothing. The expressions of patterns are
-/// made by `maker`; where it refuses one, and so its count of refusals rises, the answer is PatternRefused at
-/// that `pattern` statement, and all rules are kept in which no pattern is asked (RFC 7950 9.4.5).
+/// its data nodes and choices in document order, module after module, with groupings in place, their types
+/// and defaults; or a rule that is broken, or a limit that is passed, at its file and line. Before these
+/// modules comes ietf-netconf-acm, which they may import, so that its 22 data nodes have the numbers from 0
+/// to 21 (RFC 8341 3.5.2). A line that names no feature of the modules counts for nothing. The expressions of
+/// patterns are made by `maker`; where it refuses one, and so its count of refusals rises, the answer is
+/// PatternRefused at that `pattern` statement, and all rules are kept in which no pattern is asked (RFC 7950
+/// 9.4.5).
 #[tactic(auto, using(crate::proofs::ProperSchema::proper, crate::proofs::ProperSchema::canonical))]
 pub fn compile<M: Maker>(
     alloc: Global,

@@ -29,7 +29,8 @@ pub record Refers (b : Basis) (leaf : ℕ) (path : Located) (target : ℕ) : Typ
 -- a leaf leads to another in any number of steps
 pub data Reaches (b : Basis) : ℕ → ℕ → Type 0 where
   itself : (leaf : ℕ) → Reaches b leaf leaf
-  through : (leaf : ℕ) (path : Located) (next last : ℕ) → Refers b leaf path next → Reaches b next last → Reaches b leaf last
+  through : (leaf : ℕ) (path : Located) (next last : ℕ) → Refers b leaf path next → Reaches b next last
+      → Reaches b leaf last
 
 -- at a `path` statement
 abbrev pub fault_at : Located → TextFault

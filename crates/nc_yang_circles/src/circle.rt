@@ -77,10 +77,10 @@ fn found(alloc: Global, site: &Site, links: &[Many<Link>]) -> Result<Option<Text
     }
 }
 
-/// A leafref by whose path a leaf or leaf-list leads back to itself, directly or through others (RFC 7950 9.9.2),
-/// or `None` where there is none: the fault is at its `path` statement. The leafrefs of a leaf are its type and the
-/// members of its type, down to the last. A path that leads to no leaf or leaf-list leads nowhere on. `schema` has
-/// the data nodes of the plan, by their numbers.
+/// A leafref by whose path a leaf or leaf-list leads back to itself, directly or through others (RFC 7950
+/// 9.9.2), or `None` where there is none: the fault is at its `path` statement. The leafrefs of a leaf are
+/// its type and the members of its type, down to the last. A path that leads to no leaf or leaf-list leads
+/// nowhere on. `schema` has the data nodes of the plan, by their numbers.
 pub fn first_circle(
     alloc: Global,
     scopes: &Scopes,

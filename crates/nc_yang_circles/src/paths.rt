@@ -51,8 +51,8 @@ fn type_paths(
     plan_paths(alloc, meanings, marks, plan)
 }
 
-/// The numbers of the `path` statements of the type of a data node, if it is a leafref, or of the leafrefs among
-/// its members.
+/// The numbers of the `path` statements of the type of a data node, if it is a leafref, or of the leafrefs
+/// among its members.
 pub(crate) fn paths(alloc: Global, site: &Site, leaf: u32) -> Result<Many<usize>, Memory>
     requires { HasMarks site.now }
     ensures { IfOk result (λ it. OnMeanings site.now (λ b. words.ArePaths b leaf it)) }

@@ -127,8 +127,8 @@ fn walked(
     Err(Memory)
 }
 
-/// The numbers of the `path` statements of a plan that is a leafref, or of the leafrefs among its members. What is
-/// not marked is passed over.
+/// The numbers of the `path` statements of a plan that is a leafref, or of the leafrefs among its members.
+/// What is not marked is passed over.
 pub(crate) fn plan_paths(
     alloc: Global,
     meanings: &Meanings,

@@ -18,7 +18,8 @@ use Rattle.nc_yang_data.specs.declared.place.Leafs.{Leafs}
 
 -- the data nodes by their statements alone
 abbrev pub drafts : Scoping → Plan → Tables
-drafts scoping plan = record { nodes = map (draft_at scoping) plan.nodes; choices = []; types = []; modules = []; patterns = [] }
+drafts scoping plan =
+    record { nodes = map (draft_at scoping) plan.nodes; choices = []; types = []; modules = []; patterns = [] }
 
 -- a data node with its keys and unique leafs
 abbrev pub with_leafs : Node → Leafs → Node

@@ -39,7 +39,8 @@ fn push_import<'a>(
     found: &mut Many<Bound>,
 ) -> Result<(), Memory>
     requires { spaces.now ≡ map words.namespace_in scopes.now.texts }
-    ensures { OnOk result (found.new ≡ found.old ++ words.import_bounds scopes.now.texts (statement.now ∷ [])) }
+    ensures { OnOk result (found.new ≡ found.old ++ words.import_bounds scopes.now.texts
+        (statement.now ∷ [])) }
 {
     if !is_same_keyword(Keyword::Import, kind(statement)) {
         return Ok(());
@@ -91,7 +92,8 @@ pub fn prefixes<'a>(
     Ok(found)
 }
 
-/// The prefixes of each text, with the namespaces for which they stand. The namespaces of all texts are given.
+/// The prefixes of each text, with the namespaces for which they stand. The namespaces of all texts are
+/// given.
 pub fn all_prefixes<'a>(
     alloc: Global,
     scopes: &Scopes<'a>,

@@ -182,7 +182,8 @@ fn placed_fault<'a>(
     statement: usize,
     choice: &Choice,
 ) -> Option<TextFault>
-    ensures { result ≡ rules.first (defaults.placed_faults scopes.now schema.now plan.now statement choice.now) }
+    ensures { result ≡ rules.first (defaults.placed_faults scopes.now schema.now plan.now statement
+        choice.now) }
 {
     match carrier(schema, choice.parent, choice.within.as_slice()) {
         Some(above) => forbidden(scopes, schema, plan, outermost(schema, above)),
@@ -204,7 +205,8 @@ fn asking_fault<'a>(
     statement: usize,
     choice: &Choice,
 ) -> Option<TextFault>
-    ensures { result ≡ rules.first (defaults.asking_faults scopes.now schema.now plan.now statement choice.now) }
+    ensures { result ≡ rules.first (defaults.asking_faults scopes.now schema.now plan.now statement
+        choice.now) }
 {
     if choice.mandatory {
         placed_fault(scopes, schema, plan, statement, choice)

@@ -5,12 +5,11 @@
 //! It stands on the plan of nc_yang_nodes, the statements of nc_yang_scopes, and the schema of nc_schema.
 //!
 //! `data_nodes` promises exactly the defined tables where no rule is broken, and else the first rule that is;
-//! by the law `data_is_in_place` the data nodes and choices then are in place as those of a proper schema, and by
-//! `data_is_fixed` they do not depend on which plan of the modules is taken.
-//! `prefixes` promises the prefixes of a text with their namespaces, `all_prefixes` those of each text, and `namespaces`
-//! the namespaces of all texts.
-//! First each node is made by its statement alone; then each again, with the leafs that it names among those.
-//! The folders of cases/ test it.
+//! by the law `data_is_in_place` the data nodes and choices then are in place as those of a proper schema,
+//! and by `data_is_fixed` they do not depend on which plan of the modules is taken. `prefixes` promises the
+//! prefixes of a text with their namespaces, `all_prefixes` those of each text, and `namespaces` the
+//! namespaces of all texts. First each node is made by its statement alone; then each again, with the leafs
+//! that it names among those. The folders of cases/ test it.
 #![tactic(auto)]
 
 mod again;

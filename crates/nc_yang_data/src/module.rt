@@ -51,7 +51,8 @@ fn push_feature<'a>(
     found: &mut Many<Text>,
     statement: &'a Statement,
 ) -> Result<(), Memory>
-    ensures { OnOk result (found.new ≡ found.old ++ modules.features_in (is_on features.now) text (statement.now ∷ [])) }
+    ensures { OnOk result (found.new ≡ found.old ++ modules.features_in (is_on features.now) text
+        (statement.now ∷ [])) }
 {
     if is_same_keyword(Keyword::Feature, kind(statement)) && features.is_on(text, name(statement)) {
         found.push(Text::from_text(alloc, name(statement))?)?;

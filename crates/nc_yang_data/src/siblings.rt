@@ -227,8 +227,8 @@ fn first_of_nodes<'a>(scopes: &Scopes<'a>, called: &Called<'a>, plan: &Plan) -> 
     None
 }
 
-/// The first choice or data node that has the name of a choice of its parent (RFC 7950 6.2.1, 7.9.2): the later of
-/// the two.
+/// The first choice or data node that has the name of a choice of its parent (RFC 7950 6.2.1, 7.9.2): the
+/// later of the two.
 #[tactic(auto, using(nc_yang_statements::proofs::Firsts::first_some, nc_yang_statements::proofs::Firsts::first_none))]
 pub(crate) fn first_twin<'a>(
     alloc: Global,

@@ -266,9 +266,10 @@ fn fill<'a>(
 /// The data nodes and choices that modules define, with their names, kinds, cases, counts, keys and `unique`
 /// leafs, and the modules themselves: all of a schema but types, and what takes them, defaults and access
 /// control's statements. The plan is that of `plan_of` for these texts and features. Instead comes the first
-/// rule that a data node or a choice breaks in its place: its name is there already (RFC 7950 6.2.1, 7.9.2), a
-/// list has no keys, or its `key` or `unique` statement names no such leaf (RFC 7950 7.8.2, 7.8.3); or a
-/// mandatory node stands directly in a default case (RFC 7950 7.9.3), or a key has a condition (RFC 7950 7.20.2).
+/// rule that a data node or a choice breaks in its place: its name is there already (RFC 7950 6.2.1, 7.9.2),
+/// a list has no keys, or its `key` or `unique` statement names no such leaf (RFC 7950 7.8.2, 7.8.3); or a
+/// mandatory node stands directly in a default case (RFC 7950 7.9.3), or a key has a condition (RFC 7950
+/// 7.20.2).
 #[tactic(auto, using(nc_yang_nodes::proofs::Sound::plan_is_sound, crate::proofs::TextLemmas::none_first))]
 pub fn data_nodes<'a>(
     alloc: Global,

@@ -15,7 +15,8 @@ fn count_black(text: &[u8]) -> usize
 
 /// What stands before white space, and the text after that white space, if there is any.
 pub(crate) fn next_part(text: &str) -> (&str, Option<&str>)
-    ensures { slice_split is_white text.now ≡ result.0.now ∷ parts_of (option_map (λ rest. rest.now) result.1) }
+    ensures { slice_split is_white text.now ≡ result.0.now ∷ parts_of (option_map
+        (λ rest. rest.now) result.1) }
 {
     let at = count_black(text.as_bytes());
     if at >= text.len() {
@@ -28,7 +29,8 @@ pub(crate) fn next_part(text: &str) -> (&str, Option<&str>)
 
 /// What stands before a slash, and the text after that slash, if there is one.
 pub(crate) fn next_name(text: &str) -> (&str, Option<&str>)
-    ensures { slice_split (λ c. c == slash) text.now ≡ result.0.now ∷ names_of (option_map (λ rest. rest.now) result.1) }
+    ensures { slice_split (λ c. c == slash) text.now ≡ result.0.now ∷ names_of (option_map
+        (λ rest. rest.now) result.1) }
 {
     match text.split_once('/') {
         Some((name, rest)) => (name, Some(rest)),

@@ -49,8 +49,8 @@ fn marks_of(reach: Reach) -> Many<bool>
 }
 
 impl<'s, 'a> Identities<'s, 'a> {
-    /// The identities of these texts. Contracts see it as the texts with their statements. Time and memory grow with
-    /// the number of identities and their bases.
+    /// The identities of these texts. Contracts see it as the texts with their statements. Time and memory
+    /// grow with the number of identities and their bases.
     pub fn of(alloc: Global, scopes: &'s Scopes<'a>) -> Result<Identities<'s, 'a>, Memory>
         ensures { IfOk result (λ it. it ≡ scopes.now) }
     {
@@ -112,8 +112,8 @@ impl<'s, 'a> Identities<'s, 'a> {
         Ok(kept)
     }
 
-    /// The numbers of the identities that are values of a type with the `base` statements of these numbers (RFC 7950
-    /// 9.10.2), in the order of the texts and of the statements in them.
+    /// The numbers of the identities that are values of a type with the `base` statements of these numbers
+    /// (RFC 7950 9.10.2), in the order of the texts and of the statements in them.
     pub fn derived(
         &self,
         alloc: Global,

@@ -38,7 +38,8 @@ type_of scoping plan number = option_and_then (part_of TypeName) (statement_of s
 
 -- where a `path` statement leads from a data node, with the prefixes of the text in which it stands (RFC 7950 9.9.2)
 abbrev pub leads : Scoping → Tables → ℕ → Located → Option LeafrefEnd
-leads scoping given number path = leafref_end given number (name path.statement) (prefixes_in scoping.texts path.place.text)
+leads scoping given number path =
+    leafref_end given number (name path.statement) (prefixes_in scoping.texts path.place.text)
 
 -- each leaf and leaf-list has a type that means something with all its members
 abbrev pub AllMeanWhole : Basis → Type 0

@@ -14,7 +14,8 @@ abbrev pub fault_at : Located → TextFault
 fault_at path =
     record { text = path.place.text; fault = record { line = line path.statement; why = UnknownName } }
 
--- the `path` of a leafref that the type of a leaf or leaf-list is, or that is one of its members, leads nowhere from there
+-- the `path` of a leafref that the type of a leaf or leaf-list is, or that is one of its members, leads nowhere from
+-- there
 pub record BreaksLeafref (b : Basis) (fault : TextFault) : Type 0 where
   pub number : ℕ
   pub node : Node

@@ -22,7 +22,8 @@ is_marked marks plan = unwrap_or (slice_get marks plan) true
 
 -- a member type has a plan that has none
 abbrev pub is_unmarked_at : List Finding → List Bool → ℕ → Bool
-is_unmarked_at findings marks member = option_map_or (λ plan. not (is_marked marks plan)) (plan_at findings member) false
+is_unmarked_at findings marks member =
+    option_map_or (λ plan. not (is_marked marks plan)) (plan_at findings member) false
 
 abbrev pub are_unmarked : List Finding → List Bool → List ℕ → Bool
 are_unmarked findings marks members = list_all (is_unmarked_at findings marks) members

@@ -58,7 +58,8 @@ abbrev pub text_at : List Located → ℕ → Option (List ℕ)
 text_at located statement = option_map (λ l. name l.statement) (slice_get located statement)
 
 -- a type has the patterns of these statements
-pub record HasItsPatterns (located : List Located) (statements : List ℕ) (entry : ValueType) (tables : Tables) (place : ℕ) : Type 0 where
+pub record HasItsPatterns (located : List Located) (statements : List ℕ) (entry : ValueType) (tables : Tables)
+    (place : ℕ) : Type 0 where
   pub numbers : List ℕ
   pub texts : List (List ℕ)
   pub are : map (text_at located) statements ≡ map Some texts
@@ -95,7 +96,8 @@ abbrev pub refused_at : Located → TextFault
 refused_at l = refused_in l.place.text (line l.statement)
 
 -- it refused the pattern of one of these statements
-pub record RefusesOne (located : List Located) (statements : List ℕ) (refusals : Refusals) (fault : TextFault) : Type 0 where
+pub record RefusesOne (located : List Located) (statements : List ℕ) (refusals : Refusals)
+    (fault : TextFault) : Type 0 where
   pub statement : ℕ
   pub one : Contains statements statement
   pub pattern : Located

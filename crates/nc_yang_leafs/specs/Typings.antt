@@ -45,7 +45,8 @@ numbers_of (OneOf members) (UnionType numbers) = numbers
 numbers_of m entry = []
 
 -- in a table of types, those numbers are of what `type` statements mean, one after another
-pub data HasTypes (means : Located → Meaning → Type 0) (is : Meaning → ValueType → Type 0) (types : List ValueType) : List Located → List ℕ → Type 0 where
+pub data HasTypes (means : Located → Meaning → Type 0) (is : Meaning → ValueType → Type 0)
+    (types : List ValueType) : List Located → List ℕ → Type 0 where
   none : HasTypes means is types [] []
   one_more : (l : Located) (ls : List Located) (number : ℕ) (numbers : List ℕ) (m : Meaning) (entry : ValueType)
       → means l m → slice_get types number ≡ Some entry → is m entry
@@ -56,7 +57,8 @@ pub data HasTypes (means : Located → Meaning → Type 0) (is : Meaning → Val
 abbrev pub HasType : (derived : List Located → List QName → Type 0) → (named : List ℕ → List Located → Type 0) → Basis →
     (types : List ValueType) → (node : ℕ) → Located → ℕ → Type 0
 HasType derived named b types node l number =
-    HasTypes (Means b.on b.scoping.texts) (IsEntry derived named (leads b.scoping b.given node)) types (l ∷ []) (number ∷ [])
+    HasTypes (Means b.on b.scoping.texts) (IsEntry derived named (leads b.scoping b.given node)) types (l ∷ [])
+    (number ∷ [])
 
 -- a `type` statement is that one, or one of its members, down to the last (RFC 7950 9.12)
 pub data IsAmong (on : ℕ → List ℕ → Bool) (texts : List Statement) (top : Located) : Located → Type 0 where
@@ -65,7 +67,8 @@ pub data IsAmong (on : ℕ → List ℕ → Bool) (texts : List Statement) (top 
       → Contains members l → IsAmong on texts top l
 
 -- an entry is of the type of a data node of a kind, or of one of its members
-pub record IsOfType (derived : List Located → List QName → Type 0) (named : List ℕ → List Located → Type 0) (b : Basis) (types : List ValueType) (number : ℕ) (kind : Kind) (entry : ℕ) : Type 0 where
+pub record IsOfType (derived : List Located → List QName → Type 0) (named : List ℕ → List Located → Type 0)
+    (b : Basis) (types : List ValueType) (number : ℕ) (kind : Kind) (entry : ℕ) : Type 0 where
   pub valued : IsTrue (has_value kind)
   pub of_type : Located
   pub is : type_of b.scoping b.plan number ≡ Some of_type
@@ -77,11 +80,14 @@ pub record IsOfType (derived : List Located → List QName → Type 0) (named : 
 abbrev pub IsInUse : (derived : List Located → List QName → Type 0) → (named : List ℕ → List Located → Type 0) → Basis →
     (types : List ValueType) → (entry : ℕ) → Type 0
 IsInUse derived named b types entry =
-    (number : ℕ) × (node : Node) × (slice_get b.given.nodes number ≡ Some node) × IsOfType derived named b types number node.kind entry
+    (number : ℕ) × (node : Node) × (slice_get b.given.nodes number ≡ Some node)
+    × IsOfType derived named b types number node.kind entry
 
 -- a data node of a kind has that type: a leaf or leaf-list what its `type` statement means, and any other 0
-pub record HasItsType (derived : List Located → List QName → Type 0) (named : List ℕ → List Located → Type 0) (b : Basis) (types : List ValueType) (number : ℕ) (kind : Kind) (kind_of_value : ℕ) : Type 0 where
-  pub valued : IsTrue (has_value kind) → (l : Located) → type_of b.scoping b.plan number ≡ Some l → HasType derived named b types number l kind_of_value
+pub record HasItsType (derived : List Located → List QName → Type 0) (named : List ℕ → List Located → Type 0)
+    (b : Basis) (types : List ValueType) (number : ℕ) (kind : Kind) (kind_of_value : ℕ) : Type 0 where
+  pub valued : IsTrue (has_value kind) → (l : Located) → type_of b.scoping b.plan number ≡ Some l
+      → HasType derived named b types number l kind_of_value
   pub other : IsFalse (has_value kind) → kind_of_value ≡ 0
 
 -- a data node as it was, but for the number of its type
@@ -89,12 +95,14 @@ abbrev pub IsSameNode : Node → Node → Type 0
 IsSameNode old new = new ≡ record old { kind_of_value = new.kind_of_value }
 
 -- the schema with types, whose strings have those numbers of patterns
-pub record HasTypings (derived : List Located → List QName → Type 0) (named : List ℕ → List Located → Type 0) (b : Basis) (tables : Tables) : Type 0 where
+pub record HasTypings (derived : List Located → List QName → Type 0) (named : List ℕ → List Located → Type 0)
+    (b : Basis) (tables : Tables) : Type 0 where
   pub modules : tables.modules ≡ b.given.modules
   pub choices : tables.choices ≡ b.given.choices
   pub counted : length tables.nodes ≡ length b.given.nodes
   pub nodes : EachNode b.given (λ number old.
-      IsSomeAnd (slice_get tables.nodes number) (λ new. IsSameNode old new × HasItsType derived named b tables.types number new.kind new.kind_of_value))
+      IsSomeAnd (slice_get tables.nodes number) (λ new. IsSameNode old new
+      × HasItsType derived named b tables.types number new.kind new.kind_of_value))
   pub entries : (number : ℕ) → number < length tables.types → IsInUse derived named b tables.types number
 
 -- the schema with types and their patterns

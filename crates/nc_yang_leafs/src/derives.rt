@@ -21,8 +21,8 @@ pub trait Derives {
     fn names(&self, alloc: Global, bases: &[usize]) -> Result<Many<QName>, Memory>
         ensures { IfOk result (HaveNames (derived self.now) (located self.now) bases.now) };
 
-    /// Whether the names for the `base` statements of these numbers are known to be names for the others too, as
-    /// they are where these name the same identities.
+    /// Whether the names for the `base` statements of these numbers are known to be names for the others too,
+    /// as they are where these name the same identities.
     fn are_alike(&self, bases: &[usize], others: &[usize]) -> bool
         ensures { result ≡ true → AreAlike (derived self.now) (located self.now) bases.now others.now };
 }

@@ -115,7 +115,8 @@ pub(crate) fn entry<D: Derives>(
 ) -> Result<ValueType, Stop<TextFault>>
     requires prefixes { HasPrefixes site.now }
     requires located { D.located identities.now ≡ site.now.scopes.now.located }
-    ensures ok { IfOk result (words.Enters (D.derived identities.now) (work site.now node) planned.now table.old table.new) }
+    ensures ok { IfOk result (words.Enters (D.derived identities.now)
+        (work site.now node) planned.now table.old table.new) }
     ensures fault { IfErr result (OnBroken (words.IsLost (work site.now node) planned.now)) }
 {
     match planned {

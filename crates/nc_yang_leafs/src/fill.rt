@@ -26,7 +26,8 @@ impl Table {
     ) -> Result<(), Stop<TextFault>>
         requires prefixes { HasPrefixes site.now }
         requires located { D.located identities.now ≡ site.now.scopes.now.located }
-        ensures ok { OnOk result (words.Adds (D.derived identities.now) (work site.now node) plan self.old self.new) }
+        ensures ok { OnOk result (words.Adds (D.derived identities.now)
+            (work site.now node) plan self.old self.new) }
         ensures fault { IfErr result (OnBroken (words.LosesPlan (work site.now node) plan)) }
     {
         let Some(planned) = site.meanings.plans.get(plan) else {
@@ -47,8 +48,10 @@ impl Table {
     ) -> Result<(), Stop<TextFault>>
         requires prefixes { HasPrefixes site.now }
         requires located { D.located identities.now ≡ site.now.scopes.now.located }
-        ensures ok { OnOk result ((on : ℕ → List ℕ → Bool) → AreMeanings on site.now.scopes.now site.now.meanings.now
-            → (top : Located) → words.IsAtStart (D.derived identities.now) on (work site.now node) top self.old
+        ensures ok { OnOk result ((on : ℕ → List ℕ → Bool)
+            → AreMeanings on site.now.scopes.now site.now.meanings.now
+            → (top : Located) → words.IsAtStart (D.derived identities.now) on
+            (work site.now node) top self.old
             → words.Fills (D.derived identities.now) on (work site.now node) top self.old self.new) }
         ensures fault { IfErr result (OnBroken (λ fault. (on : ℕ → List ℕ → Bool)
             → AreMeanings on site.now.scopes.now site.now.meanings.now → (top : Located)

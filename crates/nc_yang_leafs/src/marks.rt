@@ -133,8 +133,8 @@ fn along(alloc: Global, meanings: &Meanings) -> Result<Many<bool>, Memory> {
     Ok(marks)
 }
 
-/// Which plans may have a leafref in them, at any depth of unions: those that have one, or all where a union leads back
-/// to itself. What is not marked is neither a leafref nor a union with a member that is marked.
+/// Which plans may have a leafref in them, at any depth of unions: those that have one, or all where a union
+/// leads back to itself. What is not marked is neither a leafref nor a union with a member that is marked.
 pub fn marks_of(alloc: Global, meanings: &Meanings) -> Result<Many<bool>, Memory>
     ensures { IfOk result (words.AreMarks meanings.now) }
 {

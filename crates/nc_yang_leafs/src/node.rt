@@ -40,12 +40,16 @@ impl Table {
     ) -> Result<u32, Stop<TextFault>>
         requires prefixes { HasPrefixes site.now }
         requires located { D.located identities.now ≡ site.now.scopes.now.located }
-        ensures ok { IfOk result (λ it. (on : ℕ → List ℕ → Bool) → AreMeanings on site.now.scopes.now site.now.meanings.now
-            → IsReady (D.derived identities.now) (work site.now node) self.old → OnNumber site.now.scopes.now statement
-            (λ top. nodes.GivesNumber (D.derived identities.now) on (work site.now node) top self.old self.new it)) }
+        ensures ok { IfOk result (λ it. (on : ℕ → List ℕ → Bool)
+            → AreMeanings on site.now.scopes.now site.now.meanings.now
+            → IsReady (D.derived identities.now) (work site.now node) self.old
+            → OnNumber site.now.scopes.now statement
+            (λ top. nodes.GivesNumber (D.derived identities.now) on
+            (work site.now node) top self.old self.new it)) }
         ensures fault { IfErr result (OnBroken (λ fault. (on : ℕ → List ℕ → Bool)
             → AreMeanings on site.now.scopes.now site.now.meanings.now
-            → IsReady (D.derived identities.now) (work site.now node) self.old → OnNumber site.now.scopes.now statement
+            → IsReady (D.derived identities.now) (work site.now node) self.old
+            → OnNumber site.now.scopes.now statement
             (λ top. LosesPath on (work site.now node) top fault))) }
     {
         let Some(plan) = plan_for(site, statement) else {
@@ -69,10 +73,13 @@ impl Table {
         requires prefixes { HasPrefixes site.now }
         requires located { D.located identities.now ≡ site.now.scopes.now.located }
         ensures ok { IfOk result (λ it. (on : ℕ → List ℕ → Bool)
-            → nodes.MayGive (D.derived identities.now) (nodes.basis_of on site.now plan.now) (work site.now node) kind self.old
-            → nodes.Gives (D.derived identities.now) (nodes.basis_of on site.now plan.now) (work site.now node) kind self.old self.new it) }
+            → nodes.MayGive (D.derived identities.now) (nodes.basis_of on site.now plan.now)
+            (work site.now node) kind self.old
+            → nodes.Gives (D.derived identities.now) (nodes.basis_of on site.now plan.now)
+            (work site.now node) kind self.old self.new it) }
         ensures fault { IfErr result (OnBroken (λ fault. (on : ℕ → List ℕ → Bool)
-            → nodes.MayGive (D.derived identities.now) (nodes.basis_of on site.now plan.now) (work site.now node) kind self.old
+            → nodes.MayGive (D.derived identities.now) (nodes.basis_of on site.now plan.now)
+            (work site.now node) kind self.old
             → nodes.BreaksAt (nodes.basis_of on site.now plan.now) (work site.now node) kind fault)) }
     {
         if !kind.has_value() {

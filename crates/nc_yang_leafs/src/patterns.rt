@@ -216,10 +216,10 @@ fn set_all<M: Maker>(
 }
 
 /// A schema with the patterns of its string types, which are added in the order of the table of types, and of
-/// each type in the order of the text, those of the type on which it rests first (RFC 7950 9.4.5). The pattern
-/// of a statement is made once, however many types have it. It is a fault where the maker refuses one, and then
-/// the maker's count of refusals rose. Time and memory grow with the statements, the patterns of all types and
-/// what `regex` makes of the statements.
+/// each type in the order of the text, those of the type on which it rests first (RFC 7950 9.4.5). The
+/// pattern of a statement is made once, however many types have it. It is a fault where the maker refuses
+/// one, and then the maker's count of refusals rose. Time and memory grow with the statements, the patterns
+/// of all types and what `regex` makes of the statements.
 pub fn with_patterns<M: Maker>(
     alloc: Global,
     scopes: &Scopes,

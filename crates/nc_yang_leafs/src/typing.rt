@@ -159,13 +159,13 @@ fn types_of<D: Derives>(
     all_types(alloc, &site, identities, plan)
 }
 
-/// The schema that modules define with the types of its leafs and leaf-lists (RFC 7950 7.6.3, 7.7.3): the data
-/// nodes are those of the plan, by their numbers, and have no types yet. Types without a leafref in them have one
-/// entry for all data nodes, and types identityref whose `base` statements name the same identities in the same
-/// order have one together; one with a leafref has an entry for each data node that uses it, since its path
-/// starts there (RFC 7950 9.9.2). It is a fault where such a path leads to no leaf or leaf-list. Time and memory
-/// grow with the data nodes and the entries of the table. More than 2^32 - 2 entries are answered as want of
-/// memory. The patterns of strings have no numbers yet.
+/// The schema that modules define with the types of its leafs and leaf-lists (RFC 7950 7.6.3, 7.7.3): the
+/// data nodes are those of the plan, by their numbers, and have no types yet. Types without a leafref in them
+/// have one entry for all data nodes, and types identityref whose `base` statements name the same identities
+/// in the same order have one together; one with a leafref has an entry for each data node that uses it,
+/// since its path starts there (RFC 7950 9.9.2). It is a fault where such a path leads to no leaf or
+/// leaf-list. Time and memory grow with the data nodes and the entries of the table. More than 2^32 - 2
+/// entries are answered as want of memory. The patterns of strings have no numbers yet.
 pub fn typed<'a, D: Derives>(
     alloc: Global,
     scopes: &Scopes<'a>,

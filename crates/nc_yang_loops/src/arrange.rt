@@ -95,9 +95,9 @@ fn found(
     }
 }
 
-/// The numbers of all definitions of a sort, each once and after those that it names, or a statement in one of
-/// them that names one which leads back to it (RFC 7950 5.1, 7.3, 7.12, 7.18.2, 7.20.2). Time and memory grow
-/// with the number of statements, and nothing recurses along what is named.
+/// The numbers of all definitions of a sort, each once and after those that it names, or a statement in one
+/// of them that names one which leads back to it (RFC 7950 5.1, 7.3, 7.12, 7.18.2, 7.20.2). Time and memory
+/// grow with the number of statements, and nothing recurses along what is named.
 pub fn in_order(alloc: Global, scopes: &Scopes, sort: Defined) -> Result<Arranged, Memory>
     ensures { IfOk result (Arranges scopes.now sort) }
 {
@@ -128,8 +128,8 @@ fn circle_of(alloc: Global, scopes: &Scopes, sort: Defined) -> Result<Option<Tex
     Ok(circle_in(found))
 }
 
-/// A statement that names a definition which leads back to the one in which it stands, or `None` where there is
-/// none: an import, a type of a typedef, a `uses` in a grouping, a base of an identity or a condition of a
+/// A statement that names a definition which leads back to the one in which it stands, or `None` where there
+/// is none: an import, a type of a typedef, a `uses` in a grouping, a base of an identity or a condition of a
 /// feature (RFC 7950 5.1, 7.3, 7.12, 7.18.2, 7.20.2).
 pub fn first_loop(alloc: Global, scopes: &Scopes) -> Result<Option<TextFault>, Memory>
     ensures { IfOk result (λ it. MatchOption it (KeepsLoops scopes.now.texts)

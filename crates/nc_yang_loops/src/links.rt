@@ -133,7 +133,8 @@ fn link_of(
     if is_out(scopes, sort, found) {
         return Ok(None);
     }
-    // Every definition is marked: `resolve` answers the number that was met, and promises one of the same place.
+    // Every definition is marked: `resolve` answers the number that was met, and promises one of the same
+    // place.
     Err(Memory)
 }
 

@@ -37,4 +37,5 @@ HasDefault texts leaf of_type default =
 abbrev pub IsLeafDefault : Scoping → (leaf of_type : Located) → Option ℕ → Type 0
 IsLeafDefault scoping leaf of_type None = (default : Located) → HasDefault scoping.texts leaf of_type default → ⊥
 IsLeafDefault scoping leaf of_type (Some number) =
-    (default : Located) × (slice_get scoping.located number ≡ Some default) × HasDefault scoping.texts leaf of_type default
+    (default : Located) × (slice_get scoping.located number ≡ Some default)
+    × HasDefault scoping.texts leaf of_type default

@@ -9,7 +9,8 @@ use Rattle.nc_yang_meanings.specs.Meanings.{Breaks, Meaning, Means}
 -- a `type` statement means one thing at most
 abbrev pub OneMeaning : Type 0
 OneMeaning =
-    (on : ℕ → List ℕ → Bool) (texts : List Statement) (l : Located) (m n : Meaning) → Means on texts l m → Means on texts l n → m ≡ n
+    (on : ℕ → List ℕ → Bool) (texts : List Statement) (l : Located) (m n : Meaning) → Means on texts l m
+    → Means on texts l n → m ≡ n
 
 -- one that means something breaks no rule
 abbrev pub MeaningKeepsRules : Type 0

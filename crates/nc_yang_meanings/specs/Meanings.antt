@@ -1,5 +1,5 @@
--- What a `type` statement means (RFC 7950 7.3, 7.4, 9). Types whose parts break a rule mean nothing, and neither does one
--- that leads to such a type, to no type, or back to itself.
+-- What a `type` statement means (RFC 7950 7.3, 7.4, 9). Types whose parts break a rule mean nothing, and neither does
+-- one that leads to such a type, to no type, or back to itself.
 use Rattle.std.specs.Prelude.{◌≡◌, ℕ, zero, suc, Bool, true, List, [], ◌∷◌, ◌++◌, Option, Some, None, option_map, Contains}
 use Rattle.nc_schema.specs.declared.value_type.ValueType.{ValueType}
 use Rattle.nc_schema.specs.declared.value_type.ValueType.TheVariants.{Chars as String, Union as UnionType, Identity as IdentityType}
@@ -16,9 +16,9 @@ use Rattle.nc_yang_types.specs.declared.member.Named.{Named}
 use Rattle.nc_yang_meanings.specs.Features.{stands}
 use Rattle.nc_yang_meanings.specs.Places.{base_of, built_in, part_of, parts_of}
 
--- an entry that names no other, with the `pattern` statements that all have to admit its values (RFC 7950 9.4.5), and the
--- names that it lists with their numbers, whether their conditions hold or not (RFC 7950 9.6.4, 9.7.4); a value
--- of one of these types (RFC 7950 9.12); an identity derived from each that these `base` statements name (RFC 7950
+-- an entry that names no other, with the `pattern` statements that all have to admit its values (RFC 7950 9.4.5), and
+-- the names that it lists with their numbers, whether their conditions hold or not (RFC 7950 9.6.4, 9.7.4); a value of
+-- one of these types (RFC 7950 9.12); an identity derived from each that these `base` statements name (RFC 7950
 -- 9.10.2); a value of the leaf to which this `path` leads, which has to be there or not (RFC 7950 9.9)
 pub data Meaning : Type 0 where
   Entry : ValueType → List Located → List Named → Meaning

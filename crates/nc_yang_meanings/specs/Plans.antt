@@ -20,7 +20,8 @@ IsPlan located (Leafref number required) (Refers path need) = (slice_get located
 IsPlan located planned m = ⊥
 
 -- the plan of a number is what a `type` statement means
-pub record HasPlan (on : ℕ → List ℕ → Bool) (scoping : Scoping) (plans : List Planned) (l : Located) (number : ℕ) : Type 0 where
+pub record HasPlan (on : ℕ → List ℕ → Bool) (scoping : Scoping) (plans : List Planned) (l : Located)
+    (number : ℕ) : Type 0 where
   pub plan : Planned
   pub there : slice_get plans number ≡ Some plan
   pub meaning : Meaning
@@ -34,7 +35,8 @@ MeansNothing on scoping l = (m : Meaning) → Means on scoping.texts l m → ⊥
 abbrev pub IsFinding : (on : ℕ → List ℕ → Bool) → Scoping → List Planned → Located → Finding → Type 0
 IsFinding on scoping plans l (Plan number) = HasPlan on scoping plans l number
 IsFinding on scoping plans l (Broken fault) = Breaks on scoping.texts l fault × MeansNothing on scoping l
-IsFinding on scoping plans l Nothing = ((fault : Fault) → Breaks on scoping.texts l fault → ⊥) × MeansNothing on scoping l
+IsFinding on scoping plans l Nothing =
+    ((fault : Fault) → Breaks on scoping.texts l fault → ⊥) × MeansNothing on scoping l
 
 -- so it is with each statement
 abbrev pub AreMeanings : (on : ℕ → List ℕ → Bool) → Scoping → Meanings → Type 0

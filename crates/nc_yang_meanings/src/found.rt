@@ -40,7 +40,8 @@ fn on_built_in<'a, F: Features<'a>>(
 ) -> Result<Found, Memory>
     requires statement { HasNumber scopes.now number statement.now }
     requires text { StandsInText scopes.now number text }
-    ensures { IfOk result (λ it. OnNumber scopes.now number (λ l. IsFooting scopes.now l (RestsOnBuiltIn one) →
+    ensures { IfOk result (λ it. OnNumber scopes.now number (λ l. IsFooting scopes.now l
+        (RestsOnBuiltIn one) →
         ((plans : List Planned) → IsFound (F.on features.now) scopes.now plans l it))) }
 {
     match by_itself(alloc, scopes, features, number, text, one, statement) {
@@ -94,7 +95,8 @@ fn on_type<'a, F: Features<'a>>(
     own: Many<usize>,
     below: &'a [Statement],
 ) -> Result<Found, Memory>
-    ensures { IfOk result (IsOverBase (definitions.stands (F.on conditions.now.features.now) conditions.now.text)
+    ensures { IfOk result (IsOverBase (definitions.stands
+        (F.on conditions.now.features.now) conditions.now.text)
         meanings.now base own below.now) }
 {
     match plan(meanings, base) {

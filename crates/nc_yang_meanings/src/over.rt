@@ -98,7 +98,8 @@ pub(crate) fn over<'a, C: Conditions<'a>>(
 ) -> Result<Option<Planned>, Stop<Fault>>
     ensures ok { IfOk result (λ it. planned_over (C.stands conditions.now) planned.now own below.now
         ≡ Some (unwrap_or it planned.now)) }
-    ensures kept { OnOk result (entries.narrowed_faults (shape_of planned.now) (names_in planned.now) below.now
+    ensures kept { OnOk result (entries.narrowed_faults (shape_of planned.now)
+        (names_in planned.now) below.now
         ≡ []) }
     ensures fault { IfErr result (OnBroken (λ fault.
         rules.first (entries.narrowed_faults (shape_of planned.now) (names_in planned.now) below.now)

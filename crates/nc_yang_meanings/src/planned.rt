@@ -8,8 +8,8 @@ use nc_yang_types::Named;
 /// What a `type` statement means. Other statements are named by their numbers in the `Scopes`.
 #[derive(Debug, Drop, PartialEq, Eq)]
 pub enum Planned {
-    /// The entry of a type that names no other, without its patterns, the `pattern` statements that all have to
-    /// admit its values (RFC 7950 9.4.5), and the names that it lists with their numbers, whether their
+    /// The entry of a type that names no other, without its patterns, the `pattern` statements that all have
+    /// to admit its values (RFC 7950 9.4.5), and the names that it lists with their numbers, whether their
     /// conditions hold or not (RFC 7950 9.6.4, 9.7.4).
     Finished {
         entry: ValueType,

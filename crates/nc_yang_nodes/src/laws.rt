@@ -12,7 +12,8 @@ pub fn plan_is_sound()
     ensures { PlanIsSound }
 {}
 
-/// Two plans of the same modules differ at most in the numbers of statements that are written alike in one place.
+/// Two plans of the same modules differ at most in the numbers of statements that are written alike in one
+/// place.
 pub fn plans_are_alike()
     ensures { PlansAreAlike }
 {}

@@ -7,11 +7,11 @@
 //!
 //! `plan_of` promises exactly the defined list of data nodes and of choices, each with the statement that
 //! defines it, or a fault at the first statement past a limit; by the law `plan_has_no_fault` no modules have
-//! both, by `plan_is_sound` each data node comes after the one in which it stands, and by `plans_are_alike` two
-//! plans differ only in the numbers of statements that are written alike in one place. `features_on` promises
-//! which of the given features are on, `is_supported_at` whether a statement is there under them, and `case_of` the
-//! number of a choice's case. A walk has a stack of its own, and passes over what plans nothing. The folders of
-//! cases/ test it.
+//! both, by `plan_is_sound` each data node comes after the one in which it stands, and by `plans_are_alike`
+//! two plans differ only in the numbers of statements that are written alike in one place. `features_on`
+//! promises which of the given features are on, `is_supported_at` whether a statement is there under them,
+//! and `case_of` the number of a choice's case. A walk has a stack of its own, and passes over what plans
+//! nothing. The folders of cases/ test it.
 #![tactic(auto)]
 
 mod barren;

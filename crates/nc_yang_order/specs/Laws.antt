@@ -4,4 +4,5 @@ use Rattle.nc_yang_order.specs.Orders.{IsOrder, IsCircle}
 
 -- a graph that has an order has no circle
 abbrev pub OrderHasNoCircle : Type 0
-OrderHasNoCircle = (graph : List (List ℕ)) (order : List ℕ) (number place : ℕ) → IsOrder graph order → IsCircle graph number place → ⊥
+OrderHasNoCircle =
+    (graph : List (List ℕ)) (order : List ℕ) (number place : ℕ) → IsOrder graph order → IsCircle graph number place → ⊥

@@ -15,7 +15,8 @@ is_within graph = list_all (λ ts. list_all (λ t. nat_lt t (length graph)) ts) 
 -- from the first number edges lead to the second, in any number of steps
 pub data Reaches (graph : List (List ℕ)) : ℕ → ℕ → Type 0 where
   here : (number : ℕ) → Reaches graph number number
-  further : (number target last : ℕ) → Contains (targets graph number) target → Reaches graph target last → Reaches graph number last
+  further : (number target last : ℕ) → Contains (targets graph number) target → Reaches graph target last
+      → Reaches graph number last
 
 -- an edge is on a circle: from its target edges lead back to the number from which it leads
 pub record IsCircle (graph : List (List ℕ)) (number place : ℕ) : Type 0 where

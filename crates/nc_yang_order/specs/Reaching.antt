@@ -5,7 +5,8 @@ use Rattle.nc_yang_order.specs.declared.reach.Reach.{Reach}
 
 -- a number is one of those from which it starts, or an edge leads to it from one before
 abbrev pub IsLed : List (List ℕ) → List ℕ → List ℕ → ℕ → Type 0
-IsLed graph starts before number = Contains starts number ⊎ ((from : ℕ) × Contains before from × Contains (targets graph from) number)
+IsLed graph starts before number =
+    Contains starts number ⊎ ((from : ℕ) × Contains before from × Contains (targets graph from) number)
 
 -- those found are marked
 pub record IsMarked (reach : Reach) : Type 0 where
@@ -18,5 +19,6 @@ pub record IsReached (graph : List (List ℕ)) (starts : List ℕ) (reach : Reac
   pub marks : IsMarked reach
   pub led : EachAfter (IsLed graph starts) [] reach.found
   pub started : (number : ℕ) → Contains starts number → number < length graph → Contains reach.found number
-  pub followed : (from number : ℕ) → Contains reach.found from → Contains (targets graph from) number → number < length graph →
+  pub followed : (from number : ℕ) → Contains reach.found from → Contains (targets graph from) number → number
+      < length graph →
       Contains reach.found number

@@ -112,7 +112,8 @@ impl Search {
         requires within { IsTrue (is_within graph.now) }
         requires few { length graph.now < 2 ^ 32 }
         requires search { IsSearch graph.now (with_turn self.old turn) }
-        ensures { IfOk result (λ found. Steps graph.now (with_turn self.old turn) self.new turn.number found) }
+        ensures { IfOk result (λ found. Steps graph.now
+            (with_turn self.old turn) self.new turn.number found) }
     {
         let Some(target) = target(graph, turn) else {
             self.finish(turn.number)?;

@@ -32,7 +32,8 @@ keyword_text s = (out-Statement s).keyword
 
 -- a statement of an extension whose prefix the module does not know (RFC 7950 7.19)
 abbrev pub is_foreign : List Statement → Place → Statement → Bool
-is_foreign texts place s = has_colon (keyword_text s) && is_none (text_of_prefix texts place.text (prefix_of (keyword_text s)))
+is_foreign texts place s =
+    has_colon (keyword_text s) && is_none (text_of_prefix texts place.text (prefix_of (keyword_text s)))
 
 -- the blocks further out than the one in which something stands
 abbrev pub further_out : List (List Statement) → List (List Statement)
@@ -59,7 +60,8 @@ misnamed texts l =
 -- a statement is this one, or stands somewhere in it, and in none that is passed over
 pub data StandsIn : Located → Located → Type 0 where
   itself : (l : Located) → StandsIn l l
-  inside : (l c inner : Located) (place : ℕ) → is_closed (kind l.statement) ≡ false → child place l ≡ Some c → StandsIn c inner → StandsIn l inner
+  inside : (l c inner : Located) (place : ℕ) → is_closed (kind l.statement) ≡ false → child place l ≡ Some c
+      → StandsIn c inner → StandsIn l inner
 
 -- a statement, or one that stands in it, breaks one of these rules
 pub record Misnames (texts : List Statement) (l : Located) (fault : Fault) : Type 0 where

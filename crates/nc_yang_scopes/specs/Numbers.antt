@@ -1,5 +1,5 @@
--- The numbers of statements: those of the texts come first, then those that stand directly in the first statement, in the
--- second, and so on.
+-- The numbers of statements: those of the texts come first, then those that stand directly in the first statement, in
+-- the second, and so on.
 use Rattle.std.specs.Prelude.{◌≡◌, ℕ, ◌+◌, ◌<◌, List, [], ◌∷◌, ◌++◌, length, take, map, fold, Option, Some, None, slice_get, option_map}
 use Rattle.std.specs.Option.{option_map_or}
 use Rattle.nc_yang_words.specs.declared.statement.Statement.{Statement}
@@ -19,7 +19,8 @@ roots number (s ∷ ss) = record { statement = s; text = number; outer = None } 
 
 -- what stands directly in the statement of a number
 abbrev pub children : ℕ → Entry → List Entry
-children number entry = map (λ s. record { statement = s; text = entry.text; outer = Some number }) (below entry.statement)
+children number entry =
+    map (λ s. record { statement = s; text = entry.text; outer = Some number }) (below entry.statement)
 
 -- what stands directly in these statements, of which the first has this number
 abbrev pub opened : ℕ → List Entry → List Entry
@@ -34,7 +35,13 @@ blocks_in before (Some number) = option_map_or (λ l. (inside l).blocks) (slice_
 -- where a statement stands, by those of lower numbers
 abbrev pub located_after : List Located → Entry → List Located
 located_after before entry =
-    before ++ record { statement = entry.statement; place = record { text = entry.text; blocks = blocks_in before entry.outer } } ∷ []
+    before ++ record {
+      statement = entry.statement;
+      place = record {
+        text = entry.text;
+        blocks = blocks_in before entry.outer;
+      };
+    } ∷ []
 
 -- where each statement stands
 abbrev pub located : List Entry → List Located
@@ -44,7 +51,8 @@ located entries = fold located_after [] entries
 pub record IsScoping (scoping : Scoping) : Type 0 where
   pub entries : List Entry
   pub whole : entries ≡ roots 0 scoping.texts ++ opened 0 entries
-  pub later : (number : ℕ) → number < length entries → number < length scoping.texts + length (opened 0 (take number entries))
+  pub later : (number : ℕ) → number < length entries → number
+      < length scoping.texts + length (opened 0 (take number entries))
   pub places : scoping.located ≡ located entries
 
 -- those are the numbers of these statements

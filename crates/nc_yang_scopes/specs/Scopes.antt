@@ -112,7 +112,8 @@ found_in texts keyword wanted place text =
 abbrev pub resolved : List Statement → Keyword → List ℕ → Place → Option Located
 resolved texts keyword reference place =
     if has_colon reference
-    then option_and_then (found_in texts keyword (local_of reference) place) (text_of_prefix texts place.text (prefix_of reference))
+    then option_and_then (found_in texts keyword (local_of reference) place) (text_of_prefix texts place.text
+    (prefix_of reference))
     else found keyword reference place.text place.blocks
 
 -- texts with a number for each of their statements, which says where it stands

@@ -39,7 +39,8 @@ is_in_space Identities above keyword = is_same_keyword Identity keyword
 is_in_space Features above keyword = is_same_keyword Feature keyword
 is_in_space Nodes above keyword = not (is_same_keyword Choice above) && is_node keyword
 is_in_space Cases above keyword = is_same_keyword Choice above && is_case keyword
-is_in_space Prefixes above keyword = is_same_keyword Module above && (is_same_keyword Prefix keyword || is_same_keyword Import keyword)
+is_in_space Prefixes above keyword =
+    is_same_keyword Module above && (is_same_keyword Prefix keyword || is_same_keyword Import keyword)
 
 -- the prefix that an import says
 abbrev pub prefix_in : Statement → Option (List ℕ)
@@ -58,12 +59,14 @@ has_name space above word s = option_map_or (λ w. is_same_text w word) (name_in
 
 -- one before it has its name
 abbrev pub is_taken : Space → Keyword → List Statement → Statement → Bool
-is_taken space above before s = option_map_or (λ w. list_any (has_name space above w) before) (name_in space above s) false
+is_taken space above before s =
+    option_map_or (λ w. list_any (has_name space above w) before) (name_in space above s) false
 
 -- of two with one name, the later
 abbrev pub taken : Space → Keyword → List Statement → List Statement → List Fault
 taken space above before [] = []
-taken space above before (s ∷ ss) = at_if (is_taken space above before s) s Twice ++ taken space above (before ++ s ∷ []) ss
+taken space above before (s ∷ ss) =
+    at_if (is_taken space above before s) s Twice ++ taken space above (before ++ s ∷ []) ss
 
 -- the statements directly in one that have a name that another before them has
 abbrev pub renamed : Statement → List Fault
@@ -76,7 +79,8 @@ faults_in s = if is_closed (kind s) then [] else renamed s
 -- a statement is this one, or stands somewhere in it, and in none that is passed over
 pub data IsWithin : Statement → Statement → Type 0 where
   itself : (s : Statement) → IsWithin s s
-  inside : (s t u : Statement) (place : ℕ) → is_closed (kind s) ≡ false → slice_get (below s) place ≡ Some t → IsWithin t u → IsWithin s u
+  inside : (s t u : Statement) (place : ℕ) → is_closed (kind s) ≡ false → slice_get (below s) place ≡ Some t
+      → IsWithin t u → IsWithin s u
 
 -- in a statement, or in one that stands in it, two have one name
 pub record BreaksSpaces (s : Statement) (fault : Fault) : Type 0 where

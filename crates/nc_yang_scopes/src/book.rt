@@ -104,7 +104,8 @@ impl<'a> Book<'a> {
     /// The text in which the statement of a number stands.
     pub(crate) fn text(&self, number: usize) -> Option<usize>
         requires { IsBook self.now }
-        ensures { result ≡ option_map (λ l. l.place.text) (slice_get (located self.now.numbering.frames) number) }
+        ensures { result ≡ option_map (λ l. l.place.text) (slice_get
+            (located self.now.numbering.frames) number) }
     {
         match self.numbering.frames.get(number) {
             Some(frame) => Some(frame.text),

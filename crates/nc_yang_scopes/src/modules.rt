@@ -52,8 +52,8 @@ fn second(alloc: Global, by: Title, texts: &[Statement]) -> Result<Option<TextFa
     Ok(None)
 }
 
-/// The first text whose module has the name of one before, or else the first one that has the namespace of one
-/// before; `None` where no two share either (RFC 7950 5.1, 5.3).
+/// The first text whose module has the name of one before, or else the first one that has the namespace of
+/// one before; `None` where no two share either (RFC 7950 5.1, 5.3).
 #[tactic(auto, using(nc_yang_statements::proofs::Firsts::first_some, nc_yang_statements::proofs::Firsts::first_none))]
 pub fn first_twin(alloc: Global, texts: &[Statement]) -> Result<Option<TextFault>, Memory>
     ensures { IfOk result (λ it. it ≡ rules.first (words.twins texts.now)) }

@@ -18,7 +18,8 @@ use std::alloc::Global;
 // The prefix that a module or an import has.
 fn prefix(statement: &Statement) -> Option<&str>
     ensures { (wanted : List ℕ) →
-        scopes.has_prefix wanted statement.now ≡ option_map_or (λ word. is_same_text word.now wanted) result false }
+        scopes.has_prefix wanted statement.now ≡ option_map_or
+        (λ word. is_same_text word.now wanted) result false }
 {
     match part(statement.below.as_slice(), Keyword::Prefix) {
         Some(found) => Some(name(found)),
@@ -49,7 +50,8 @@ fn word(keyword: Keyword, statement: &Statement) -> Option<&str>
 
 // Where a statement of a keyword is looked up, and by which word.
 fn key<'a>(keyword: Keyword, frame: Frame<'a>) -> Option<(usize, &'a str)>
-    ensures { (block : ℕ) (wanted : List ℕ) → entries.is_known keyword block wanted (entries.entry_of frame.entry)
+    ensures { (block : ℕ) (wanted : List ℕ) → entries.is_known keyword block wanted
+        (entries.entry_of frame.entry)
         ≡ option_map_or (λ key. is_key key.0 key.1.now block wanted) result false }
 {
     let Some(block) = frame.outer else {
@@ -73,7 +75,8 @@ fn with_frame<'a>(
 ) -> Result<Table<'a>, Memory>
     ensures { IfOk result (λ it. (block : ℕ) (wanted : List ℕ) → number_at it block wanted
         ≡ either (number_at table.entry block wanted)
-        (if entries.is_known keyword block wanted (entries.entry_of frame.entry) then Some number else None)) }
+        (if entries.is_known keyword block wanted (entries.entry_of frame.entry) then Some number
+        else None)) }
 {
     match key(keyword, frame) {
         Some((block, word)) => table.with(block, word, number),

@@ -137,9 +137,9 @@ fn check<'a>(scopes: &Scopes<'a>, number: usize, statement: &'a Statement) -> Op
     None
 }
 
-/// A rule on names that a statement of the texts breaks, or `None` where they keep them all: what it names has to
-/// be there (RFC 7950 7.1.5, 7.4, 7.13, 7.18.2, 7.20.2), so has the prefix of its keyword (RFC 7950 7.19), and no
-/// typedef or grouping has the name of one further out (RFC 7950 5.5). It takes no memory.
+/// A rule on names that a statement of the texts breaks, or `None` where they keep them all: what it names
+/// has to be there (RFC 7950 7.1.5, 7.4, 7.13, 7.18.2, 7.20.2), so has the prefix of its keyword (RFC 7950
+/// 7.19), and no typedef or grouping has the name of one further out (RFC 7950 5.5). It takes no memory.
 pub fn first_misnamed(scopes: &Scopes) -> Option<TextFault>
     ensures { MatchOption result (KeepsNames scopes.now.texts)
         (λ found. BreaksNames scopes.now.texts found.text found.fault) }

@@ -29,8 +29,8 @@ impl<'a> Numbering<'a> {
         Ok(Numbering { frames, firsts })
     }
 
-    /// The statements of texts: first those of the texts themselves, then what stands directly in the first, in the
-    /// second, and so on.
+    /// The statements of texts: first those of the texts themselves, then what stands directly in the first,
+    /// in the second, and so on.
     pub(crate) fn of(alloc: Global, texts: &'a [Statement]) -> Result<Numbering<'a>, Memory>
         ensures { IfOk result (λ it. IsWhole texts.now it.frames it.firsts) }
     {

@@ -12,8 +12,8 @@ use nc_yang_words::Statement;
 use std::alloc::Global;
 use std::marker::Model;
 
-/// The statements of module texts, each with a number under which its place is known, and what names mean there.
-/// A text is its statement `module`, and that one has the text's number.
+/// The statements of module texts, each with a number under which its place is known, and what names mean
+/// there. A text is its statement `module`, and that one has the text's number.
 #[derive(Drop)]
 pub struct Scopes<'a> {
     book: Book<'a>,
@@ -36,7 +36,8 @@ impl<'a> Model for Scopes<'a> {
 }
 
 impl<'a> Scopes<'a> {
-    /// The statements of texts, of which each is a module. Time and memory grow with the number of statements.
+    /// The statements of texts, of which each is a module. Time and memory grow with the number of
+    /// statements.
     pub fn of(alloc: Global, texts: &'a [Statement]) -> Result<Scopes<'a>, Memory>
         ensures texts { IfOk result (λ it. it.texts ≡ texts.now) }
         ensures numbers { IfOk result IsScoping }
@@ -120,12 +121,13 @@ impl<'a> Scopes<'a> {
         self.book.text_of_prefix(text, prefix)
     }
 
-    /// The number of the definition to which a reference leads where the statement of a number stands: of a type
-    /// or a grouping by scope, of an identity or a feature by module (RFC 7950 5.5, 6.2.1).
+    /// The number of the definition to which a reference leads where the statement of a number stands: of a
+    /// type or a grouping by scope, of an identity or a feature by module (RFC 7950 5.5, 6.2.1).
     pub fn resolve(&self, keyword: Keyword, number: usize, reference: &'a str) -> Option<usize>
         requires { IsTrue (scopes.is_defining keyword) }
         ensures value { option_and_then (slice_get self.now.located) result ≡ option_and_then
-            (λ l. scopes.resolved self.now.texts keyword reference.now l.place) (slice_get self.now.located number) }
+            (λ l. scopes.resolved self.now.texts keyword reference.now l.place)
+            (slice_get self.now.located number) }
         ensures there { IfSome result (λ found. found < length self.now.located) }
     {
         self.book.resolve(keyword, number, reference)

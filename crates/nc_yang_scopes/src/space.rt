@@ -183,8 +183,8 @@ fn check(alloc: Global, statement: &Statement) -> Result<Option<Fault>, Memory>
     Ok(None)
 }
 
-/// A statement of a text with a name that one before it in its block has in the same space, or `None` where there
-/// is none (RFC 7950 6.2.1, 7.1.4). Of several it is the first that is met.
+/// A statement of a text with a name that one before it in its block has in the same space, or `None` where
+/// there is none (RFC 7950 6.2.1, 7.1.4). Of several it is the first that is met.
 pub fn first_renamed(alloc: Global, root: &Statement) -> Result<Option<Fault>, Memory>
     ensures { IfOk result (λ it. MatchOption it (KeepsSpaces root.now) (BreaksSpaces root.now)) }
 {

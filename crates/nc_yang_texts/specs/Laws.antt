@@ -14,4 +14,5 @@ ReadOrFaulty =
 -- and they have no other statements
 abbrev pub ReadOneWay : Type 0
 ReadOneWay =
-    (texts : List ModuleText) (roots others : List Statement) → AreRead texts roots → AreRead texts others → roots ≡ others
+    (texts : List ModuleText) (roots others : List Statement) → AreRead texts roots → AreRead texts others → roots
+    ≡ others

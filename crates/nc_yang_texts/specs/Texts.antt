@@ -37,7 +37,8 @@ pub record AreRead (texts : List ModuleText) (roots : List Statement) : Type 0 w
   pub short : position is_long texts ≡ None
   pub each : AreEachRead texts roots
 
--- the text of a file has no statements: it is not UTF-8 (RFC 7950 6), or its words are no statements (RFC 7950 6.1 to 6.3)
+-- the text of a file has no statements: it is not UTF-8 (RFC 7950 6), or its words are no statements (RFC 7950 6.1 to
+-- 6.3)
 pub data HasNoStatements (text : ModuleText) : Fault → Type 0 where
   not_utf8 : is_utf8 text.bytes ≡ false → HasNoStatements text (record { line = 1; why = NotText })
   bad_words : (line : ℕ) → is_utf8 text.bytes ≡ true → HasFaultAt (chars text.bytes) line →
@@ -47,7 +48,8 @@ pub data HasNoStatements (text : ModuleText) : Fault → Type 0 where
 pub data IsUnread (texts : List ModuleText) : (file : ℕ) → Fault → Type 0 where
   many : module_limit < length texts → IsUnread texts module_limit (record { line = 1; why = TooMany })
   long : (file : ℕ) → position is_long texts ≡ Some file → IsUnread texts file (record { line = 1; why = TooMany })
-  empty : (file : ℕ) (text : ModuleText) (fault : Fault) → slice_get texts file ≡ Some text → HasNoStatements text fault →
+  empty : (file : ℕ) (text : ModuleText) (fault : Fault) → slice_get texts file ≡ Some text
+      → HasNoStatements text fault →
       IsUnread texts file fault
 
 -- it is so of the file and its fault; of want of memory nothing is said

@@ -8,7 +8,8 @@ use nc_yang_statements::ModuleWhy;
 /// Why modules give no schema.
 #[derive(Clone, Copy, Debug, PartialEq, Eq)]
 pub enum CompileFault {
-    /// A rule is broken, or a limit passed, in the file of that number, counted from 0, at that line, counted from 1.
+    /// A rule is broken, or a limit passed, in the file of that number, counted from 0, at that line, counted
+    /// from 1.
     Module {
         file: u32,
         line: u32,

@@ -60,7 +60,8 @@ fn past(file: usize) -> CompileFault
 // The statements of the text of a file.
 fn read_text(alloc: Global, file: usize, text: &ModuleText) -> Result<Statement, CompileFault>
     requires { file < words.module_limit }
-    ensures { MatchResult result (Spells text.now) (OnModule (λ at fault. (at ≡ file) × HasNoStatements text.now fault)) }
+    ensures { MatchResult result (Spells text.now) (OnModule (λ at fault. (at ≡ file)
+        × HasNoStatements text.now fault)) }
 {
     let file = file as u32;
     let Some(chars) = chars_of(text.bytes.as_slice()) else {
@@ -77,8 +78,9 @@ fn read_text(alloc: Global, file: usize, text: &ModuleText) -> Result<Statement,
     }
 }
 
-/// The statements of the texts, each of which is one statement with all others in it (RFC 7950 6.3). A fault is of a file
-/// that is past a limit of the server, or whose text has no statements; of several files the first.
+/// The statements of the texts, each of which is one statement with all others in it (RFC 7950 6.3). A fault
+/// is of a file that is past a limit of the server, or whose text has no statements; of several files the
+/// first.
 pub fn read_texts(alloc: Global, texts: &[ModuleText]) -> Result<Many<Statement>, CompileFault>
     ensures { MatchResult result (AreRead texts.now) (OnModule (IsUnread texts.now)) }
 {

@@ -68,10 +68,10 @@ fn first_by_names(alloc: Global, scopes: &Scopes) -> Result<Option<TextFault>, M
     first_loop(alloc, scopes)
 }
 
-/// A rule that one of the texts breaks, or `None` where they keep them all: the rules of single statements (RFC 7950 7,
-/// 14), those on names that two define (RFC 7950 5.1, 5.3, 6.2.1), on `config true` in state (RFC 7950 7.21.1), on names
-/// that nothing defines (RFC 7950 5.5, 7), on revisions that are not there (RFC 7950 7.1.5.1), and on definitions that
-/// lead back to themselves (RFC 7950 5.1, 7.3, 7.12, 7.18.2, 7.20.2).
+/// A rule that one of the texts breaks, or `None` where they keep them all: the rules of single statements
+/// (RFC 7950 7, 14), those on names that two define (RFC 7950 5.1, 5.3, 6.2.1), on `config true` in state
+/// (RFC 7950 7.21.1), on names that nothing defines (RFC 7950 5.5, 7), on revisions that are not there (RFC
+/// 7950 7.1.5.1), and on definitions that lead back to themselves (RFC 7950 5.1, 7.3, 7.12, 7.18.2, 7.20.2).
 pub fn first_break<'a>(
     alloc: Global,
     texts: &'a [Statement],

@@ -25,7 +25,8 @@ fn with_chosen<'a, C: Conditions<'a>>(
     names: BTreeSet<&'a str>,
     statement: &'a Statement,
 ) -> Result<BTreeSet<&'a str>, Memory>
-    ensures { IfOk result (λ it. (before : List Seen) → HasChosen (C.stands conditions.now) listed names.entry before →
+    ensures { IfOk result (λ it. (before : List Seen) → HasChosen
+        (C.stands conditions.now) listed names.entry before →
         HasChosen (C.stands conditions.now) listed it (before ++ statement.now ∷ [])) }
 {
     if !is_member(listed, statement) {

@@ -156,8 +156,8 @@ fn entry<'a, C: Conditions<'a>>(
     }
 }
 
-/// The names with their numbers that an enumeration or bits list, whether their conditions hold or not; none of
-/// another type (RFC 7950 9.6.4.2, 9.7.4.2).
+/// The names with their numbers that an enumeration or bits list, whether their conditions hold or not; none
+/// of another type (RFC 7950 9.6.4.2, 9.7.4.2).
 pub fn listing_of(
     alloc: Global,
     built_in: BuiltIn,

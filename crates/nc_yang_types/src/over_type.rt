@@ -70,9 +70,11 @@ fn over_chars(
     ensures ok { IfOk result (λ it.
         entries.narrowed (λ s. true) (Chars lengths.now starless patterns.now) below.now
         ≡ Some (unwrap_or it (Chars lengths.now starless patterns.now))) }
-    ensures kept { OnOk result (entries.misnarrowed (Chars lengths.now starless patterns.now) [] below.now ≡ []) }
+    ensures kept { OnOk result (entries.misnarrowed (Chars lengths.now starless patterns.now) [] below.now
+        ≡ []) }
     ensures fault { IfErr result (OnBroken (λ fault.
-        rules.first (entries.misnarrowed (Chars lengths.now starless patterns.now) [] below.now) ≡ Some fault)) }
+        rules.first (entries.misnarrowed (Chars lengths.now starless patterns.now) [] below.now)
+        ≡ Some fault)) }
 {
     let counted = Counted::Lengths;
     match narrower(alloc, counted, Keyword::Length, lengths.as_slice(), below)? {
@@ -92,7 +94,8 @@ fn over_binary(
     below: &[Statement],
 ) -> Result<Option<ValueType>, Stop<Fault>>
     ensures ok { IfOk result (λ it.
-        entries.narrowed (λ s. true) (Binary lengths.now) below.now ≡ Some (unwrap_or it (Binary lengths.now))) }
+        entries.narrowed (λ s. true) (Binary lengths.now) below.now
+        ≡ Some (unwrap_or it (Binary lengths.now))) }
     ensures kept { OnOk result (entries.misnarrowed (Binary lengths.now) [] below.now ≡ []) }
     ensures fault { IfErr result (OnBroken (λ fault.
         rules.first (entries.misnarrowed (Binary lengths.now) [] below.now) ≡ Some fault)) }
@@ -133,7 +136,8 @@ fn over_enumeration<'a, C: Conditions<'a>>(
     names: &[Named],
     below: &'a [Statement],
 ) -> Result<Option<ValueType>, Stop<Fault>>
-    ensures ok { IfOk result (λ it. entries.narrowed (C.stands conditions.now) (Enumeration taken.now) below.now
+    ensures ok { IfOk result (λ it. entries.narrowed (C.stands conditions.now)
+        (Enumeration taken.now) below.now
         ≡ Some (unwrap_or it (Enumeration taken.now))) }
     ensures kept { OnOk result (entries.misnarrowed (Enumeration taken.now) names.now below.now ≡ []) }
     ensures fault { IfErr result (OnBroken (λ fault.
@@ -225,9 +229,10 @@ fn entry_over<'a, C: Conditions<'a>>(
 /// The entry of a `type` statement over another type whose entry is `base`, by its own parts; `None` where
 /// nothing narrows it, and it is that of the other type (RFC 7950 9.2.3, 9.3.3, 9.4.3, 9.6.3, 9.7.3, 9.8.1,
 /// 9.9.3, 9.13.1). The patterns are those of the base, and `names` those that it lists with their numbers. Of
-/// the names that the type lists itself those are left out whose conditions do not hold. The fault is the first
-/// of those that it has: a part that the type has not, then a pattern that cannot be read, then a range or a
-/// length that may not stand there, a name that it gives twice, or that the base has not or with another number.
+/// the names that the type lists itself those are left out whose conditions do not hold. The fault is the
+/// first of those that it has: a part that the type has not, then a pattern that cannot be read, then a range
+/// or a length that may not stand there, a name that it gives twice, or that the base has not or with another
+/// number.
 #[tactic(auto, using(crate::proofs::Firsts::first_some, crate::proofs::Firsts::first_none, crate::proofs::Firsts::nothing_first, crate::proofs::Firsts::nothing_more))]
 pub fn narrowed<'a, C: Conditions<'a>>(
     alloc: Global,

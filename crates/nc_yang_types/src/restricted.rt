@@ -93,7 +93,8 @@ fn is_true_text(text: &str) -> bool
     text == "true"
 }
 
-/// Whether what is named has to be there: `require-instance`, or what holds without it (RFC 7950 9.9.3, 9.13.1).
+/// Whether what is named has to be there: `require-instance`, or what holds without it (RFC 7950 9.9.3,
+/// 9.13.1).
 pub fn required(before: bool, below: &[Statement]) -> bool
     ensures { result ≡ entries.required before below.now }
 {

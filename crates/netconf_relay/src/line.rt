@@ -54,8 +54,8 @@ fn write_line(names: &[String], out: &mut Bytes) -> Result<(), Memory>
     Ok(())
 }
 
-/// The line of these names. `None` where no line names them: one is empty, or has a space or a line feed in it,
-/// or the line is too long.
+/// The line of these names. `None` where no line names them: one is empty, or has a space or a line feed in
+/// it, or the line is too long.
 #[tactic(auto, using(crate::proofs::Lines::named, crate::proofs::Lines::too_long, crate::proofs::Lines::unnamed))]
 pub fn peer_line(alloc: Global, names: &[String]) -> Result<Option<Bytes>, Memory>
     ensures { IfOk result (λ line. MatchOption line

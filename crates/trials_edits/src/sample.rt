@@ -1,9 +1,9 @@
-//! A schema with a node of each kind, and rows and paths of it as short texts. The tests stand below this module
-//! and see what is private in it.
+//! A schema with a node of each kind, and rows and paths of it as short texts. The tests stand below this
+//! module and see what is private in it.
 //!
-//! `0` container system { `1` leaf host-name; `2` leaf domain; }, `3` list service, keys `4` name and `5` protocol,
-//! with `6` leaf port, `7` list rule, ordered by the user, key `8` id, `9` leaf-list search, `10` leaf dhcp, `11` leaf
-//! address.
+//! `0` container system { `1` leaf host-name; `2` leaf domain; }, `3` list service, keys `4` name and `5`
+//! protocol, with `6` leaf port, `7` list rule, ordered by the user, key `8` id, `9` leaf-list search, `10`
+//! leaf dhcp, `11` leaf address.
 mod changes_tests;
 mod parts_tests;
 mod tree_tests;

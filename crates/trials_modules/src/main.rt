@@ -1,11 +1,11 @@
-//! What the program netconfd does not show of the schema of modules. Each line of the input is a row, a name and
-//! then module texts with `%` between them; empty lines and those that begin with `#` are printed as they are. A
-//! row is answered by its name and the number of types that these modules add. Types that mean the same are kept
-//! once, which saves time and memory: no contract promises it. A row whose name begins with `deny` is answered by
-//! the data nodes at which access control denies something without a rule, each with its number and `all` or
-//! `write` (RFC 8341 3.5.2), and one whose name begins with `nodes` by the names of the data nodes in the order of
-//! their numbers. Nothing stands on this crate. What modules mean, and which rules they break, is shown by the
-//! folders of cases/.
+//! What the program netconfd does not show of the schema of modules. Each line of the input is a row, a name
+//! and then module texts with `%` between them; empty lines and those that begin with `#` are printed as they
+//! are. A row is answered by its name and the number of types that these modules add. Types that mean the
+//! same are kept once, which saves time and memory: no contract promises it. A row whose name begins with
+//! `deny` is answered by the data nodes at which access control denies something without a rule, each with
+//! its number and `all` or `write` (RFC 8341 3.5.2), and one whose name begins with `nodes` by the names of
+//! the data nodes in the order of their numbers. Nothing stands on this crate. What modules mean, and which
+//! rules they break, is shown by the folders of cases/.
 #![tactic(auto)]
 
 use nc_names::{Bytes, Many, Memory, Text};

@@ -1,6 +1,6 @@
-//! Answers of the crates for plain texts, messages, frames, module texts and patterns to rows of text. Each line of the
-//! input is a row, a kind and a text, and is printed with what is answered; empty lines and those that begin
-//! with `#` are printed as they are. Nothing stands on this crate.
+//! Answers of the crates for plain texts, messages, frames, module texts and patterns to rows of text. Each
+//! line of the input is a row, a kind and a text, and is printed with what is answered; empty lines and those
+//! that begin with `#` are printed as they are. Nothing stands on this crate.
 //!
 //! In a text `\n`, `\r`, `\t`, `\\` and `\xHH` stand for a byte, and `\*COUNT(PART)` for a part that is
 //! repeated. Answers have the same escapes; what is longer than 200 octets is told by its length.

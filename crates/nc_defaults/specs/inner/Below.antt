@@ -8,7 +8,8 @@ use Rattle.nc_schema.specs.Tables.{Tables}
 
 -- the values in use of a leaf or leaf-list in one place, where it stands there
 abbrev pub values_at : Tables → ℕ → Place → List (List ℕ)
-values_at tables number place = if stands_in (parent_of tables number) place then values_in_use tables place number else []
+values_at tables number place =
+    if stands_in (parent_of tables number) place then values_in_use tables place number else []
 
 -- those in some places
 abbrev pub values_among : Tables → ℕ → List Place → List (List ℕ)

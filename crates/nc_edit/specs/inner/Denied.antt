@@ -36,7 +36,8 @@ is_dropped tables block row = is_missing block row && not (gives_way tables bloc
 
 -- the changes of those of some rows that an edit deletes
 abbrev pub dropped_of : Tables → List Row → List Row → List Change
-dropped_of tables block rows = map (λ row. record { path = row.path; right = Delete }) (filter (is_dropped tables block) rows)
+dropped_of tables block rows =
+    map (λ row. record { path = row.path; right = Delete }) (filter (is_dropped tables block) rows)
 
 abbrev pub dropped : Tables → List Row → Path → List Row → List Change
 dropped tables rows path block = dropped_of tables block (block_at rows path.steps)

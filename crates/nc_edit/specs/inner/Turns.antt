@@ -8,4 +8,5 @@ use Rattle.nc_protocol.specs.declared.access.Decision.{Decision}
 use Rattle.nc_protocol.specs.declared.edit.Edit.{Edit}
 
 abbrev pub turn : Tables → (Path → Right → Decision) → Bool → Applied → Edit → Applied
-turn tables rights goes_on so_far edit = if goes_on || is_empty so_far.causes then continued tables rights so_far edit else so_far
+turn tables rights goes_on so_far edit =
+    if goes_on || is_empty so_far.causes then continued tables rights so_far edit else so_far

@@ -40,7 +40,8 @@ own_is_mine opening seen legal = record {
       (λ k d within. (k, within, get_or_default seen k (slice_index_or seen k d) d within));
 }
 
-pub solo_views : {K : Type 0} (coded : Coded K) (words : Lasting K) (seat : Seat K) (home : Home) (seen mine : List Entry) →
+pub solo_views : {K : Type 0} (coded : Coded K) (words : Lasting K) (seat : Seat K) (home : Home)
+    (seen mine : List Entry) →
     SoloStands coded words seat home seen mine → IsView home seen mine
 solo_views coded words seat home seen mine stood = record {
   legal = stood.machine_stands.legal;

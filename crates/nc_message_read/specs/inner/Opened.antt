@@ -10,7 +10,8 @@ use Rattle.nc_message_read.specs.declared.open.Open.{Open}
 
 -- an element that was just opened
 abbrev pub open_of : Head → Open
-open_of head = record { prefix = head.prefix; name = head.name; bounds = head.bounds; attrs = head.attrs; parts = []; text = [] }
+open_of head =
+    record { prefix = head.prefix; name = head.name; bounds = head.bounds; attrs = head.attrs; parts = []; text = [] }
 
 -- the element, at its end tag
 abbrev pub elem_of : Open → Elem
@@ -18,10 +19,28 @@ elem_of o = record { name = o.name; bounds = o.bounds; attrs = o.attrs; parts = 
 
 -- adjacent text is one part, whatever comments stand in it
 abbrev pub with_text : Open → List ℕ → Open
-with_text o text = record { prefix = o.prefix; name = o.name; bounds = o.bounds; attrs = o.attrs; parts = o.parts; text = o.text ++ text }
+with_text o text =
+    record {
+      prefix = o.prefix;
+      name = o.name;
+      bounds = o.bounds;
+      attrs = o.attrs;
+      parts = o.parts;
+      text = o.text
+          ++ text;
+    }
 
 abbrev pub with_child : Open → Elem → Open
-with_child o child = record { prefix = o.prefix; name = o.name; bounds = o.bounds; attrs = o.attrs; parts = (o.parts ++ chars_of o.text) ++ Child child ∷ []; text = [] }
+with_child o child =
+    record {
+      prefix = o.prefix;
+      name = o.name;
+      bounds = o.bounds;
+      attrs = o.attrs;
+      parts =
+          (o.parts ++ chars_of o.text) ++ Child child ∷ [];
+      text = [];
+    }
 
 -- the element, with these in it besides
 abbrev pub around : Open → List Bit → Elem

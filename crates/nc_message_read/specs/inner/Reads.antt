@@ -65,7 +65,8 @@ is_outside above = length above == 0
 
 -- a run of text; outside of the root it is white space
 abbrev pub run : State → List ℕ → Option State
-run s raw = if is_outside s.above then (if list_all is_white raw then Some s else None) else add_text s.above (text_of raw)
+run s raw =
+    if is_outside s.above then (if list_all is_white raw then Some s else None) else add_text s.above (text_of raw)
 
 -- what is skipped
 abbrev pub remark : State → List ℕ → Option State

@@ -14,7 +14,9 @@ has set text = contains (slice_cmp nat_cmp) set text
 
 -- the prefix that an attribute of this name declares was put into the set
 abbrev pub IsDeclaredToo : BTreeSet (List ℕ) → BTreeSet (List ℕ) → Name → Type 0
-IsDeclaredToo before after name = (prefix : List ℕ) → has after prefix ≡ ((is_xmlns name.prefix && is_same_text prefix name.local) || has before prefix)
+IsDeclaredToo before after name =
+    (prefix : List ℕ) → has after prefix ≡ ((is_xmlns name.prefix && is_same_text prefix name.local)
+    || has before prefix)
 
 -- whether the set has a name
 abbrev pub has_name : BTreeSet QName → QName → Bool
@@ -23,7 +25,8 @@ has_name set name = list_any (is_same_name name) set.keys
 -- the name was put into the set, where it was not yet
 abbrev pub IsNameAdded : BTreeSet QName → BTreeSet QName → QName → Bool → Type 0
 IsNameAdded before after name added =
-    (added ≡ not (has_name before name)) × ((other : QName) → has_name after other ≡ (if is_same_name name other then true else has_name before other))
+    (added ≡ not (has_name before name)) × ((other : QName) → has_name after other
+    ≡ (if is_same_name name other then true else has_name before other))
 
 -- the set has the prefixes that attributes declare
 abbrev pub DeclaredPrefixes : BTreeSet (List ℕ) → List Attribute → Type 0

@@ -40,7 +40,8 @@ pub record Halts (from : State) (bytes : List ℕ) (stop : Stop) : Type 0 where
 
 -- the bytes end before the end of a root
 abbrev pub EndsEarly : List ℕ → Stop → Type 0
-EndsEarly bytes stop = (s : State) × Went begin bytes s [] × (s.root ≡ None) × (stop.left ≡ 0) × (stop.why ≡ NotWellFormed)
+EndsEarly bytes stop =
+    (s : State) × Went begin bytes s [] × (s.root ≡ None) × (stop.left ≡ 0) × (stop.why ≡ NotWellFormed)
 
 -- where and why reading stopped before the end of a root
 abbrev pub IsStop : List ℕ → Stop → Type 0

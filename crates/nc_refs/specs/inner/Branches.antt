@@ -31,11 +31,13 @@ IsSpan rows span = (span.0 ≤ span.1) × (span.1 ≤ length rows)
 -- the table has the first part of each step among rows after so many steps
 pub record AreBranches (rows : List Row) (depth from to : ℕ) (table : Spans) : Type 0 where
   pub parts : (key : Bor Step) →
-      option_map (part_at rows key.now) (get step_order table key) ≡ first_part key.now (parts depth (rows_between rows from to))
+      option_map (part_at rows key.now) (get step_order table key)
+      ≡ first_part key.now (parts depth (rows_between rows from to))
   pub spans : (key : Bor Step) → IfSome (get step_order table key) (IsSpan rows)
 
 -- a table has a part more, where it had none of that step
 abbrev pub AddsFirst : Spans → Spans → Step → ℕ × ℕ → Type 0
 AddsFirst before now step span =
     (key : Bor Step) →
-    get step_order now key ≡ option_or (get step_order before key) (if is_same_step step key.now then Some span else None)
+    get step_order now key ≡ option_or (get step_order before key) (if is_same_step step key.now
+    then Some span else None)

@@ -21,7 +21,8 @@ abbrev pub HasValues : BTreeSet (Bor (List ℕ)) → List (List ℕ) → Type 0
 HasValues set values = (key : Bor (List ℕ)) → contains text_order set key ≡ has_text key.now values
 
 abbrev pub AreReferred : Tables → List Row → Referred → Type 0
-AreReferred tables rows referred = HasValues referred.values (values_referred tables rows referred.turning.now referred.target)
+AreReferred tables rows referred =
+    HasValues referred.values (values_referred tables rows referred.turning.now referred.target)
 
 -- what is known holds
 pub record IsKnown (tables : Tables) (rows : List Row) (known : Known) : Type 0 where

@@ -20,7 +20,8 @@ means Target = read_as (base_name w.target_word) asking.datastore_in
 means Source = read_as (base_name w.source_word) asking.datastore_in
 means Origin = read_as (base_name w.source_word) asking.origin_in
 means Config = read_as (base_name w.config_word) Some
-means Filter = asking.single (base_name w.filter_word) (asking.plain_cause BadFilterType []) (asking.some_in asking.filter_in)
+means Filter =
+    asking.single (base_name w.filter_word) (asking.plain_cause BadFilterType []) (asking.some_in asking.filter_in)
 means DefaultOperation = read_as (base_name w.default_operation_word) (asking.word_in asking.default_operations)
 means TestOption = read_as (base_name w.test_option_word) (asking.word_in asking.test_options)
 means ErrorOption = read_as (base_name w.error_option_word) (asking.word_in asking.error_options)

@@ -69,7 +69,8 @@ impl<T: Stands> Turn<T> {
     pub fn take<R: Wait>(&self, rt: &R, pass: &mut Pass<T>) -> Result<T, Spent>
         requires { IsOf T.home self.now pass.old × IsIdle pass.old }
         ensures of { IsOf T.home self.now pass.new }
-        ensures taken { MatchResult result (HasTaken T.home T.stands self.now pass.old pass.new) (IsSpent pass.old pass.new) }
+        ensures taken { MatchResult result (HasTaken T.home T.stands self.now pass.old pass.new)
+            (IsSpent pass.old pass.new) }
     {
         let ticket = self.queue(rt, pass)?;
         self.wait(rt, pass, ticket);
@@ -79,7 +80,8 @@ impl<T: Stands> Turn<T> {
     /// Adds an entry to the history, which the value gained while it was out.
     pub fn write<E: Bears>(&self, pass: &mut Pass<T>, entry: &E)
         requires turn { IsOf T.home self.now pass.old × IsHolding pass.old × ((view pass.old).wrote ≤ 1) }
-        requires legal { IsLegal 0 (T.home (first_of self.now)).opening ((view pass.old).seen ++ E.entry entry.now ∷ []) }
+        requires legal { IsLegal 0 (T.home (first_of self.now)).opening ((view pass.old).seen
+            ++ E.entry entry.now ∷ []) }
         ensures of { IsOf T.home self.now pass.new × IsHolding pass.new × (pass.new.id ≡ pass.old.id) }
         ensures written { view pass.new ≡ written (E.entry entry.now) (view pass.old) }
     {

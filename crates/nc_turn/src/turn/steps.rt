@@ -131,7 +131,8 @@ impl<T: Stands> Turn<T> {
         requires said { W.entry ≡ Some (E.entry entry.now) }
         requires turn { IsAt T.home self.now pass.old × ((view pass.old).holds ≡ true)
             × ((view pass.old).wrote ≤ 1) }
-        requires legal { IsLegal 0 (T.home (first_of self.now)).opening ((view pass.old).seen ++ E.entry entry.now ∷ []) }
+        requires legal { IsLegal 0 (T.home (first_of self.now)).opening ((view pass.old).seen
+            ++ E.entry entry.now ∷ []) }
         ensures { (pass.new.table_id ≡ pass.old.table_id) × (pass.new.id ≡ pass.old.id)
             × (pass.new.me ≡ (written (E.entry entry.now) (view pass.old), pass.old.me.1))
             × IsMineIn (view pass.new).mine (view pass.new).seen

@@ -8,7 +8,8 @@ use Rattle.nc_names.specs.Signs.{colon, dot}
 abbrev pub SplitsAt : ℕ → List ℕ → Option (Bor (List ℕ) × Bor (List ℕ)) → Type 0
 SplitsAt sign text found =
     MatchOption found (position_or_len (λ c. c == sign) text ≡ length text)
-    (λ x. (x.0.now ≡ before_first (λ c. c == sign) text) × (x.1.now ≡ after_first (λ c. c == sign) text) × (position_or_len (λ c. c == sign) text < length text))
+    (λ x. (x.0.now ≡ before_first (λ c. c == sign) text) × (x.1.now ≡ after_first (λ c. c == sign) text)
+    × (position_or_len (λ c. c == sign) text < length text))
 
 abbrev pub SplitsAtColon : List ℕ → Option (Bor (List ℕ) × Bor (List ℕ)) → Type 0
 SplitsAtColon text found = SplitsAt colon text found

@@ -27,12 +27,14 @@ pub data Ends (scoping : Scoping) (plan : Plan) (typed : Typed) (refusals : Refu
   refused : (fault : TextFault) → KeepsDepth scoping plan typed.schema → KeepsDefaults scoping plan typed.schema
       → RefusesType scoping.located typed refusals fault → Ends scoping plan typed refusals fault
   unsuited : (fault : TextFault) (patterned : Tables) → KeepsDepth scoping plan typed.schema
-      → KeepsDefaults scoping plan typed.schema → HasPatterns scoping.located typed patterned → BreaksDefault scoping plan patterned fault
+      → KeepsDefaults scoping plan typed.schema → HasPatterns scoping.located typed patterned
+      → BreaksDefault scoping plan patterned fault
       → Ends scoping plan typed refusals fault
 
 -- data nodes of a plan give no schema: they break a rule, or a maker refused a pattern
 abbrev pub GivesNoSchema : Scoping → FeatureTest → Plan → Refusals → TextFault → Type 0
-GivesNoSchema scoping on plan refusals fault = BreaksPlan scoping on plan fault ⊎ RefusesPlan scoping on plan refusals fault
+GivesNoSchema scoping on plan refusals fault =
+    BreaksPlan scoping on plan fault ⊎ RefusesPlan scoping on plan refusals fault
 
 -- texts give none
 abbrev pub GivesNothing : Scoping → FeatureTest → Refusals → TextFault → Type 0

@@ -41,8 +41,10 @@ links_of scoping given leaf paths = flat_map (λ path. option_to_list (link_of s
 
 -- the links of a data node
 pub record AreLinks (b : Basis) (leaf : ℕ) (links : List Link) : Type 0 where
-  pub only : (link : Link) → Contains links link → (l : Located) × (slice_get b.scoping.located link.path ≡ Some l) × Refers b leaf l link.target
-  pub all : (l : Located) (target : ℕ) → Refers b leaf l target → (link : Link) × Contains links link × (link.target ≡ target)
+  pub only : (link : Link) → Contains links link → (l : Located) × (slice_get b.scoping.located link.path ≡ Some l)
+      × Refers b leaf l link.target
+  pub all : (l : Located) (target : ℕ) → Refers b leaf l target → (link : Link) × Contains links link × (link.target
+      ≡ target)
 
 -- those of the first so many data nodes
 pub record AreSomeLinks (b : Basis) (count : ℕ) (links : List (List Link)) : Type 0 where
@@ -67,4 +69,5 @@ links_at links number = unwrap_or (slice_get links number) []
 -- the fault of the `path` statement of the link in a place
 abbrev pub fault_of : Scoping → List (List Link) → ℕ → ℕ → Option TextFault
 fault_of scoping links number place =
-    option_and_then (λ link. option_map fault_at (slice_get scoping.located link.path)) (slice_get (links_at links number) place)
+    option_and_then (λ link. option_map fault_at (slice_get scoping.located link.path)) (slice_get
+    (links_at links number) place)

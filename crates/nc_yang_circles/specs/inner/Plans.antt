@@ -26,12 +26,14 @@ IsPath meanings plan path = (need : Bool) × (slice_get meanings.plans plan ≡ 
 -- a plan is a union with such a member
 abbrev pub IsMember : Meanings → ℕ → ℕ → Type 0
 IsMember meanings plan next =
-    (members : List ℕ) × (slice_get meanings.plans plan ≡ Some (Members members)) × IsAmong meanings.findings members next
+    (members : List ℕ) × (slice_get meanings.plans plan ≡ Some (Members members))
+    × IsAmong meanings.findings members next
 
 -- a plan is a leafref with that path, or has such a one among its members
 pub data UsesNumber (meanings : Meanings) : ℕ → ℕ → Type 0 where
   own : (plan path : ℕ) → IsPath meanings plan path → UsesNumber meanings plan path
-  inner : (plan next path : ℕ) → IsMember meanings plan next → UsesNumber meanings next path → UsesNumber meanings plan path
+  inner : (plan next path : ℕ) → IsMember meanings plan next → UsesNumber meanings next path
+      → UsesNumber meanings plan path
 
 -- the paths of a plan
 pub record ArePlanPaths (meanings : Meanings) (plan : ℕ) (paths : List ℕ) : Type 0 where
@@ -40,10 +42,14 @@ pub record ArePlanPaths (meanings : Meanings) (plan : ℕ) (paths : List ℕ) : 
 
 -- those of the plan of a `type` statement, if it has one
 pub record AreTypePaths (meanings : Meanings) (statement : ℕ) (paths : List ℕ) : Type 0 where
-  pub only : (path : ℕ) → Contains paths path → (plan : ℕ) × (plan_at meanings.findings statement ≡ Some plan) × UsesNumber meanings plan path
-  pub all : (plan path : ℕ) → plan_at meanings.findings statement ≡ Some plan → UsesNumber meanings plan path → Contains paths path
+  pub only : (path : ℕ) → Contains paths path → (plan : ℕ) × (plan_at meanings.findings statement ≡ Some plan)
+      × UsesNumber meanings plan path
+  pub all : (plan path : ℕ) → plan_at meanings.findings statement ≡ Some plan → UsesNumber meanings plan path
+      → Contains paths path
 
 -- those of the type of a data node
 pub record ArePaths (b : Basis) (leaf : ℕ) (paths : List ℕ) : Type 0 where
-  pub only : (path : ℕ) → Contains paths path → (l : Located) × (slice_get b.scoping.located path ≡ Some l) × HasPath b leaf l
-  pub all : (l : Located) → HasPath b leaf l → (path : ℕ) × Contains paths path × (slice_get b.scoping.located path ≡ Some l)
+  pub only : (path : ℕ) → Contains paths path → (l : Located) × (slice_get b.scoping.located path ≡ Some l)
+      × HasPath b leaf l
+  pub all : (l : Located) → HasPath b leaf l → (path : ℕ) × Contains paths path × (slice_get b.scoping.located path
+      ≡ Some l)

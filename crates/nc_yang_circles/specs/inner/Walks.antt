@@ -14,7 +14,8 @@ IsMarkedAt findings marks member plan = (plan_at findings member ≡ Some plan) 
 
 -- that of one of these
 abbrev pub IsMarkedAmong : List Finding → List Bool → List ℕ → ℕ → Type 0
-IsMarkedAmong findings marks members plan = (member : ℕ) × Contains members member × IsMarkedAt findings marks member plan
+IsMarkedAmong findings marks members plan =
+    (member : ℕ) × Contains members member × IsMarkedAt findings marks member plan
 
 -- a plan is a union with such a member
 abbrev pub IsNext : Meanings → List Bool → ℕ → ℕ → Type 0
@@ -50,5 +51,7 @@ pub record IsOnWay (meanings : Meanings) (marks : List Bool) (top : ℕ) (at : �
   pub start : Contains walk.plans top
   pub within : (plan path : ℕ) → Contains walk.plans plan → UsesNumber meanings plan path → UsesNumber meanings top path
   pub only : (path : ℕ) → Contains walk.paths path → UsesNumber meanings top path
-  pub members : (place plan next : ℕ) → place < at → slice_get walk.plans place ≡ Some plan → IsNext meanings marks plan next → Contains walk.plans next
-  pub paths : (place plan path : ℕ) → place < at → slice_get walk.plans place ≡ Some plan → IsPath meanings plan path → Contains walk.paths path
+  pub members : (place plan next : ℕ) → place < at → slice_get walk.plans place ≡ Some plan
+      → IsNext meanings marks plan next → Contains walk.plans next
+  pub paths : (place plan path : ℕ) → place < at → slice_get walk.plans place ≡ Some plan
+      → IsPath meanings plan path → Contains walk.paths path

@@ -35,7 +35,8 @@ pub record SetsType (located : List Located) (place : ℕ) (statements : List �
   pub adds : AddsAll located statements old between numbers
   pub rest : new ≡ record between { types = new.types }
   pub counted : length new.types ≡ length old.types
-  pub here : (entry : ValueType) → slice_get old.types place ≡ Some entry → slice_get new.types place ≡ Some (with_numbers numbers entry)
+  pub here : (entry : ValueType) → slice_get old.types place ≡ Some entry → slice_get new.types place
+      ≡ Some (with_numbers numbers entry)
   pub others : (other : ℕ) → (other ≡ place → ⊥) → slice_get new.types other ≡ slice_get old.types other
 
 -- the first so many types have the patterns of their statements, and all else is as it was
@@ -44,6 +45,7 @@ pub record HasSomePatterns (located : List Located) (typed : Typed) (count : ℕ
   pub choices : tables.choices ≡ typed.schema.choices
   pub modules : tables.modules ≡ typed.schema.modules
   pub counted : length tables.types ≡ length typed.schema.types
-  pub each : (place : ℕ) (entry : ValueType) (statements : List ℕ) → place < count → slice_get typed.schema.types place ≡ Some entry →
+  pub each : (place : ℕ) (entry : ValueType) (statements : List ℕ) → place < count
+      → slice_get typed.schema.types place ≡ Some entry →
       slice_get typed.patterns place ≡ Some statements → HasItsPatterns located statements entry tables place
   pub others : (place : ℕ) → count ≤ place → slice_get tables.types place ≡ slice_get typed.schema.types place

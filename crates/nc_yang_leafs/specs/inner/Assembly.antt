@@ -28,7 +28,8 @@ pub record HasBareTypes (old : Tables) (types : List ValueType) (typed : Typed) 
   pub patterns : typed.patterns ≡ map numbers_in types
 
 abbrev pub with_kind : Tables → ℕ → ℕ → Tables
-with_kind tables number kind = record tables { nodes = node_with tables.nodes number kind (slice_get tables.nodes number) }
+with_kind tables number kind =
+    record tables { nodes = node_with tables.nodes number kind (slice_get tables.nodes number) }
 
 -- the first so many data nodes have those types, and all else is as before
 pub record HasSome (old : Tables) (kinds : List ℕ) (count : ℕ) (new : Tables) : Type 0 where
@@ -37,7 +38,8 @@ pub record HasSome (old : Tables) (kinds : List ℕ) (count : ℕ) (new : Tables
   pub patterns : new.patterns ≡ old.patterns
   pub types : new.types ≡ old.types
   pub counted : length new.nodes ≡ length old.nodes
-  pub set : (number kind : ℕ) (node : Node) → number < count → slice_get kinds number ≡ Some kind → slice_get old.nodes number ≡ Some node →
+  pub set : (number kind : ℕ) (node : Node) → number < count → slice_get kinds number ≡ Some kind
+      → slice_get old.nodes number ≡ Some node →
       slice_get new.nodes number ≡ Some (record node { kind_of_value = kind })
   pub others : (number : ℕ) → count ≤ number → slice_get new.nodes number ≡ slice_get old.nodes number
 

@@ -74,12 +74,17 @@ pub record Asked (w : Work) (members : List ℕ) (old new : Table) (numbers : Li
   pub types : new.types ≡ old.types
   pub more : List ℕ
   pub plans : new.plans ≡ old.plans ++ more
-  pub from : (plan : ℕ) → Contains more plan → (member : ℕ) × Contains members member × (plan_for w.meanings.findings w.firsts member ≡ Some plan)
-  pub kept : (plan number : ℕ) → number_of w.marks old.known w.node plan ≡ Some number → number_of w.marks new.known w.node plan ≡ Some number
+  pub from : (plan : ℕ) → Contains more plan → (member : ℕ) × Contains members member
+      × (plan_for w.meanings.findings w.firsts member ≡ Some plan)
+  pub kept : (plan number : ℕ) → number_of w.marks old.known w.node plan ≡ Some number
+      → number_of w.marks new.known w.node plan ≡ Some number
   pub fresh : (plan number : ℕ) → number_of w.marks new.known w.node plan ≡ Some number →
-      (number_of w.marks old.known w.node plan ≡ Some number) ⊎ ((length old.plans ≤ number) × (slice_get new.plans number ≡ Some plan))
-  pub given : (plan number : ℕ) → length old.plans ≤ number → slice_get new.plans number ≡ Some plan → number_of w.marks new.known w.node plan ≡ Some number
-  pub stamped : (plan : ℕ) (slot : Slot) → slot_at new.known plan ≡ Some slot → (slot_at old.known plan ≡ Some slot) ⊎ (slot.node ≡ w.node)
+      (number_of w.marks old.known w.node plan ≡ Some number) ⊎ ((length old.plans ≤ number)
+      × (slice_get new.plans number ≡ Some plan))
+  pub given : (plan number : ℕ) → length old.plans ≤ number → slice_get new.plans number ≡ Some plan
+      → number_of w.marks new.known w.node plan ≡ Some number
+  pub stamped : (plan : ℕ) (slot : Slot) → slot_at new.known plan ≡ Some slot → (slot_at old.known plan ≡ Some slot)
+      ⊎ (slot.node ≡ w.node)
   pub answers : map (number_at w new.known) members ≡ map Some numbers
 
 -- the `path` statement of a number leads there
@@ -93,7 +98,8 @@ pub record IsLeafref (w : Work) (path : ℕ) (required : Bool) (entry : ValueTyp
   pub is : entry ≡ LeafrefType end.target end.above required
 
 -- an entry is of a plan, with the numbers of its `pattern` statements or those that its members have
-abbrev pub Fits : (derived : List Located → List QName → Type 0) → Work → List (Option Slot) → Planned → ValueType → Type 0
+abbrev pub Fits : (derived : List Located → List QName → Type 0) → Work → List (Option Slot) → Planned → ValueType
+    → Type 0
 Fits derived w known (Finished entry patterns names) other = other ≡ with_numbers patterns entry
 Fits derived w known (Members members) other =
     (numbers : List ℕ) × (other ≡ UnionType numbers) × (map (number_at w known) members ≡ map Some numbers)
@@ -106,7 +112,8 @@ members_in (Members members) = members
 members_in planned = []
 
 -- a plan's entry was made, and its members asked for
-pub record Enters (derived : List Located → List QName → Type 0) (w : Work) (planned : Planned) (old new : Table) (entry : ValueType) : Type 0 where
+pub record Enters (derived : List Located → List QName → Type 0) (w : Work) (planned : Planned) (old new : Table)
+    (entry : ValueType) : Type 0 where
   pub numbers : List ℕ
   pub asked : Asked w (members_in planned) old new numbers
   pub fits : Fits derived w new.known planned entry
@@ -151,22 +158,28 @@ pub record IsUsed (on : ℕ → List ℕ → Bool) (w : Work) (top : Located) (p
 
 -- entries are right as far as they are made
 pub record IsRight (derived : List Located → List QName → Type 0) (w : Work) (table : Table) : Type 0 where
-  pub numbered : (plan number : ℕ) → number_of w.marks table.known w.node plan ≡ Some number → slice_get table.plans number ≡ Some plan
-  pub fits : (plan number : ℕ) (entry : ValueType) (planned : Planned) → number_of w.marks table.known w.node plan ≡ Some number →
-      slice_get table.types number ≡ Some entry → slice_get w.meanings.plans plan ≡ Some planned → Fits derived w table.known planned entry
+  pub numbered : (plan number : ℕ) → number_of w.marks table.known w.node plan ≡ Some number
+      → slice_get table.plans number ≡ Some plan
+  pub fits : (plan number : ℕ) (entry : ValueType) (planned : Planned) → number_of w.marks table.known w.node plan
+      ≡ Some number →
+      slice_get table.types number ≡ Some entry → slice_get w.meanings.plans plan ≡ Some planned
+      → Fits derived w table.known planned entry
   pub stamped : (plan : ℕ) (slot : Slot) → slot_at table.known plan ≡ Some slot → slot.node ≤ w.node
   pub firsts : AreFirsts derived w.scoping.located w.meanings.plans w.marks w.firsts
 
 -- the numbers from that one on are for the type of the data node, and those that are yet to be made are among them
-pub record IsOnWay (derived : List Located → List QName → Type 0) (on : ℕ → List ℕ → Bool) (w : Work) (top : Located) (start : ℕ) (table : Table) : Type 0 where
+pub record IsOnWay (derived : List Located → List QName → Type 0) (on : ℕ → List ℕ → Bool) (w : Work) (top : Located)
+    (start : ℕ) (table : Table) : Type 0 where
   pub right : IsRight derived w table
   pub used : (plan number : ℕ) → start ≤ number → slice_get table.plans number ≡ Some plan → IsUsed on w top plan
-  pub given : (plan number : ℕ) → start ≤ number → slice_get table.plans number ≡ Some plan → number_of w.marks table.known w.node plan ≡ Some number
+  pub given : (plan number : ℕ) → start ≤ number → slice_get table.plans number ≡ Some plan
+      → number_of w.marks table.known w.node plan ≡ Some number
   pub past : start ≤ length table.types
   pub few : length table.types ≤ length table.plans
 
 -- none of them is made
-abbrev pub IsAtStart : (derived : List Located → List QName → Type 0) → (on : ℕ → List ℕ → Bool) → Work → (top : Located) → Table → Type 0
+abbrev pub IsAtStart : (derived : List Located → List QName → Type 0) → (on : ℕ → List ℕ → Bool) → Work
+    → (top : Located) → Table → Type 0
 IsAtStart derived on w top table = IsOnWay derived on w top (length table.types) table
 
 -- all are made
@@ -184,15 +197,19 @@ abbrev pub AddsTypes : (old new : Table) → Type 0
 AddsTypes old new = (more : List ValueType) × (new.types ≡ old.types ++ more)
 
 -- entries were added
-pub record Goes (derived : List Located → List QName → Type 0) (on : ℕ → List ℕ → Bool) (w : Work) (top : Located) (old new : Table) : Type 0 where
+pub record Goes (derived : List Located → List QName → Type 0) (on : ℕ → List ℕ → Bool) (w : Work) (top : Located)
+    (old new : Table) : Type 0 where
   pub adds : AddsTypes old new
-  pub kept : (plan number : ℕ) → number_of w.marks old.known w.node plan ≡ Some number → number_of w.marks new.known w.node plan ≡ Some number
+  pub kept : (plan number : ℕ) → number_of w.marks old.known w.node plan ≡ Some number
+      → number_of w.marks new.known w.node plan ≡ Some number
   pub on_way : IsOnWay derived on w top (length old.types) new
 
 -- the entries of all numbers are made
-pub record Fills (derived : List Located → List QName → Type 0) (on : ℕ → List ℕ → Bool) (w : Work) (top : Located) (old new : Table) : Type 0 where
+pub record Fills (derived : List Located → List QName → Type 0) (on : ℕ → List ℕ → Bool) (w : Work) (top : Located)
+    (old new : Table) : Type 0 where
   pub adds : AddsTypes old new
-  pub kept : (plan number : ℕ) → number_of w.marks old.known w.node plan ≡ Some number → number_of w.marks new.known w.node plan ≡ Some number
+  pub kept : (plan number : ℕ) → number_of w.marks old.known w.node plan ≡ Some number
+      → number_of w.marks new.known w.node plan ≡ Some number
   pub settled : IsSettled derived w new
   pub used : (number : ℕ) → length old.types ≤ number → number < length new.types →
       (plan : ℕ) × IsUsed on w top plan × (number_of w.marks new.known w.node plan ≡ Some number)

@@ -11,7 +11,8 @@ use Rattle.nc_yang_meanings.specs.declared.footing.Footing.TheVariants.{OnBuiltI
 abbrev pub IsFooting : Scoping → Located → Footing → Type 0
 IsFooting scoping l (OnBuiltIn one) = built_in l ≡ Some one
 IsFooting scoping l (OnType number) =
-    (built_in l ≡ None) × ((base : Located) × (slice_get scoping.located number ≡ Some base) × (base_of scoping.texts l ≡ Some base))
+    (built_in l ≡ None) × ((base : Located) × (slice_get scoping.located number ≡ Some base)
+    × (base_of scoping.texts l ≡ Some base))
 IsFooting scoping l OnNothing = (built_in l ≡ None) × (base_of scoping.texts l ≡ None)
 
 -- on what each of the first so many rests
@@ -31,7 +32,8 @@ dependent graph number footing = graph
 pub record AreDependents (footings : List Footing) (count : ℕ) (graph : List (List ℕ)) : Type 0 where
   pub counted : length graph ≡ length footings
   pub rests : (base number : ℕ) → Contains (targets graph base) number → slice_get footings number ≡ Some (OnType base)
-  pub has : (base number : ℕ) → number < count → base < length footings → slice_get footings number ≡ Some (OnType base) →
+  pub has : (base number : ℕ) → number < count → base < length footings → slice_get footings number
+      ≡ Some (OnType base) →
       Contains (targets graph base) number
 
 -- with a number, if its type rests on a built-in type
@@ -41,5 +43,7 @@ started starts number footing = starts
 
 -- those of the first so many that rest on built-in types
 pub record AreStarts (footings : List Footing) (count : ℕ) (starts : List ℕ) : Type 0 where
-  pub rests : (number : ℕ) → Contains starts number → (one : BuiltIn) × (slice_get footings number ≡ Some (OnBuiltIn one))
-  pub has : (number : ℕ) (one : BuiltIn) → number < count → slice_get footings number ≡ Some (OnBuiltIn one) → Contains starts number
+  pub rests : (number : ℕ) → Contains starts number → (one : BuiltIn) × (slice_get footings number
+      ≡ Some (OnBuiltIn one))
+  pub has : (number : ℕ) (one : BuiltIn) → number < count → slice_get footings number ≡ Some (OnBuiltIn one)
+      → Contains starts number

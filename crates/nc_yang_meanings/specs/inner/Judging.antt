@@ -45,22 +45,26 @@ is_union s = is_same_keyword TypeName (kind s) && is_union_type (built_in_of (na
 -- a member of the union of a number that refers to other data, or that there is none
 abbrev pub JudgesMembers : Scoping → Meanings → ℕ → Option Fault → Type 0
 JudgesMembers scoping meanings number result =
-    (on : ℕ → List ℕ → Bool) → AreMeanings on scoping meanings → (l : Located) → slice_get scoping.located number ≡ Some l →
+    (on : ℕ → List ℕ → Bool) → AreMeanings on scoping meanings → (l : Located) → slice_get scoping.located number
+    ≡ Some l →
     MatchOption result ((fault : Fault) → RefersInUnion on scoping.texts l fault → ⊥) (RefersInUnion on scoping.texts l)
 
 -- what is wrong with the statement of a number by itself, or that nothing is
 abbrev pub JudgesOne : Scoping → Meanings → ℕ → Option Fault → Type 0
 JudgesOne scoping meanings number result =
-    (on : ℕ → List ℕ → Bool) → AreMeanings on scoping meanings → (l : Located) → slice_get scoping.located number ≡ Some l →
+    (on : ℕ → List ℕ → Bool) → AreMeanings on scoping meanings → (l : Located) → slice_get scoping.located number
+    ≡ Some l →
     MatchOption result ((fault : Fault) → BreaksOne on scoping.texts l fault → ⊥) (BreaksOne on scoping.texts l)
 
 -- what is wrong with the statement of a number or in it, or that nothing is
 abbrev pub Judges : Scoping → Meanings → ℕ → Option Fault → Type 0
 Judges scoping meanings number result =
-    (on : ℕ → List ℕ → Bool) → AreMeanings on scoping meanings → (l : Located) → slice_get scoping.located number ≡ Some l →
+    (on : ℕ → List ℕ → Bool) → AreMeanings on scoping meanings → (l : Located) → slice_get scoping.located number
+    ≡ Some l →
     MatchOption result ((fault : Fault) → BreaksType on scoping.texts l fault → ⊥) (BreaksType on scoping.texts l)
 
 abbrev pub JudgesText : Scoping → Meanings → ℕ → Option Fault → Type 0
 JudgesText scoping meanings text result =
     (on : ℕ → List ℕ → Bool) → AreMeanings on scoping meanings →
-    MatchOption result ((fault : Fault) → BreaksTypes on scoping.texts text fault → ⊥) (BreaksTypes on scoping.texts text)
+    MatchOption result ((fault : Fault) → BreaksTypes on scoping.texts text fault
+    → ⊥) (BreaksTypes on scoping.texts text)

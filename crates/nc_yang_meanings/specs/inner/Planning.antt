@@ -112,14 +112,20 @@ IsOver holds place planned own ss (Same (Plan number)) =
 -- over that of a number
 abbrev pub IsOverBase : (holds : Statement → Bool) → Meanings → ℕ → (own : List ℕ) → List Statement → Found → Type 0
 IsOverBase holds meanings base own ss found =
-    ((place : ℕ) × (planned : Planned) × FindsPlan meanings base place planned × IsOver holds place planned own ss found)
+    ((place : ℕ) × (planned : Planned) × FindsPlan meanings base place planned
+    × IsOver holds place planned own ss found)
     ⊎ (LacksPlan meanings base × (found ≡ Same Nothing))
 
 -- with what was found of a number
 abbrev pub with_found : Meanings → ℕ → Found → Meanings
-with_found meanings number (Same finding) = record { findings = slice_set meanings.findings number finding; plans = meanings.plans }
+with_found meanings number (Same finding) =
+    record { findings = slice_set meanings.findings number finding; plans = meanings.plans }
 with_found meanings number (New planned) =
-    record { findings = slice_set meanings.findings number (Plan (length meanings.plans)); plans = meanings.plans ++ planned ∷ [] }
+    record {
+      findings = slice_set meanings.findings number (Plan
+          (length meanings.plans));
+      plans = meanings.plans ++ planned ∷ [];
+    }
 
 -- nothing was looked at
 abbrev pub blank : ℕ → Meanings
@@ -143,10 +149,12 @@ pub record IsOrdered (footings : List Footing) (reach : Reach) : Type 0 where
   pub reached : IsReached graph starts reach
 
 -- a number was looked at
-pub record Steps (on : ℕ → List ℕ → Bool) (scoping : Scoping) (footing : Footing) (number : ℕ) (old new : Meanings) : Type 0 where
+pub record Steps (on : ℕ → List ℕ → Bool) (scoping : Scoping) (footing : Footing) (number : ℕ)
+    (old new : Meanings) : Type 0 where
   pub found : Found
   pub is : new ≡ with_found old number found
-  pub judged : (l : Located) → slice_get scoping.located number ≡ Some l → IsFooting scoping l footing → HasBase on scoping old footing →
+  pub judged : (l : Located) → slice_get scoping.located number ≡ Some l → IsFooting scoping l footing
+      → HasBase on scoping old footing →
       IsFound on scoping old.plans l found
 
 -- the first numbers of an order were looked at, and no other

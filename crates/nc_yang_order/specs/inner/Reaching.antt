@@ -6,7 +6,8 @@ use Rattle.nc_yang_order.specs.Reaching.{IsLed, IsMarked}
 use Rattle.nc_yang_order.specs.declared.reach.Reach.{Reach}
 
 abbrev pub added_at : Option Bool → Reach → ℕ → Reach
-added_at (Some false) reach number = record { marks = slice_set reach.marks number true; found = reach.found ++ number ∷ [] }
+added_at (Some false) reach number =
+    record { marks = slice_set reach.marks number true; found = reach.found ++ number ∷ [] }
 added_at mark reach number = reach
 
 -- with a number, unless it was found before or is past the last
@@ -19,6 +20,7 @@ pub record IsOnWay (graph : List (List ℕ)) (starts : List ℕ) (at : ℕ) (rea
   pub marks : IsMarked reach
   pub led : EachAfter (IsLed graph starts) [] reach.found
   pub started : (number : ℕ) → Contains starts number → number < length graph → Contains reach.found number
-  pub followed : (from number : ℕ) → Contains (take at reach.found) from → Contains (targets graph from) number → number < length graph →
+  pub followed : (from number : ℕ) → Contains (take at reach.found) from → Contains (targets graph from) number
+      → number < length graph →
       Contains reach.found number
   pub within : at ≤ length reach.found

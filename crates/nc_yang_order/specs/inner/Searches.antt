@@ -27,7 +27,8 @@ pub record IsLedTo (graph : List (List ℕ)) (below : List ℕ) (number : ℕ) :
 
 -- the targets before the next one are done
 abbrev pub IsLookedAt : List (List ℕ) → List Mark → Turn → Type 0
-IsLookedAt graph marks turn = (target : ℕ) → Contains (take turn.next (targets graph turn.number)) target → HasMark marks target Done
+IsLookedAt graph marks turn =
+    (target : ℕ) → Contains (take turn.next (targets graph turn.number)) target → HasMark marks target Done
 
 -- a search that has come so far
 pub record IsSearch (graph : List (List ℕ)) (search : Search) : Type 0 where
@@ -66,7 +67,8 @@ entered search number = record search {
 
 -- a number gets its place in the order
 abbrev pub finished : Search → ℕ → Search
-finished search number = record search { marks = slice_set search.marks number Done; order = search.order ++ number ∷ [] }
+finished search number =
+    record search { marks = slice_set search.marks number Done; order = search.order ++ number ∷ [] }
 
 -- these turns are on the stack
 abbrev pub with_turn : Search → Turn → Search

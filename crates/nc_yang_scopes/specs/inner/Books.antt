@@ -26,4 +26,5 @@ near located keyword word number =
 -- the definition of a name with a prefix
 abbrev pub across : List Statement → List Located → Keyword → List ℕ → List ℕ → ℕ → Option Located
 across texts located keyword prefix word number =
-    option_and_then (λ l. option_and_then (found_in texts keyword word l.place) (text_of_prefix texts l.place.text prefix)) (slice_get located number)
+    option_and_then (λ l. option_and_then (found_in texts keyword word l.place)
+    (text_of_prefix texts l.place.text prefix)) (slice_get located number)

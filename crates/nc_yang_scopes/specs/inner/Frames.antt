@@ -22,11 +22,13 @@ first_in texts entries number = length texts + length (opened 0 (take number ent
 
 -- a statement stands in one of a lower number, of the same text
 abbrev pub IsBehind : List Entry → ℕ → Entry → ℕ → Type 0
-IsBehind entries number entry outer = (outer < number) × (option_map (λ o. o.text) (slice_get entries outer) ≡ Some entry.text)
+IsBehind entries number entry outer =
+    (outer < number) × (option_map (λ o. o.text) (slice_get entries outer) ≡ Some entry.text)
 
 abbrev pub AreBehind : List Entry → Type 0
 AreBehind entries =
-    (number : ℕ) (entry : Entry) → slice_get entries number ≡ Some entry → IfSome entry.outer (IsBehind entries number entry)
+    (number : ℕ) (entry : Entry) → slice_get entries number ≡ Some entry
+    → IfSome entry.outer (IsBehind entries number entry)
 
 -- the statements of the texts, with what stands directly in the first so many
 pub record IsPart (texts : List Statement) (entries : List Entry) (firsts : List ℕ) (count : ℕ) : Type 0 where
@@ -63,4 +65,5 @@ is_known keyword block word entry = is_in block entry.outer && is_one keyword wo
 
 -- the table has the first statement of that keyword of each word in each block
 abbrev pub IsTable : Keyword → List Entry → Table → Type 0
-IsTable keyword entries table = (block : ℕ) (word : List ℕ) → number_at table block word ≡ position_from (is_known keyword block word) 0 entries
+IsTable keyword entries table =
+    (block : ℕ) (word : List ℕ) → number_at table block word ≡ position_from (is_known keyword block word) 0 entries

@@ -13,7 +13,8 @@ use Rattle.nc_yang_scopes.specs.Tables.{number_at}
 
 -- the table has the first text of each module's name
 abbrev pub IsModules : List Statement → Table → Type 0
-IsModules texts table = (word : List ℕ) → number_at table 0 word ≡ position_from (λ t. is_same_text (name t) word) 0 texts
+IsModules texts table =
+    (word : List ℕ) → number_at table 0 word ≡ position_from (λ t. is_same_text (name t) word) 0 texts
 
 -- the tables have what the texts and their statements define
 pub record AreNames (texts : List Statement) (entries : List Entry) (names : Names) : Type 0 where

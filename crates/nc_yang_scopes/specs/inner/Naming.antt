@@ -25,7 +25,8 @@ nameless_at texts found keyword s = false
 
 abbrev pub foreign_at : List Statement → Option Located → Statement → Bool
 foreign_at texts found s =
-    has_colon (keyword_text s) && option_map_or (λ l. is_none (text_of_prefix texts l.place.text (prefix_of (keyword_text s)))) found false
+    has_colon (keyword_text s) && option_map_or (λ l. is_none (text_of_prefix texts l.place.text (prefix_of
+    (keyword_text s)))) found false
 
 abbrev pub defined_out_at : Keyword → List ℕ → Option Located → Bool
 defined_out_at keyword word found = option_map_or (λ l. is_defined_out keyword word l.place) found false

@@ -1,5 +1,5 @@
-//! Parts of a configuration that are taken and put without copies of their rows; what stands below a node; rows
-//! that are the same, and the room that they take.
+//! Parts of a configuration that are taken and put without copies of their rows; what stands below a node;
+//! rows that are the same, and the room that they take.
 use super::{config, has, path, schema};
 use nc_names::{Copies, Many, Place};
 use nc_tree::{Config, Listed};
@@ -25,7 +25,8 @@ fn a_part_is_put_back(rt: HostRuntime) {
     has(&rt, alloc, &config, "7:a 7:a/8=a 7:c 7:c/8=c 7:b 7:b/8=b");
 }
 
-// How many rows stand at and below a path, and in a list of all; and how many entries the list of a number has.
+// How many rows stand at and below a path, and in a list of all; and how many entries the list of a number
+// has.
 fn counts(rt: &impl Abort, alloc: Global, config: &Config, at: &str, number: u32) -> [u64; 3] {
     let below = config.count_at(&path(rt, alloc, at));
     let listed = Listed::of(alloc, config).expect(rt, "memory");

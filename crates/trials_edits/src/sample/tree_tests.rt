@@ -1,5 +1,5 @@
-//! Rows of a configuration as they are replaced, removed, counted and compared; values at paths that have none; which
-//! data nodes stand in which; a keeper that fails.
+//! Rows of a configuration as they are replaced, removed, counted and compared; values at paths that have
+//! none; which data nodes stand in which; a keeper that fails.
 use super::{config, has, path, rows, schema};
 use nc_defaults::{Children, in_use};
 use nc_names::{Copies, Many, Place};
@@ -99,7 +99,8 @@ fn paths_stand_in_document_order(rt: HostRuntime) {
     }
 }
 
-// Paths and the values in use there, with an empty text for none: a key has one in an entry alone, and a list none.
+// Paths and the values in use there, with an empty text for none: a key has one in an entry alone, and a list
+// none.
 const VALUES: &[(&str, &str)] = &[
     ("3:ntp,tcp/5", "tcp"),
     ("3:dns,tcp/5", ""),

@@ -130,7 +130,8 @@ const IN_USE: &[(Happens, u64, &str)] = &[
     ),
     (Happens::Asks(2, "<commit/>"), 2, "InUsePartial 2 1"),
     (Happens::Asks(2, "<discard-changes/>"), 2, "ok"),
-    // What is deleted is looked at before what is updated, though that has the lower lock-id and stands first.
+    // What is deleted is looked at before what is updated, though that has the lower lock-id and stands
+    // first.
     (
         Happens::Asks(
             2,

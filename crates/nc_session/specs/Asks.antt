@@ -22,13 +22,16 @@ pub record Message : Type 0 where
   pub body : List ℕ
   pub request : Request
 
+-- a message of the stream asks for this request
 pub record IsAsked (base : Base) (message : Message) : Type 0 where
   pub is_message : IsMessage (mode_of base) message.framed message.body
   pub asks : AsksFor base message.body (Ok message.request)
 
+-- the bytes of messages, with their framing
 abbrev pub stream_of : List Message → List ℕ
 stream_of messages = flat_map (λ message. message.framed) messages
 
+-- the requests that they ask for
 abbrev pub requests_of : List Message → List Request
 requests_of messages = map (λ message. message.request) messages
 

@@ -16,6 +16,7 @@ use Rattle.nc_session.specs.declared.end.HelloFault.TheVariants.{NotRead, NotHel
 use Rattle.nc_session.specs.Shape.{is_base, is_named, only_named, text_of}
 use Rattle.nc_session.specs.Words.{hello_word, capabilities_word, capability_word, base_10, base_11}
 
+-- there is a text
 abbrev pub has_text : Option (List ℕ) → Bool
 has_text None = false
 has_text (Some text) = true
@@ -25,6 +26,7 @@ abbrev pub may_stand_in : Part-F Part Elem → Bool
 may_stand_in (Child e) = is_base capability_word e && has_text (text_of e.parts)
 may_stand_in (Chars text) = true
 
+-- the same of a part
 abbrev pub may_stand : Part → Bool
 may_stand p = may_stand_in (out-Part p)
 
@@ -38,6 +40,7 @@ abbrev pub offers_in : List ℕ → Part-F Part Elem → Bool
 offers_in word (Child e) = is_word word (text_of e.parts)
 offers_in word (Chars text) = false
 
+-- the same of a part
 abbrev pub offers : List ℕ → Part → Bool
 offers word p = offers_in word (out-Part p)
 

@@ -12,6 +12,7 @@ use Rattle.nc_session.specs.declared.session_core.Todo.TheVariants.{Ask, NeedByt
 use Rattle.nc_session.specs.Asks.{mode_of, AsksFirst, AsksAll}
 use Rattle.nc_session.specs.inner.Unseen.{Held, Unseen}
 
+-- what a session keeps: the bytes that it has not read yet, and how far it is
 pub record Core : Type 0 where
   pub inbox : Held
   pub phase : Phase
@@ -22,6 +23,7 @@ pub record HasGiven (Unread : Mode → ℕ → List ℕ → Type 0) (base : Base
   pub first : AsksFirst base bytes given
   pub unread : Unread (mode_of base) (length first.front) first.rest
 
+-- by how far it is: what it was given so far, and what of it is not read
 abbrev pub IsIn : (Mode → ℕ → List ℕ → Type 0) → Phase → Base → List ℕ → List Request → Type 0
 IsIn Unread Greeting base bytes given = (given ≡ []) × Unread Marks 0 bytes
 IsIn Unread (Serving chosen) base bytes given = (chosen ≡ base) × HasGiven Unread base bytes given

@@ -14,6 +14,7 @@ cut_in zero size body = body ∷ []
 cut_in (suc most) size body =
     if nat_le (length body) size then body ∷ [] else take size body ∷ cut_in most size (drop size body)
 
+-- a body in pieces of so many octets, and a last one with the rest
 abbrev pub cut : (size : ℕ) → List ℕ → List (List ℕ)
 cut size body = cut_in (length body) size body
 
@@ -22,5 +23,6 @@ abbrev pub framed : Base → List ℕ → List ℕ
 framed Base10 body = with_mark body
 framed Base11 body = in_chunks (cut written_chunk body)
 
+-- a reply as it is written, in the framing of the session (RFC 6242 4)
 abbrev pub reply_text : Base → Tree → List ℕ
 reply_text base reply = framed base (written reply)

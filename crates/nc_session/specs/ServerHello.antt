@@ -17,6 +17,7 @@ use Rattle.nc_session.specs.Words.{hello_word, capabilities_word, capability_wor
 abbrev pub base_elem : List ℕ → List Part → Elem
 base_elem name parts = made_element (base_name name) parts
 
+-- an element of the base namespace with a text
 abbrev pub text_elem : List ℕ → List ℕ → Part
 text_elem name text = Child (base_elem name (Chars text ∷ []))
 
@@ -40,6 +41,7 @@ features_part (f ∷ fs) = features_query ++ f ++ flat_map (λ g. 44 ∷ g) fs
 abbrev pub module_capability : Module → List ℕ
 module_capability m = m.space ++ module_query ++ m.name ++ revision_part m.revision ++ features_part m.features
 
+-- a capability (RFC 6241 8.1)
 abbrev pub capability_part : List ℕ → Part
 capability_part text = text_elem capability_word text
 

@@ -31,6 +31,7 @@ pub record Call : Type 0 where
   pub mine : List Entry
   pub before : Streams
 
+-- that, of its parts
 abbrev pub called : Peer → Home → List Entry → List Entry → Streams → Call
 called peer home seen mine before = record { peer = peer; home = home; seen = seen; mine = mine; before = before }
 
@@ -101,6 +102,7 @@ pub record HasMet (schema : Tables) (call : Call) (session : ℕ) (more : List E
   pub met : Met schema call course (call.seen ++ more) now standing end
   pub counted : CountedBy call.before now end
 
+-- the server has no number for an entry any more
 abbrev pub is_spent : SessionEnd → Bool
 is_spent (Spent ticket) = true
 is_spent end = false

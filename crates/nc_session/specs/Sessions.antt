@@ -27,14 +27,17 @@ entry_text schema base outcome = []
 abbrev pub session_text : Tables → Base → List Entry → List ℕ
 session_text schema base entries = flat_map (λ e. entry_text schema base e.outcome) entries
 
+-- there is a reply
 abbrev pub IsAnswered : Outcome → Type 0
 IsAnswered (Answered verdict reply) = Unit {0}
 IsAnswered outcome = ⊥
 
+-- a request that asks for close-session (RFC 6241 7.8)
 abbrev pub is_close : Event → Bool
 is_close (Requested session request) = asks_close request.asked
 is_close event = false
 
+-- how a session stands after an entry: closed by it, live, or found dead
 abbrev pub standing_by : Bool → Outcome → Standing
 standing_by closes (Answered verdict reply) = if closes && is_done verdict then Closed else Live
 standing_by closes outcome = Dead

@@ -15,6 +15,7 @@ abbrev pub elem_in : Part-F Part Elem → Option Elem
 elem_in (Child e) = Some e
 elem_in (Chars text) = None
 
+-- the element that a part is
 abbrev pub elem_of : Part → Option Elem
 elem_of p = elem_in (out-Part p)
 
@@ -29,6 +30,7 @@ abbrev pub is_named_in : List ℕ → Part-F Part Elem → Bool
 is_named_in name (Child e) = is_base name e
 is_named_in name (Chars text) = false
 
+-- a part is an element of the base namespace with that name
 abbrev pub is_named : List ℕ → Part → Bool
 is_named name p = is_named_in name (out-Part p)
 
@@ -41,6 +43,7 @@ abbrev pub text_in : Part-F Part Elem → Option (List ℕ)
 text_in (Child e) = None
 text_in (Chars text) = Some text
 
+-- the text of a content without elements
 abbrev pub text_of : List Part → Option (List ℕ)
 text_of [] = Some []
 text_of (p ∷ []) = text_in (out-Part p)

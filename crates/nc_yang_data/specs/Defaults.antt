@@ -31,6 +31,7 @@ abbrev pub carrier : Tables → (parent : Option ℕ) → (cases : List Case) �
 carrier tables parent [] = option_and_then (plain_at tables) parent
 carrier tables parent (k ∷ cases) = None
 
+-- the same, of a data node by its number
 abbrev pub carrier_of : Tables → ℕ → Option ℕ
 carrier_of tables number =
     option_and_then (λ node. carrier tables node.parent node.cases) (slice_get tables.nodes number)
@@ -40,6 +41,7 @@ abbrev pub outermost : Tables → (levels number : ℕ) → ℕ
 outermost tables zero number = number
 outermost tables (suc levels) number = option_map_or (outermost tables levels) (carrier_of tables number) number
 
+-- a case is the default of its choice
 abbrev pub is_default_of : Case → Choice → Bool
 is_default_of k choice = is_same_number choice.default_case (Some k.case)
 
@@ -63,9 +65,11 @@ forbidden scoping tables plan number =
     then option_map_or (λ p. fault_at scoping p.statement) (slice_get plan.nodes number) []
     else []
 
+-- nor may the outermost that has to be there because of it
 abbrev pub forbidden_above : Scoping → Tables → Plan → ℕ → List TextFault
 forbidden_above scoping tables plan number = forbidden scoping tables plan (outermost tables most_levels number)
 
+-- the faults of a data node, which are none where it may be missing
 abbrev pub node_faults : Scoping → Tables → Plan → ℕ → List TextFault
 node_faults scoping tables plan number =
     if option_map_or asks (slice_get tables.nodes number) false then forbidden_above scoping tables plan number else []
@@ -76,10 +80,12 @@ placed_faults scoping tables plan statement choice =
     option_map_or (forbidden_above scoping tables plan) (carrier tables choice.parent choice.within)
     (if is_by_default tables choice.within then fault_at scoping statement else [])
 
+-- the same, where the choice is mandatory
 abbrev pub asking_faults : Scoping → Tables → Plan → (statement : ℕ) → Choice → List TextFault
 asking_faults scoping tables plan statement choice =
     if choice.mandatory then placed_faults scoping tables plan statement choice else []
 
+-- the same, of a planned choice
 abbrev pub choice_faults : Scoping → Tables → Plan → (number : ℕ) → PlannedChoice → List TextFault
 choice_faults scoping tables plan number p =
     option_map_or (asking_faults scoping tables plan p.statement) (slice_get tables.choices number) []
@@ -90,6 +96,7 @@ nodes_from scoping tables plan number [] = []
 nodes_from scoping tables plan number (p ∷ ps) =
     node_faults scoping tables plan number ++ nodes_from scoping tables plan (number + 1) ps
 
+-- of planned choices, from a number on
 abbrev pub choices_from : Scoping → Tables → Plan → ℕ → List PlannedChoice → List TextFault
 choices_from scoping tables plan number [] = []
 choices_from scoping tables plan number (p ∷ ps) =

@@ -34,6 +34,7 @@ abbrev pub as_count : Option ℤ → ℕ
 as_count (Some (pos n)) = if nat_lt n (2 ^ 64) then n else 0
 as_count number = 0
 
+-- the number that a statement has
 abbrev pub count_in : Statement → ℕ
 count_in s = as_count (number_of (name s))
 
@@ -41,6 +42,7 @@ count_in s = as_count (number_of (name s))
 abbrev pub least_of : List Statement → ℕ
 least_of ss = option_map_or count_in (part MinElements ss) 0
 
+-- the same, where `unbounded` is none
 abbrev pub bound_in : Statement → Option ℕ
 bound_in s = if is_unbounded (name s) then None else Some (count_in s)
 
@@ -48,6 +50,7 @@ bound_in s = if is_unbounded (name s) then None else Some (count_in s)
 abbrev pub most_of : List Statement → Option ℕ
 most_of ss = option_and_then bound_in (part MaxElements ss)
 
+-- the argument `user` of `ordered-by`
 unfoldable pub is_user_text : List ℕ → Bool
 is_user_text text = is_same_text text (codes "user")
 
@@ -103,6 +106,7 @@ draft_at scoping p =
 abbrev pub default_case : List Statement → FeatureTest → Located → Option ℕ
 default_case texts on l = option_and_then (λ d. case_of texts on (name d) l) (part Default (below l.statement))
 
+-- the choice of a planned one
 abbrev pub choice_at : List Statement → FeatureTest → PlannedChoice → Located → Choice
 choice_at texts on p l = record {
   parent = p.parent;

@@ -54,9 +54,11 @@ abbrev pub key_at : List Statement → Tables → (text number : ℕ) → List �
 key_at texts tables text number word =
     option_and_then (if_node may_be_key tables) (child_at texts tables text number word)
 
+-- a leaf, which a `unique` may name
 abbrev pub is_unique_leaf : Node → Bool
 is_unique_leaf node = is_leaf node.kind
 
+-- a container, which a `unique` may lead through
 abbrev pub is_container : Node → Bool
 is_container node = holds_nodes node.kind && not (is_list node.kind)
 
@@ -86,6 +88,7 @@ abbrev pub node_behind : Tables → CaseTest → Way → (local : List ℕ) → 
 node_behind tables named way local =
     option_and_then (if_node (λ node. are_named named node.cases way.before) tables) (child_named tables way.node local)
 
+-- a way that has not begun
 abbrev pub way_from : ℕ → Way
 way_from number = record { node = number; before = [] }
 
@@ -111,6 +114,7 @@ abbrev pub unique_at : List Statement → Tables → CaseTest → (text number :
 unique_at texts tables named text number word =
     leaf_below texts tables named text (way_from number) (slice_split (λ c. c == slash) word)
 
+-- the leaf that a word of `key` or of `unique` names (RFC 7950 7.8.2, 7.8.3)
 abbrev pub leaf_at : Naming → List Statement → Tables → CaseTest → (text number : ℕ) → List ℕ → Option ℕ
 leaf_at Keys texts tables named text number word = key_at texts tables text number word
 leaf_at Uniques texts tables named text number word = unique_at texts tables named text number word

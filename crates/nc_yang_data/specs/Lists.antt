@@ -18,6 +18,7 @@ abbrev pub has_again : (before : List ℕ) → List ℕ → Bool
 has_again before [] = false
 has_again before (n ∷ ns) = list_any (λ m. m == n) before || has_again (before ++ n ∷ []) ns
 
+-- there is no number
 abbrev pub has_none : List ℕ → Bool
 has_none numbers = length numbers == 0
 
@@ -45,6 +46,7 @@ unique_fault texts tables named text number s =
     (leafs_by Uniques texts tables named text number (name s)) (at_if true s UnknownName)
     else []
 
+-- the faults of the `unique` statements of a list
 abbrev pub not_unique : List Statement → Tables → CaseTest → (text number : ℕ) → (list : Statement) → List Fault
 not_unique texts tables named text number list = flat_map (unique_fault texts tables named text number) (below list)
 
@@ -55,6 +57,7 @@ unique_leafs texts tables named text number s =
     then option_map_or (λ leafs. leafs ∷ []) (leafs_by Uniques texts tables named text number (name s)) []
     else []
 
+-- the leafs of each of them
 abbrev pub uniques_of : List Statement → Tables → CaseTest → (text number : ℕ) → (list : Statement) → List (List ℕ)
 uniques_of texts tables named text number list = flat_map (unique_leafs texts tables named text number) (below list)
 

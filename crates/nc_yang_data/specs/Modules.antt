@@ -12,10 +12,12 @@ use Rattle.nc_yang_statements.specs.declared.keyword.Keyword.TheVariants.{Featur
 use Rattle.nc_yang_scopes.specs.Prefixes.{namespace_in}
 use Rattle.nc_yang_nodes.specs.Roles.{FeatureTest}
 
+-- the first of two comes before the other
 abbrev pub is_less : Ordering → Bool
 is_less Less = true
 is_less order = false
 
+-- a date is before another one
 abbrev pub is_earlier : List ℕ → List ℕ → Bool
 is_earlier date other = is_less (slice_cmp nat_cmp date other)
 

@@ -25,6 +25,7 @@ is_twin tables number =
     option_map_or (λ node. not (is_same_number (child_number tables node.parent node.name) (Some number)))
     (slice_get tables.nodes number) false
 
+-- the data node of a number holds others
 abbrev pub holds_at : Tables → ℕ → Bool
 holds_at tables above = option_map_or (λ node. holds_nodes node.kind) (slice_get tables.nodes above) false
 
@@ -67,6 +68,7 @@ faults_at scoping tables named number statement =
     (λ l. map (in_text l.place.text) (node_faults scoping.texts tables named l.place.text number l.statement))
     (slice_get scoping.located statement) []
 
+-- the leafs of the keys and of the `unique` statements of a list, by its statement
 abbrev pub leafs_at : Scoping → Tables → CaseTest → (number statement : ℕ) → Leafs
 leafs_at scoping tables named number statement =
     option_map_or (λ l. node_leafs scoping.texts tables named l.place.text number l.statement)

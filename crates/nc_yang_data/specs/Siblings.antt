@@ -20,6 +20,7 @@ abbrev pub parent_of : (text : ℕ) → (node : Option ℕ) → (cases : List Ca
 parent_of text node cases =
     option_map_or (λ k. InChoice k.choice) (slice_get cases (length cases - 1)) (option_map_or InNode node (AtTop text))
 
+-- the same place
 abbrev pub is_same_parent : Parent → Parent → Bool
 is_same_parent (InChoice a) (InChoice b) = a == b
 is_same_parent (InNode a) (InNode b) = a == b
@@ -57,6 +58,7 @@ abbrev pub clash : Scoping → (number : ℕ) → Planned → PlannedChoice → 
 clash scoping number p c =
     if nat_lt number c.nodes_before then twice_at scoping c.statement else twice_at scoping p.statement
 
+-- the fault of a data node that has the name of a choice beside it (RFC 7950 6.2.1)
 abbrev pub node_twin : Scoping → List PlannedChoice → (number : ℕ) → Planned → List TextFault
 node_twin scoping choices number p =
     option_map_or (λ k. option_map_or (clash scoping number p) (slice_get choices k) [])
@@ -68,6 +70,7 @@ choices_from scoping choices number [] = []
 choices_from scoping choices number (c ∷ cs) =
     choice_twin scoping choices number c ++ choices_from scoping choices (number + 1) cs
 
+-- of planned data nodes, from a number on
 abbrev pub nodes_from : Scoping → List PlannedChoice → ℕ → List Planned → List TextFault
 nodes_from scoping choices number [] = []
 nodes_from scoping choices number (p ∷ ps) =

@@ -14,6 +14,7 @@ use Rattle.nc_yang_statements.specs.declared.keyword.Keyword.TheVariants.{Module
 use Rattle.nc_yang_statements.specs.Keywords.{is_refused}
 use Rattle.nc_yang_statements.specs.BuiltIns.{built_in_of}
 
+-- an empty text
 abbrev pub is_nothing : List ℕ → Bool
 is_nothing text = length text == 0
 
@@ -74,6 +75,7 @@ abbrev pub are_of_date : ℕ → List ℕ → Bool
 are_of_date place [] = true
 are_of_date place (c ∷ cs) = fits_date place c && are_of_date (place + 1) cs
 
+-- a date (RFC 7950 14, `date-arg`)
 abbrev pub is_date : List ℕ → Bool
 is_date text = length text == 10 && are_of_date 0 text
 
@@ -82,6 +84,7 @@ abbrev pub is_plain : List ℕ → Bool
 is_plain [] = false
 is_plain (c ∷ cs) = if c == zero_digit then is_nothing cs else list_all is_ascii_digit (c ∷ cs)
 
+-- without a minus at its front
 abbrev pub without_minus : List ℕ → List ℕ
 without_minus [] = []
 without_minus (c ∷ cs) = if c == hyphen then cs else c ∷ cs
@@ -95,18 +98,23 @@ is_between least most text =
 unfoldable pub is_true_text : List ℕ → Bool
 is_true_text text = is_same_text text (codes "true")
 
+-- the argument `false`
 unfoldable pub is_false_text : List ℕ → Bool
 is_false_text text = is_same_text text (codes "false")
 
+-- the argument `unbounded` of `max-elements`
 unfoldable pub is_unbounded : List ℕ → Bool
 is_unbounded text = is_same_text text (codes "unbounded")
 
+-- an argument of `ordered-by`
 unfoldable pub is_order : List ℕ → Bool
 is_order text = is_same_text text (codes "user") || is_same_text text (codes "system")
 
+-- an argument of `yang-version`
 unfoldable pub is_version : List ℕ → Bool
 is_version text = is_same_text text (codes "1") || is_same_text text (codes "1.1")
 
+-- `true` or `false`
 abbrev pub is_boolean : List ℕ → Bool
 is_boolean text = is_true_text text || is_false_text text
 
@@ -118,6 +126,7 @@ is_at_most most text = is_plain text && is_between (pos 0) most text
 abbrev pub is_least : List ℕ → Bool
 is_least text = is_at_most (pos 18446744073709551615) text
 
+-- an argument of `max-elements`
 abbrev pub is_most : List ℕ → Bool
 is_most text = is_unbounded text || is_between (pos 1) (pos 18446744073709551615) text
 
@@ -139,6 +148,7 @@ is_module_name text = is_identifier text && not (begins_xml text)
 abbrev pub is_type_name : List ℕ → Bool
 is_type_name text = is_identifier text && not (is_some (built_in_of text))
 
+-- a sign that is no white space stands at that place
 abbrev pub is_visible_at : List ℕ → ℕ → Bool
 is_visible_at text place = option_map_or (λ c. not (is_white c)) (slice_get text place) false
 

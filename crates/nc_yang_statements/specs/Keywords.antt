@@ -140,6 +140,7 @@ is_read_over keyword = false
 abbrev pub is_closed : Keyword → Bool
 is_closed keyword = is_refused keyword || is_read_over keyword
 
+-- a number for each keyword
 abbrev pub tag : Keyword → ℕ
 tag Module = 0
 tag YangVersion = 1
@@ -212,5 +213,6 @@ tag YinElement = 67
 tag Prefixed = 68
 tag Unknown = 69
 
+-- two keywords are the same
 abbrev pub is_same_keyword : Keyword → Keyword → Bool
 is_same_keyword a b = tag a == tag b

@@ -196,6 +196,7 @@ is_single Once = true
 is_single Optional = true
 is_single count = false
 
+-- it may not stand there
 abbrev pub is_never : Count → Bool
 is_never Never = true
 is_never count = false

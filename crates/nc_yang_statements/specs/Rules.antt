@@ -20,9 +20,11 @@ abbrev pub at : Option ModuleWhy → Statement → List Fault
 at None s = []
 at (Some why) s = record { line = line s; why = why } ∷ []
 
+-- a fault at a statement, where it is one
 abbrev pub at_if : Bool → Statement → ModuleWhy → List Fault
 at_if test s why = if test then record { line = line s; why = why } ∷ [] else []
 
+-- a statement with a prefix
 abbrev pub is_prefixed : Keyword → Bool
 is_prefixed Prefixed = true
 is_prefixed keyword = false
@@ -51,6 +53,7 @@ repeated above before [] = []
 repeated above before (t ∷ ts) =
     at_if (is_single (count_of above (kind t)) && has (kind t) before) t Twice ++ repeated above (before ++ t ∷ []) ts
 
+-- the faults of what stands twice below a statement
 abbrev pub twice : Statement → List Fault
 twice s = repeated (kind s) [] (below s)
 
@@ -58,6 +61,7 @@ twice s = repeated (kind s) [] (below s)
 abbrev pub misfit : Statement → List Fault
 misfit s = at (why_misfit (kind s) (argument s)) s
 
+-- a statement that says `true`
 abbrev pub says_true : Option Statement → Bool
 says_true None = false
 says_true (Some t) = is_true_text (name t)
@@ -67,10 +71,12 @@ abbrev pub is_above_zero : Option ℤ → Bool
 is_above_zero None = false
 is_above_zero (Some n) = not (int_le n (pos 0))
 
+-- a `min-elements` above 0
 abbrev pub asks_entries : Option Statement → Bool
 asks_entries None = false
 asks_entries (Some t) = is_above_zero (number_of (name t))
 
+-- statements that say that a node has to be there
 abbrev pub is_required : List Statement → Bool
 is_required ss = says_true (part Mandatory ss) || asks_entries (part MinElements ss)
 
@@ -79,13 +85,16 @@ abbrev pub defaulted_at : Bool → Option Statement → List Fault
 defaulted_at required None = []
 defaulted_at required (Some d) = at_if required d BadArgument
 
+-- a default where the node has to be there (RFC 7950 7.6.4)
 abbrev pub defaulted : Statement → List Fault
 defaulted s = defaulted_at (is_required (below s)) (part Default (below s))
 
+-- of two numbers the first is greater
 abbrev pub is_above : Option ℤ → Option ℤ → Bool
 is_above (Some a) (Some b) = not (int_le a b)
 is_above a b = false
 
+-- the same, of the numbers that two statements have
 abbrev pub is_above_in : Statement → Statement → Bool
 is_above_in least most = is_above (number_of (name least)) (number_of (name most))
 
@@ -94,9 +103,11 @@ abbrev pub crossed_at : Option Statement → Option Statement → List Fault
 crossed_at (Some least) (Some most) = at_if (is_above_in least most) least BadArgument
 crossed_at least most = []
 
+-- `min-elements` above `max-elements`
 abbrev pub crossed : Statement → List Fault
 crossed s = crossed_at (part MinElements (below s)) (part MaxElements (below s))
 
+-- the keyword `choice`
 abbrev pub is_choice : Keyword → Bool
 is_choice Choice = true
 is_choice keyword = false
@@ -111,6 +122,7 @@ is_case LeafList = true
 is_case ListWord = true
 is_case keyword = false
 
+-- the `case` of that name
 abbrev pub is_case_of : List ℕ → Statement → Bool
 is_case_of wanted t = is_case (kind t) && is_same_text (name t) wanted
 
@@ -119,6 +131,7 @@ abbrev pub caseless_at : List Statement → Option Statement → List Fault
 caseless_at ss None = []
 caseless_at ss (Some d) = at_if (not (list_any (is_case_of (name d)) ss)) d UnknownName
 
+-- a default of a choice that is none of its cases (RFC 7950 7.9.3)
 abbrev pub caseless : Statement → List Fault
 caseless s = if is_choice (kind s) then caseless_at (below s) (part Default (below s)) else []
 
@@ -153,6 +166,7 @@ why_root keyword = if is_refused keyword then Some Unsupported else Some Unknown
 abbrev pub BreaksRule : Statement → Fault → Type 0
 BreaksRule root fault = Contains (at (why_root (kind root)) root) fault ⊎ Faulty (root ∷ []) fault
 
+-- no rule on single statements is broken
 abbrev pub KeepsRules : Statement → Type 0
 KeepsRules root = (fault : Fault) → BreaksRule root fault → ⊥
 

@@ -6,6 +6,7 @@ use Rattle.nc_yang_words.specs.declared.statement.Statement.TheViews.{out-Statem
 use Rattle.nc_yang_statements.specs.declared.keyword.Keyword.{Keyword}
 use Rattle.nc_yang_statements.specs.Keywords.{keyword_of, is_same_keyword, is_closed}
 
+-- the line on which a statement begins
 abbrev pub line : Statement → ℕ
 line s = (out-Statement s).line
 
@@ -13,12 +14,15 @@ line s = (out-Statement s).line
 abbrev pub below : Statement → List Statement
 below s = (out-Statement s).below
 
+-- its argument, if it has one
 abbrev pub argument : Statement → Option (List ℕ)
 argument s = (out-Statement s).argument
 
+-- its keyword
 abbrev pub kind : Statement → Keyword
 kind s = keyword_of (out-Statement s).keyword
 
+-- a text, or the empty one
 abbrev pub text_or_nothing : Option (List ℕ) → List ℕ
 text_or_nothing None = []
 text_or_nothing (Some text) = text

@@ -53,6 +53,7 @@ abbrev pub restricted_by : Counted → List Between → Option Statement → Opt
 restricted_by counted base None = Some base
 restricted_by counted base (Some given) = restriction counted base (name given)
 
+-- the parts that a `range` or `length` leaves, or all
 abbrev pub restricted : Counted → Keyword → List Between → List Statement → Option (List Between)
 restricted counted keyword base ss = restricted_by counted base (part keyword ss)
 
@@ -61,6 +62,7 @@ abbrev pub misread_by : Counted → List Between → Option Statement → List F
 misread_by counted base None = []
 misread_by counted base (Some given) = at_if (not (is_some (restriction counted base (name given)))) given BadArgument
 
+-- its faults
 abbrev pub misread : Counted → Keyword → List Between → List Statement → List Fault
 misread counted keyword base ss = misread_by counted base (part keyword ss)
 
@@ -69,17 +71,21 @@ abbrev pub digits_in : Option ℤ → Option ℕ
 digits_in (Some (pos n)) = if nat_le 1 n && nat_le n 18 then Some n else None
 digits_in number = None
 
+-- the number that a `fraction-digits` gives
 abbrev pub digits_by : Option Statement → Option ℕ
 digits_by None = None
 digits_by (Some given) = digits_in (number_of (name given))
 
+-- the same, among statements
 abbrev pub digits_of : List Statement → Option ℕ
 digits_of ss = digits_by (part FractionDigits ss)
 
+-- the faults of a `fraction-digits`
 abbrev pub ill_digits_by : Option Statement → List Fault
 ill_digits_by None = []
 ill_digits_by (Some given) = at_if (not (is_some (digits_in (number_of (name given))))) given BadArgument
 
+-- the same, among statements
 abbrev pub ill_digits : List Statement → List Fault
 ill_digits ss = ill_digits_by (part FractionDigits ss)
 
@@ -88,6 +94,7 @@ abbrev pub misread_units : Option ℕ → List Statement → List Fault
 misread_units None ss = []
 misread_units (Some digits) ss = misread (Units digits) Range decimals ss
 
+-- the faults of what a decimal64 has below it
 abbrev pub ill_decimal : List Statement → List Fault
 ill_decimal ss = ill_digits ss ++ misread_units (digits_of ss) ss
 
@@ -96,6 +103,7 @@ abbrev pub required_by : Bool → Option Statement → Bool
 required_by before None = before
 required_by before (Some given) = is_true_text (name given)
 
+-- whether an instance has to be there, by `require-instance`
 abbrev pub required : Bool → List Statement → Bool
 required before ss = required_by before (part RequireInstance ss)
 
@@ -114,9 +122,11 @@ misused Chars ss = misread Lengths Length lengths ss
 misused Union ss = []
 misused built_in ss = misread (Units 0) Range (integers built_in) ss
 
+-- the faults of a type of its own parts
 abbrev pub own_faults : BuiltIn → Statement → List Fault
 own_faults built_in s = misshapen built_in s ++ (ill_patterns (below s) ++ misused built_in (below s))
 
+-- a decimal64 of so many digits
 abbrev pub decimal : Option ℕ → List Statement → Option ValueType
 decimal None ss = None
 decimal (Some digits) ss = option_map (λ among. Decimal digits among) (restricted (Units digits) Range decimals ss)
@@ -154,6 +164,7 @@ misnarrowed (Names taken) names ss = ill_choices Enums names ss
 misnarrowed (Set taken) names ss = ill_choices Flags names ss
 misnarrowed base names ss = []
 
+-- the faults of a type over another one
 abbrev pub narrowed_faults : ValueType → List Named → List Statement → List Fault
 narrowed_faults base names ss = foreign_over base ss ++ (ill_patterns ss ++ misnarrowed base names ss)
 

@@ -45,6 +45,7 @@ abbrev pub is_before : ℤ → List (ℤ × List ℕ) → Bool
 is_before position [] = true
 is_before position (bit ∷ bits) = int_lt position bit.0
 
+-- the positions rise
 abbrev pub ascend : List (ℤ × List ℕ) → Bool
 ascend [] = true
 ascend (bit ∷ bits) = is_before bit.0 bits && ascend bits

@@ -23,6 +23,7 @@ abbrev pub member_word : Listed → Keyword
 member_word Enums = EnumName
 member_word Flags = Bit
 
+-- the statement that numbers a member
 abbrev pub number_word : Listed → Keyword
 number_word Enums = Value
 number_word Flags = Position
@@ -32,10 +33,12 @@ abbrev pub least : Listed → ℤ
 least Enums = negsuc 2147483647
 least Flags = pos 0
 
+-- the highest number (RFC 7950 9.6.4.2, 9.7.4.2)
 abbrev pub most : Listed → ℤ
 most Enums = pos 2147483647
 most Flags = pos 4294967295
 
+-- an `enum`, or a `bit`
 abbrev pub is_member : Listed → Statement → Bool
 is_member listed s = is_same_keyword (member_word listed) (kind s)
 
@@ -43,6 +46,7 @@ is_member listed s = is_same_keyword (member_word listed) (kind s)
 abbrev pub gives_name : Listed → List ℕ → Statement → Bool
 gives_name listed text s = is_member listed s && is_same_text (name s) text
 
+-- one of the statements gives that name
 abbrev pub has_name : Listed → List ℕ → List Statement → Bool
 has_name listed text ss = list_any (gives_name listed text) ss
 
@@ -67,6 +71,7 @@ abbrev pub number_by : Listed → Option ℤ → Option Statement → Option ℤ
 number_by listed high None = next_number listed high
 number_by listed high (Some given) = in_bounds listed (number_of (name given))
 
+-- the number of a member, by its own statement or after the highest before
 abbrev pub number_at : Listed → Option ℤ → Statement → Option ℤ
 number_at listed high s = number_by listed high (part (number_word listed) (below s))
 
@@ -89,6 +94,7 @@ abbrev pub numbering : Listed → Statement → Option Statement → Statement
 numbering listed s None = s
 numbering listed s (Some given) = given
 
+-- a fault at the number of a member
 abbrev pub at_number : Listed → Statement → Bool → ModuleWhy → List Fault
 at_number listed s bad why = at_if bad (numbering listed s (part (number_word listed) (below s))) why
 
@@ -104,6 +110,7 @@ why_unfit given (Some n) = Twice
 why_unfit (Some given) None = BadArgument
 why_unfit None None = Missing
 
+-- with the number of one more
 abbrev pub with_number : List ℤ → Option ℤ → List ℤ
 with_number before None = before
 with_number before (Some n) = before ++ n ∷ []
@@ -123,6 +130,7 @@ ill_listed listed ss = renamed listed [] ss ++ misnumbered listed [] (numbered l
 abbrev pub enum_name : (Statement → Bool) → Statement → List (List ℕ)
 enum_name stands s = if is_member Enums s && stands s then name s ∷ [] else []
 
+-- the names of those whose conditions hold
 abbrev pub enum_names : (Statement → Bool) → List Statement → List (List ℕ)
 enum_names stands ss = flat_map (enum_name stands) ss
 
@@ -132,6 +140,7 @@ with_bit stands before (s, None) = before
 with_bit stands before (s, Some position) =
     if stands s then insert_entry int_cmp before position (name s) else before
 
+-- the bits of those whose conditions hold, in the order of their positions
 abbrev pub with_bits : (Statement → Bool) → List (ℤ × List ℕ) → List (Statement × Option ℤ) → List (ℤ × List ℕ)
 with_bits stands before [] = before
 with_bits stands before (p ∷ ps) = with_bits stands (with_bit stands before p) ps
@@ -154,6 +163,7 @@ listing listed ss = flat_map named_by (numbered listed None ss)
 abbrev pub number_with : List ℕ → Option ℤ → Named → Option ℤ
 number_with text found n = if is_same_text n.name text then Some n.number else found
 
+-- the number of a name among those of the type below
 abbrev pub number_in : List Named → List ℕ → Option ℤ
 number_in names text = fold (number_with text) None names
 
@@ -162,6 +172,7 @@ abbrev pub is_other : ℤ → Option ℤ → Bool
 is_other number None = true
 is_other number (Some written) = not (int_eq written number)
 
+-- another number than it has there
 abbrev pub renumbered : ℤ → Option Statement → List Fault
 renumbered number None = []
 renumbered number (Some given) = at_if (is_other number (number_of (name given))) given BadArgument
@@ -171,6 +182,7 @@ abbrev pub unlike : Listed → Option ℤ → Statement → List Fault
 unlike listed None s = at_if true s BadArgument
 unlike listed (Some number) s = renumbered number (part (number_word listed) (below s))
 
+-- the faults of a member over another type
 abbrev pub ill_choice : Listed → List Named → Statement → List Fault
 ill_choice listed names s = if is_member listed s then unlike listed (number_in names (name s)) s else []
 

@@ -58,6 +58,7 @@ narrows base keyword = false
 abbrev pub why_foreign : BuiltIn → Keyword → Option ModuleWhy
 why_foreign built_in keyword = if is_closed keyword || takes built_in keyword then None else Some UnknownStatement
 
+-- what may not stand below such a type
 abbrev pub foreign : BuiltIn → List Statement → List Fault
 foreign built_in ss = flat_map (λ t. at (why_foreign built_in (kind t)) t) ss
 
@@ -66,6 +67,7 @@ abbrev pub lacking_part : Option Keyword → Statement → List Fault
 lacking_part None s = []
 lacking_part (Some keyword) s = at_if (not (has keyword (below s))) s Missing
 
+-- what has to stand below it and does not
 abbrev pub lacking : BuiltIn → Statement → List Fault
 lacking built_in s = lacking_part (needs built_in) s
 
@@ -78,5 +80,6 @@ abbrev pub why_foreign_over : ValueType → Keyword → Option ModuleWhy
 why_foreign_over base keyword =
     if is_closed keyword || narrows base keyword then None else Some UnknownStatement
 
+-- what may not stand below a type over another one
 abbrev pub foreign_over : ValueType → List Statement → List Fault
 foreign_over base ss = flat_map (λ t. at (why_foreign_over base (kind t)) t) ss

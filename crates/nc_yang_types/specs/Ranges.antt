@@ -16,6 +16,7 @@ use Rattle.nc_yang_types.specs.declared.bound.Counted.TheVariants.{Units, Length
 unfoldable pub is_min : List ℕ → Bool
 is_min text = is_same_text text (codes "min")
 
+-- the word `max`
 unfoldable pub is_max : List ℕ → Bool
 is_max text = is_same_text text (codes "max")
 
@@ -23,6 +24,7 @@ is_max text = is_same_text text (codes "max")
 abbrev pub is_integer : List ℕ → Bool
 is_integer text = is_plain (without_minus text)
 
+-- a point stands in it
 abbrev pub has_dot : List ℕ → Bool
 has_dot text = list_any (λ c. c == dot) text
 
@@ -63,6 +65,7 @@ part_of counted whole text =
       | Some found ↦ from_to counted whole found.0 found.1
     ]
 
+-- the parts of a range, each of which has a reading
 abbrev pub parts_of : Counted → Between → List (List ℕ) → Option (List Between)
 parts_of counted whole [] = Some []
 parts_of counted whole (text ∷ texts) = do
@@ -91,6 +94,7 @@ merged_with part (next ∷ parts) =
     if adjoins part next then merged_with (record { least = part.least; most = next.most }) parts
     else part ∷ merged_with next parts
 
+-- parts that adjoin are one
 abbrev pub merged : List Between → List Between
 merged [] = []
 merged (part ∷ parts) = merged_with part parts
@@ -99,6 +103,7 @@ merged (part ∷ parts) = merged_with part parts
 abbrev pub holds : Between → Between → Bool
 holds part over = int_le over.least part.least && int_le part.most over.most
 
+-- a part lies within one of the base
 abbrev pub lies_in : List Between → Between → Bool
 lies_in base part = list_any (holds part) base
 

@@ -4,6 +4,7 @@ use Rattle.std.specs.Fmt.{decimal}
 use Rattle.nc_edge.specs.declared.address.Address.{Address}
 use Rattle.nc_edge.specs.declared.address.Address.TheVariants.{Unix, Tcp}
 
+-- the highest number of a port
 abbrev pub largest_port : ℕ
 largest_port = 65535
 
@@ -20,6 +21,7 @@ pub data IsAddress (word : List ℕ) : Type 0 where
   OfUnix : (path : List ℕ) → NamesUnix word path → IsAddress word
   OfTcp : (port : ℕ) → NamesTcp word port → IsAddress word
 
+-- a word names an address
 abbrev pub Names : List ℕ → Address → Type 0
 Names word (Unix path) = NamesUnix word path.now
 Names word (Tcp port) = NamesTcp word port

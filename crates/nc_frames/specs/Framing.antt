@@ -21,12 +21,15 @@ pub record EndOfMessage (bytes : List ℕ) (messages : List (List ℕ)) (rest : 
 abbrev pub announced : ℕ → List ℕ
 announced size = line_feed ∷ number_sign ∷ decimal size
 
+-- a chunk as it is written
 abbrev pub chunk : List ℕ → List ℕ
 chunk octets = announced (length octets) ++ line_feed ∷ octets
 
+-- what ends the chunks of a message
 abbrev pub end_of_chunks : List ℕ
 end_of_chunks = line_feed ∷ number_sign ∷ number_sign ∷ line_feed ∷ []
 
+-- a message in these chunks
 abbrev pub in_chunks : List (List ℕ) → List ℕ
 in_chunks chunks = flat_map chunk chunks ++ end_of_chunks
 
@@ -38,6 +41,7 @@ largest_size = 4294967295
 abbrev pub IsSize : ℕ → Type 0
 IsSize size = (0 < size) × (size ≤ largest_size)
 
+-- so many octets may be one chunk
 abbrev pub IsChunk : List ℕ → Type 0
 IsChunk octets = IsSize (length octets)
 
@@ -75,6 +79,7 @@ pub record IsInChunks (bytes message : List ℕ) : Type 0 where
   pub bytes_are : bytes ≡ in_chunks chunks
   pub message_is : message ≡ concat chunks
 
+-- the bytes of one message, in the framing of the mode
 abbrev pub IsFramed : Mode → List ℕ → List ℕ → Type 0
 IsFramed Marks bytes message = (bytes ≡ with_mark message) × IsMarked message
 IsFramed Chunks bytes message = IsInChunks bytes message

@@ -87,6 +87,7 @@ pub record OneAnswer (mode : Mode) (bytes : List ℕ) : Type 0 where
   pub one_fault : (first : ℕ) (fault other : FrameFault)
       → IsFaultOf mode first bytes fault → IsFaultOf mode first bytes other → fault ≡ other
 
+-- so it is for all bytes
 abbrev pub HasOneAnswer : Type 0
 HasOneAnswer = (mode : Mode) (bytes : List ℕ) → OneAnswer mode bytes
 
@@ -124,6 +125,7 @@ pub record IsFirstBad (framed rest : List ℕ) (messages : List (List ℕ)) (pla
   pub chunked : Chunked (framed ++ before) messages before
   pub none : (others : List (List ℕ)) (other : List ℕ) → ¬ Chunked ((framed ++ before) ++ byte ∷ []) others other
 
+-- the place of a bad frame is the first at which the bytes are no beginning of messages
 abbrev pub BadFrameIsFirst : Type 0
 BadFrameIsFirst = (messages : List (List ℕ)) (framed rest : List ℕ) (place : ℕ)
     → AreMessages Chunks framed messages → IsBad rest place → IsFirstBad framed rest messages place

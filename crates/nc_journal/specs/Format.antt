@@ -6,6 +6,7 @@ use Rattle.std.specs.Prelude.{ℕ, ◌+◌, Bool, List, [], ◌∷◌, ◌++◌,
 use Rattle.std.specs.Int.{to_be_bytes, w64}
 use Rattle.std.specs.List.{flat_map}
 
+-- the fixed text at its front
 unfoldable pub mark : List ℕ
 mark = codes "NCSTORE2"
 
@@ -17,6 +18,7 @@ number n = to_be_bytes w64 n
 abbrev pub chooser_place : ℕ
 chooser_place = 9
 
+-- where the first area stands
 abbrev pub areas_begin : ℕ
 areas_begin = 26
 
@@ -24,6 +26,7 @@ areas_begin = 26
 abbrev pub slot_place : Bool → ℕ
 slot_place second = if second then 18 else 10
 
+-- the byte that chooses the slot
 abbrev pub chooser : Bool → ℕ
 chooser second = if second then 1 else 0
 

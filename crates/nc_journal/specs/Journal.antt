@@ -9,6 +9,7 @@ use Rattle.nc_journal.specs.declared.journal.Undo.{Undo}
 abbrev pub disk_of : {D : Type 0} → Journal D → D
 disk_of journal = journal.disk
 
+-- how many records there are
 abbrev pub records_of : {D : Type 0} → Journal D → ℕ
 records_of journal = journal.records
 
@@ -16,6 +17,7 @@ records_of journal = journal.records
 abbrev pub start_of : {D : Type 0} → Journal D → ℕ
 start_of journal = journal.start
 
+-- where the gate stands
 abbrev pub gate_of : {D : Type 0} → Journal D → ℕ
 gate_of journal = journal.gate
 

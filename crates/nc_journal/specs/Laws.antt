@@ -17,6 +17,7 @@ pub data Outcome : Type 0 where
   damaged_file : (at : ℕ) → Outcome
   other_file : (at : ℕ) → Outcome
 
+-- what a file has for a header, by each outcome
 abbrev pub Reads : List ℕ → List ℕ → Outcome → Type 0
 Reads header file new_file = IsNew header file
 Reads header file (whole_file bodies) = IsRead header bodies file

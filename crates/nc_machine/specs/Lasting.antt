@@ -15,6 +15,7 @@ pub record Lasting (K : Type 0) : Type 1 where
   pub leaves : K → ℕ → List (List Row) → Type 0
   pub continues : K → K → Type 0
 
+-- that, of the ghosts of a keeper
 abbrev pub lasting : {K : Type 0} → (K → Option (List Row)) → (K → ℕ) → (K → ℕ → List (List Row) → Type 0) →
     (K → K → Type 0) → Lasting K
 lasting doubt moment leaves continues = record {

@@ -49,6 +49,7 @@ instruction_end = question ∷ greater_than ∷ []
 
 -- the next reading, of what the last one left
 infixl 10 ◌>>=◌
+-- one reading after another
 abbrev pub ◌>>=◌ : {A B : Type 0} → Option A → (A → Option B) → Option B
 o >>= f = option_and_then f o
 

@@ -28,6 +28,7 @@ abbrev pub own_default : (above space : List ℕ) → List Bound
 own_default above space =
     if bytes_eq above space then [] else (if is_empty space then [] else record { prefix = []; space = space } ∷ [])
 
+-- a binding is declared at its first use
 abbrev pub is_first_use : List (List ℕ) → Bound → Bool
 is_first_use seen bound = is_declarable bound.prefix && not (list_any (bytes_eq bound.prefix) seen)
 
@@ -48,6 +49,7 @@ declared_in above name bounds attrs parts = record {
 abbrev pub read_elem : List Bound → QName → List Attr → List Bit → Elem
 read_elem bounds name attrs bits = record { name = name; bounds = bounds; attrs = attrs; parts = joined [] bits }
 
+-- an element without a name and content
 abbrev pub nothing : Elem
 nothing = record { name = record { space = []; name = [] }; bounds = []; attrs = []; parts = [] }
 
@@ -89,6 +91,7 @@ pub record IsDeclarable (bound : Bound) : Type 0 where
   pub some : is_empty bound.space ≡ false
   pub free : is_reserved bound.prefix bound.space ≡ false
 
+-- a prefix that is declared may be
 abbrev pub IsProperUse : Bound → Type 0
 IsProperUse bound = is_declarable bound.prefix ≡ true → IsDeclarable bound
 
@@ -105,6 +108,7 @@ pub record IsProperAttr (attr : Attr) : Type 0 where
 abbrev pub AgreeOn : Bound → Bound → Type 0
 AgreeOn one other = is_same_text one.prefix other.prefix ≡ true → one.space ≡ other.space
 
+-- an element may be written, by its parts
 pub record IsProperElem (name : QName) (bounds : List Bound) (attrs : List Attr) (parts : List Part) : Type 0 where
   pub local : is_name name.name ≡ true
   pub space : is_allowed name.space ≡ true

@@ -4,6 +4,7 @@ use Rattle.std.specs.List.{slice_split}
 use Rattle.nc_names.specs.Signs.{slash}
 use Rattle.nc_schema.specs.PathWords.{up_to}
 
+-- the parts of a path between slashes
 abbrev pub parts_of : Option (List ℕ) → List (List ℕ)
 parts_of None = []
 parts_of (Some text) = slice_split (λ c. c == slash) text

@@ -29,9 +29,11 @@ set_of (between low high h) = is_in_range low high
 set_of digits = is_in_range 0x30 0x39
 set_of spaces = λ c. c == 0x20 || (c == 0x09 || (c == 0x0A || c == 0x0D))
 
+-- members as they are written
 abbrev pub texts : List Member → Text
 texts = flat_map text_of
 
+-- a class of all others begins with it
 abbrev pub caret : Bool → Text
 caret true = 0x5E ∷ []
 caret false = []

@@ -23,6 +23,7 @@ allowed s (Fits Closes n) = if nat_lt 0 s.depth then Fits Closes n else Bad
 allowed s (Fits Repeats n) = if s.repeatable then Fits Repeats n else Bad
 allowed s other = other
 
+-- the token at the front, by the place in a pattern
 unfoldable pub front_at : Place → State → Text → Front
 front_at Outside s t = allowed s (outside t)
 front_at ClassStart s t = inside true t
@@ -32,6 +33,7 @@ front_at Class s t = inside false t
 abbrev pub front : State → Text → Front
 front s t = front_at s.place s t
 
+-- the place after a member of a class
 abbrev pub place_after : Place → Place
 place_after Outside = Outside
 place_after ClassStart = Class
@@ -47,6 +49,7 @@ next s ClassOpens = record s { place = ClassStart }
 next s ClassCloses = record s { repeatable = true; place = Outside }
 next s _ = record s { repeatable = true; place = place_after s.place }
 
+-- no class is open
 abbrev pub is_outside : Place → Bool
 is_outside Outside = true
 is_outside _ = false
@@ -60,9 +63,11 @@ pub record Spelled : Type 0 where
   pub token : Token
   pub text : Text
 
+-- tokens with their characters, or a fault
 abbrev pub Reading : Type 0
 Reading = Result (List Spelled) ReadFault
 
+-- with one token before
 abbrev pub after_token : Spelled → Reading → Reading
 after_token token (Ok later) = Ok (token ∷ later)
 after_token token (Err f) = Err f
@@ -83,5 +88,6 @@ reading s place zero (c ∷ t) = elim (front s (c ∷ t)) [
 abbrev pub tokens : List ℕ → Reading
 tokens pattern = reading start 0 0 (chars pattern)
 
+-- a pattern that is read
 abbrev pub IsPattern : List ℕ → Type 0
 IsPattern pattern = IsOk (tokens pattern)

@@ -12,6 +12,7 @@ use Rattle.nc_patterns.specs.declared.token.Front.TheVariants.{Fits, Bad, Unsupp
 abbrev pub greatest_count : ℕ
 greatest_count = 1000
 
+-- so deep groups nest
 abbrev pub deepest_group : ℕ
 deepest_group = 60
 
@@ -19,6 +20,7 @@ deepest_group = 60
 unfoldable pub is_major : ℕ → Bool
 is_major c = c ∈ "LMNPZSC"
 
+-- the second letter of a category of characters
 unfoldable pub is_minor : ℕ → ℕ → Bool
 is_minor c d =
     if c ∈ "L" then d ∈ "ultmo"
@@ -57,6 +59,7 @@ escape (c ∷ t) = if c ∈ "pP" then category t else escape_of c
 abbrev pub digits : Text → Text
 digits = take_while is_ascii_digit
 
+-- the number that digits spell, or one past the greatest
 unfoldable pub number : Text → ℕ
 number ds = fold (λ n d. min (greatest_count + 1) (n * 10 + (d - 0x30))) 0 ds
 
@@ -76,6 +79,7 @@ counted t =
     if length low == 0 || nat_lt greatest_count (number low) then Bad
     else second_count (number low) (length low) (drop (length low) t)
 
+-- the token of one character
 unfoldable pub one_character : ℕ → Token
 one_character c =
     if c ∈ "." then Any
@@ -109,6 +113,7 @@ range_from low n (Fits (Ordinary high) m) =
     if nat_le low high then Fits (Range low high) (n + 1 + m) else Fits (Ordinary low) n
 range_from low n _ = Fits (Ordinary low) n
 
+-- with the range that a hyphen begins
 unfoldable pub with_range : Front → Text → Front
 with_range (Fits (Ordinary low) n) t =
     if at t n ∈ "-" then range_from low n (member (drop (n + 1) t)) else Fits (Ordinary low) n

@@ -7,6 +7,7 @@ use Rattle.std.specs.Str.Lossy.{utf8_valid_len}
 abbrev pub space : ℕ
 space = 32
 
+-- what ends the line
 abbrev pub line_feed : ℕ
 line_feed = 10
 

@@ -17,6 +17,7 @@ pub record IsReversion (s : State) (pending : Pending) : Type 0 where
   pub base : (reverted s).running ≡ pending.base
   pub none : (reverted s).pending ≡ None
 
+-- what a pending commit is reverted to is what the server has then
 abbrev pub RevertedAsStated : Type 0
 RevertedAsStated = (s : State) (pending : Pending) → s.pending ≡ Some pending → IsReversion s pending
 

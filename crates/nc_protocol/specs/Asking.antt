@@ -257,6 +257,7 @@ given (Ok make) (Ok value) = Ok (make value)
 
 -- with one parameter more
 infixl 10 ◌⊛◌
+-- two parameters are read of one operation
 abbrev pub ◌⊛◌ : {A B : Type 0} → Asking (A → B) → Asking A → Asking B
 asking ⊛ more = record {
   parameters = asking.parameters ++ more.parameters;

@@ -10,6 +10,7 @@ use Rattle.nc_schema.specs.declared.written.WrittenStep.{WrittenStep}
 
 -- goes on with what was found, if anything was
 infixl 10 ◌>>=◌
+-- one reading after another
 abbrev pub ◌>>=◌ : {A B : Type 0} → Option A → (A → Option B) → Option B
 o >>= f = option_and_then f o
 

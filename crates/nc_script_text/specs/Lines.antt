@@ -40,6 +40,7 @@ spaced words = join_with_byte blank words
 abbrev pub line_of : ScriptStep → List ℕ
 line_of step = spaced (words_of step) ++ line_feed ∷ body_of step
 
+-- a byte of a name
 abbrev pub IsNameByte : ℕ → Type 0
 IsNameByte byte = (byte ≢ blank) × (byte ≢ line_feed)
 

@@ -10,6 +10,7 @@ use Rattle.nc_turn.specs.declared.turn.Turn.{Turn}
 use Rattle.nc_turn.specs.declared.view.View.{View}
 use Rattle.nc_turn.specs.Views.{Begins, AreApart, longer}
 
+-- a seat of the turn
 abbrev pub Pass : Type 0 → Type 0
 Pass T = Seat (Option T) (View T)
 

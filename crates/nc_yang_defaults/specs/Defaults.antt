@@ -47,6 +47,7 @@ pub record BreaksAt (texts : List Statement) (tables : Tables) (d : Defined) (de
   pub are : AreSources texts d sources
   pub stops : StopsAt texts tables d.number sources default
 
+-- the fault at the statement of a default
 abbrev pub bad_default : ModuleWhy → Located → TextFault
 bad_default why l = record { text = l.place.text; fault = record { line = line l.statement; why = why } }
 

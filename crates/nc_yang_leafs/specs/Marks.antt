@@ -8,6 +8,7 @@ use Rattle.nc_yang_meanings.specs.declared.planned.Meanings.{Meanings}
 use Rattle.nc_yang_meanings.specs.declared.planned.Planned.{Planned}
 use Rattle.nc_yang_meanings.specs.declared.planned.Planned.TheVariants.{Bases, Finished, Leafref, Members}
 
+-- the plan of a type, if it has one
 abbrev pub plan_in : Finding → Option ℕ
 plan_in (Plan number) = Some number
 plan_in finding = None
@@ -25,9 +26,11 @@ abbrev pub is_unmarked_at : List Finding → List Bool → ℕ → Bool
 is_unmarked_at findings marks member =
     option_map_or (λ plan. not (is_marked marks plan)) (plan_at findings member) false
 
+-- no member leads to a leafref
 abbrev pub are_unmarked : List Finding → List Bool → List ℕ → Bool
 are_unmarked findings marks members = list_all (is_unmarked_at findings marks) members
 
+-- no leafref is in a plan, by the marks so far
 abbrev pub is_plain : List Finding → List Bool → Planned → Bool
 is_plain findings marks (Finished entry patterns names) = true
 is_plain findings marks (Bases numbers) = true

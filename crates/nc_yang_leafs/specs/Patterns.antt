@@ -81,6 +81,7 @@ pub record Refusals : Type 0 where
   pub now : ℕ
   pub last : Option (List ℕ)
 
+-- that, of its parts
 abbrev pub refusing : (before now : ℕ) → Option (List ℕ) → Refusals
 refusing before now last = record { before = before; now = now; last = last }
 
@@ -89,9 +90,11 @@ pub record Refuses (refusals : Refusals) (pattern : List ℕ) : Type 0 where
   pub rose : Rose refusals.before refusals.now
   pub last : refusals.last ≡ Some (anchored pattern)
 
+-- the fault of a pattern that the maker refuses
 abbrev pub refused_in : (text line : ℕ) → TextFault
 refused_in text line = record { text = text; fault = record { line = line; why = PatternRefused } }
 
+-- the same, at a statement
 abbrev pub refused_at : Located → TextFault
 refused_at l = refused_in l.place.text (line l.statement)
 

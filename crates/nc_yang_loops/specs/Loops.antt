@@ -13,6 +13,7 @@ use Rattle.nc_yang_scopes.specs.Names.{StandsIn}
 use Rattle.nc_yang_loops.specs.declared.kinds.Defined.{Defined}
 use Rattle.nc_yang_loops.specs.declared.kinds.Defined.TheVariants.{Features, Groupings, Identities, Modules, Typedefs}
 
+-- all sorts
 unfoldable pub all_defined : List Defined
 all_defined = Modules ∷ Typedefs ∷ Groupings ∷ Identities ∷ Features ∷ []
 
@@ -80,9 +81,11 @@ pub record BreaksLoop (texts : List Statement) (sort : Defined) (text : ℕ) (fa
   pub is_text : text ≡ statement.place.text
   pub is_fault : fault ≡ record { line = line statement.statement; why = Loop }
 
+-- the same, of any sort
 pub record BreaksLoops (texts : List Statement) (text : ℕ) (fault : Fault) : Type 0 where
   pub sort : Defined
   pub breaks : BreaksLoop texts sort text fault
 
+-- there is none
 abbrev pub KeepsLoops : List Statement → Type 0
 KeepsLoops texts = (text : ℕ) (fault : Fault) → BreaksLoops texts text fault → ⊥

@@ -34,6 +34,7 @@ abbrev pub HasDefault : List Statement → (leaf of_type default : Located) → 
 HasDefault texts leaf of_type default =
     (part_of Default leaf ≡ Some default) ⊎ ((part_of Default leaf ≡ None) × Brings texts of_type default)
 
+-- the statement of the default of a leaf, or that it has none
 abbrev pub IsLeafDefault : Scoping → (leaf of_type : Located) → Option ℕ → Type 0
 IsLeafDefault scoping leaf of_type None = (default : Located) → HasDefault scoping.texts leaf of_type default → ⊥
 IsLeafDefault scoping leaf of_type (Some number) =

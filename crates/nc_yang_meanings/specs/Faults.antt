@@ -53,5 +53,6 @@ pub record BreaksTypes (on : ℕ → List ℕ → Bool) (texts : List Statement)
   pub is : root texts text ≡ Some top
   pub breaks : BreaksType on texts top fault
 
+-- no rule on types is broken
 abbrev pub KeepsTypes : (on : ℕ → List ℕ → Bool) → List Statement → Type 0
 KeepsTypes on texts = (text : ℕ) (fault : Fault) → BreaksTypes on texts text fault → ⊥

@@ -28,6 +28,7 @@ pub record HasPlan (on : ℕ → List ℕ → Bool) (scoping : Scoping) (plans :
   pub is : IsPlan scoping.located plan meaning
   pub means : Means on scoping.texts l meaning
 
+-- a `type` statement means no type
 abbrev pub MeansNothing : (on : ℕ → List ℕ → Bool) → Scoping → Located → Type 0
 MeansNothing on scoping l = (m : Meaning) → Means on scoping.texts l m → ⊥
 

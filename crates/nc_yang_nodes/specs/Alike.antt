@@ -16,6 +16,7 @@ pub record SeenNode : Type 0 where
   pub cases : List CaseNumber
   pub deny : Deny
 
+-- what is seen of a planned data node
 abbrev pub seen_node : Scoping → Planned → SeenNode
 seen_node scoping p = record {
   statement = slice_get scoping.located p.statement;
@@ -34,6 +35,7 @@ pub record SeenChoice : Type 0 where
   pub within : List CaseNumber
   pub nodes_before : ℕ
 
+-- what is seen of a planned choice
 abbrev pub seen_choice : Scoping → PlannedChoice → SeenChoice
 seen_choice scoping p = record {
   statement = slice_get scoping.located p.statement;

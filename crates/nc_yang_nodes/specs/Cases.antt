@@ -11,6 +11,7 @@ use Rattle.nc_yang_nodes.specs.Roles.{FeatureTest, children, role}
 abbrev pub is_there : List Statement → FeatureTest → Located → Bool
 is_there texts on l = is_some (role texts on l)
 
+-- a statement has that name
 abbrev pub has_name : List ℕ → Located → Bool
 has_name word l = is_same_text (name l.statement) word
 

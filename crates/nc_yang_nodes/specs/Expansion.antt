@@ -14,6 +14,7 @@ use Rattle.nc_yang_nodes.specs.declared.role.Role.TheVariants.{Node, Choice, Cas
 use Rattle.nc_yang_nodes.specs.Denials.{together}
 use Rattle.nc_yang_nodes.specs.Roles.{FeatureTest, block, role}
 
+-- one, or none
 abbrev pub list_of : {A : Type 0} → Option A → List A
 list_of None = []
 list_of (Some x) = x ∷ []
@@ -23,6 +24,7 @@ list_of (Some x) = x ∷ []
 abbrev pub within : Context → List CaseNumber
 within c = c.cases ++ list_of c.next
 
+-- the next case of a choice
 abbrev pub case_after : CaseNumber → CaseNumber
 case_after k = record k { case = k.case + 1 }
 
@@ -60,6 +62,7 @@ inner c before (Choice deny) = in_block c deny (Some (record { choice = length b
 inner c before (Case deny) = in_block c deny None
 inner c before (Uses deny) = in_block c deny None
 
+-- the data node of a statement, where it stands
 abbrev pub node_of : ℕ → Context → Deny → Planned
 node_of number c deny = record {
   statement = number;

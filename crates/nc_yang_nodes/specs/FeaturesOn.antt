@@ -12,9 +12,11 @@ use Rattle.nc_yang_nodes.specs.declared.features.Features.{Features}
 abbrev pub order : ℕ × Bor (List ℕ) → ℕ × Bor (List ℕ) → Ordering
 order key other = ordering_then (nat_cmp key.0 other.0) (slice_cmp nat_cmp key.1.now other.1.now)
 
+-- a feature of a text is on
 abbrev pub is_on : Features → ℕ → List ℕ → Bool
 is_on features text word = contains order features.names (text, record { ref_ptr = (0, 0); now = word })
 
+-- the same text and name
 abbrev pub is_key : ℕ → List ℕ → ℕ → List ℕ → Bool
 is_key text word other name = text == other && is_same_text word name
 

@@ -16,6 +16,7 @@ abbrev pub title_of : Title → Statement → Option (List ℕ)
 title_of OfName s = Some (name s)
 title_of OfNamespace s = option_map name (part Namespace (below s))
 
+-- a text has that name or namespace
 abbrev pub has_title : Title → List ℕ → Statement → Bool
 has_title by word s = option_map_or (λ w. is_same_text w word) (title_of by s) false
 

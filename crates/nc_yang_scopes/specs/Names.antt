@@ -75,5 +75,6 @@ pub record BreaksNames (texts : List Statement) (text : ℕ) (fault : Fault) : T
   pub is : root texts text ≡ Some top
   pub misnames : Misnames texts top fault
 
+-- no rule on names is broken
 abbrev pub KeepsNames : List Statement → Type 0
 KeepsNames texts = (text : ℕ) (fault : Fault) → BreaksNames texts text fault → ⊥

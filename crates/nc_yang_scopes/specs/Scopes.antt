@@ -84,6 +84,7 @@ text_of_prefix texts number prefix =
     if is_own texts number prefix then Some number
     else option_and_then (λ i. text_of texts (name i)) (import_of prefix (top texts number))
 
+-- a reference with a prefix
 abbrev pub has_colon : List ℕ → Bool
 has_colon reference = list_any (λ c. c == colon) reference
 

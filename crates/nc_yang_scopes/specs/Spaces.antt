@@ -15,6 +15,7 @@ use Rattle.nc_yang_statements.specs.Rules.{at_if, is_case}
 use Rattle.nc_yang_scopes.specs.declared.space.Space.{Space}
 use Rattle.nc_yang_scopes.specs.declared.space.Space.TheVariants.{Cases, Features, Groupings, Identities, Nodes, Prefixes, Typedefs}
 
+-- all of them
 unfoldable pub spaces : List Space
 spaces = Typedefs ∷ Groupings ∷ Identities ∷ Features ∷ Nodes ∷ Cases ∷ Prefixes ∷ []
 
@@ -50,6 +51,7 @@ prefix_in s = option_map name (part Prefix (below s))
 abbrev pub known_as : Statement → Option (List ℕ)
 known_as s = if is_same_keyword Import (kind s) then prefix_in s else Some (name s)
 
+-- the name that a statement has in a space
 abbrev pub name_in : Space → Keyword → Statement → Option (List ℕ)
 name_in space above s = if is_in_space space above (kind s) then known_as s else None
 
@@ -88,5 +90,6 @@ pub record BreaksSpaces (s : Statement) (fault : Fault) : Type 0 where
   pub stands : IsWithin s statement
   pub breaks : Contains (faults_in statement) fault
 
+-- no rule on spaces of names is broken
 abbrev pub KeepsSpaces : Statement → Type 0
 KeepsSpaces s = (fault : Fault) → BreaksSpaces s fault → ⊥

@@ -31,5 +31,6 @@ pub data BreaksState : (state : Bool) → Statement → Fault → Type 0 where
   inside : (state : Bool) (s t : Statement) (place : ℕ) (fault : Fault) → is_closed (kind s) ≡ false
       → slice_get (below s) place ≡ Some t → BreaksState (is_state_in state s) t fault → BreaksState state s fault
 
+-- no rule on `config` is broken
 abbrev pub KeepsState : (state : Bool) → Statement → Type 0
 KeepsState state s = (fault : Fault) → BreaksState state s fault → ⊥

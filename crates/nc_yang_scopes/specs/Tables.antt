@@ -16,6 +16,7 @@ order key other = ordering_then (nat_cmp key.0 other.0) (slice_cmp nat_cmp key.1
 abbrev pub number_at : Table → ℕ → List ℕ → Option ℕ
 number_at table block word = get order table.numbers (block, record { ref_ptr = (0, 0); now = word })
 
+-- the same block and name
 abbrev pub is_key : ℕ → List ℕ → ℕ → List ℕ → Bool
 is_key block word other text = block == other && is_same_text word text
 

@@ -29,5 +29,6 @@ pub data BreaksText (texts : List Statement) : TextFault → Type 0 where
       BreaksText texts (record { text = text; fault = fault })
   unrevised_import : (found : TextFault) → Contains (unrevised texts) found → BreaksText texts found
 
+-- no rule on texts is broken
 abbrev pub KeepsTexts : List Statement → Type 0
 KeepsTexts texts = (found : TextFault) → BreaksText texts found → ⊥

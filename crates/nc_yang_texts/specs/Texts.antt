@@ -18,6 +18,7 @@ module_limit = 1000
 abbrev pub text_limit : ℕ
 text_limit = 4194304
 
+-- a text past the limit
 abbrev pub is_long : ModuleText → Bool
 is_long text = nat_lt text_limit (length text.bytes)
 
@@ -26,6 +27,7 @@ pub record Spells (text : ModuleText) (root : Statement) : Type 0 where
   pub utf8 : is_utf8 text.bytes ≡ true
   pub spells : TextSpells (chars text.bytes) root
 
+-- each text spells its statements
 abbrev pub AreEachRead : List ModuleText → List Statement → Type 0
 AreEachRead [] [] = Unit {0}
 AreEachRead (text ∷ texts) (root ∷ roots) = Spells text root × AreEachRead texts roots

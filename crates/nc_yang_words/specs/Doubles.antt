@@ -41,6 +41,7 @@ characters (Plain c) = 1
 characters Return = 1
 characters (Meant c) = 2
 
+-- of how many characters signs are made
 abbrev pub characters_of : List Sign → ℕ
 characters_of [] = 0
 characters_of (sign ∷ signs) = characters sign + characters_of signs
@@ -51,11 +52,13 @@ meaning (Plain c) = c
 meaning Return = carriage_return
 meaning (Meant c) = c
 
+-- a line feed as it is written
 abbrev pub is_line_feed : Sign → Bool
 is_line_feed (Plain c) = c == line_feed
 is_line_feed Return = false
 is_line_feed (Meant c) = false
 
+-- a return before a line feed
 abbrev pub is_return : Sign → Bool
 is_return (Plain c) = false
 is_return Return = true
@@ -72,6 +75,7 @@ abbrev pub first_line : List Sign → List Sign
 first_line [] = []
 first_line (sign ∷ signs) = if is_line_feed sign then [] else sign ∷ first_line signs
 
+-- the lines after the first
 abbrev pub later_lines : List Sign → List (List Sign)
 later_lines [] = []
 later_lines (sign ∷ signs) = if is_line_feed sign then first_line signs ∷ later_lines signs else later_lines signs

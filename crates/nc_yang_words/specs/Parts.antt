@@ -73,6 +73,7 @@ HasForm (Some Close) chars = chars ≡ closing_brace ∷ []
 HasForm (Some End) chars = ⊥
 HasForm (Some Torn) chars = ⊥
 
+-- each has its form
 abbrev pub HaveForms : List Part → Type 0
 HaveForms [] = Unit {0}
 HaveForms (part ∷ parts) = HasForm part.kind part.chars × HaveForms parts

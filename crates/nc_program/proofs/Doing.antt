@@ -52,7 +52,7 @@ pub sat : (crashes : Crashing) (words : List (List ℕ)) (folder : List ℕ) (pe
     → IsServed first disk.failed (Lasts crashes ready.device first) peer (sitting s t) (sitting r u) end
     → Runs crashes words (outside g.files g.disk s t l g.maker) (outside h.files disk r u l h.maker) (Session end)
 sat crashes words folder peer g h disk s r t u l first schema modules S end asks ready served =
-    IsOver folder peer ready.device first end asks (is_opened folder g h s t l first schema modules S ready) ready.files served
+    IsOver folder peer ready.device first end asks (is_opened folder g h s t l first schema modules S ready) ready.files refl served
 
 -- serving is over, or was not begun
 pub served_so : (crashes : Crashing) (words : List (List ℕ)) (folder address : List ℕ) (g h : Ground) (disk : Stored)
@@ -67,7 +67,7 @@ served_so crashes words folder address g h disk s t u l m first schema modules S
     (made_so first disk.failed L (Lasts crashes ready.device first) t u history less made) ends refl
 served_so crashes words folder address g h disk s t u l m first schema modules S L Kept Memory asks ready less spares (same, still, kept) =
     HasNoMemory (ToListen folder address) folder asks (listened address)
-    (λ i. outside h.files disk s (still i) (same i) h.maker) (spares kept)
+    (λ i. outside (ready.files i) disk s (still i) (same i) h.maker) (spares kept)
 served_so crashes words folder address g h disk s t u l m first schema modules S L Kept Words asks ready less spares none = absurd none
 served_so crashes words folder address g h disk s t u l m first schema modules S L Kept Files asks ready less spares none = absurd none
 served_so crashes words folder address g h disk s t u l m first schema modules S L Kept (Setup fault) asks ready less spares none = absurd none
@@ -134,7 +134,8 @@ unread crashes words folder file g h files disk s t l first schema modules S Fil
     HasFailed (ToScript folder file) folder asks (scripted file)
     (subst (λ f. Rose f.failed files.failed) ready.files rose) refl spares
 unread crashes words folder file g h files disk s t l first schema modules S Memory asks ready same spares =
-    HasNoMemory (ToScript folder file) folder asks (scripted file) refl spares
+    HasNoMemory (ToScript folder file) folder asks (scripted file)
+    (λ i. outside ((same ∙ ready.files) i) disk s t l h.maker) spares
 unread crashes words folder file g h files disk s t l first schema modules S Words asks ready none spares = absurd none
 unread crashes words folder file g h files disk s t l first schema modules S (Setup fault) asks ready none spares = absurd none
 unread crashes words folder file g h files disk s t l first schema modules S (Store fault) asks ready none spares = absurd none

@@ -39,7 +39,8 @@ pub no_server : (crashes : Crashing) (words : List (List ℕ)) (task : Task) (fo
     → Asks words task → IsIn folder task → Spares crashes g.files folder → Fails folder g h end
     → Runs crashes words (outside g.files g.disk s t l g.maker) (outside h.files h.disk s t l h.maker) end
 no_server crashes words task folder g h s t l Files asks is spares (rose, same) = HasFailed task folder asks is rose refl spares
-no_server crashes words task folder g h s t l Memory asks is spares same = HasNoMemory task folder asks is refl spares
+no_server crashes words task folder g h s t l Memory asks is spares same =
+    HasNoMemory task folder asks is (λ i. outside (same i).files h.disk s t l h.maker) spares
 no_server crashes words task folder g h s t l (Setup fault) asks is spares (none, same) =
     MakesNoDevice task folder fault asks is none (λ i. outside (same i).files (same i).disk s t l h.maker) spares
 no_server crashes words task folder g h s t l (Store fault) asks is spares (device, makes, refuses, same) =
@@ -266,14 +267,14 @@ session_seven (Spent ticket) none = absurd none
 -- ---- what each status tells
 pub words_status : (crashes : Crashing) (words : List (List ℕ)) (before now : Outside) (end : RunEnd) → Runs crashes words before now end
     → status_of end ≡ 2 ↔ HasNoReading words
-words_status crashes words before now end (AreFaulty none same) = (λ e. none, λ n. refl)
+words_status crashes words before now end (AreFaulty none same unharmed) = (λ e. none, λ n. refl)
 words_status crashes words before now end (HasFailed task folder asks is rose same spares) = (λ e. absurd (omega (arith, e)), λ none. absurd (none task asks))
 words_status crashes words before now end (HasNoMemory task folder asks is same spares) = (λ e. absurd (omega (arith, e)), λ none. absurd (none task asks))
 words_status crashes words before now end (MakesNoDevice task folder fault asks is none_made same spares) =
     (λ e. cc (of_two (Setup fault) e), λ none. absurd (none task asks))
 words_status crashes words before now end (IsUnopened task folder device fault asks is makes refuses same spares) =
     (λ e. cc (of_two (Store fault) e), λ none. absurd (none task asks))
-words_status crashes words before now end (IsOver folder peer device first met asks opened files served_so) =
+words_status crashes words before now end (IsOver folder peer device first met asks opened files unheard served_so) =
     (λ e. cc (of_two (Session met) e), λ none. absurd (none (ToServe folder peer) asks))
 words_status crashes words before now end (HasServed folder address device first history met asks opened files made ends same) =
     (λ e. cc (of_two (Served met) e), λ none. absurd (none (ToListen folder address) asks))
@@ -281,19 +282,19 @@ words_status crashes words before now end (IsScripted folder file device first f
     (λ e. cc (of_two (Script met) e), λ none. absurd (none (ToScript folder file) asks))
 words_status crashes words before now end (IsChecked folder device first found printed asks opened found_so lasts wrote same) =
     (λ e. cc (of_two (Checked printed) e), λ none. absurd (none (ToCheck folder) asks))
-words_status crashes words before now end (IsLoaded edits met asks loads same) = (
+words_status crashes words before now end (IsLoaded edits met asks loads same unharmed) = (
   λ e. absurd (subst (λ x. Loads edits before.maker now.maker (output_of before.streams) (output_of now.streams) x) (of_two met e) loads),
   λ none. absurd (none (ToLoad edits) asks),
 )
 
 pub read_status : (crashes : Crashing) (words : List (List ℕ)) (before now : Outside) (end : RunEnd) → Runs crashes words before now end
     → status_of end ≡ 6 → Rose before.streams.reads_failed now.streams.reads_failed
-read_status crashes words before now end (AreFaulty none same) e = absurd (omega (arith, e))
+read_status crashes words before now end (AreFaulty none same unharmed) e = absurd (omega (arith, e))
 read_status crashes words before now end (HasFailed task folder asks is rose same spares) e = absurd (omega (arith, e))
 read_status crashes words before now end (HasNoMemory task folder asks is same spares) e = absurd (omega (arith, e))
 read_status crashes words before now end (MakesNoDevice task folder fault asks is none_made same spares) e = cc (of_six (Setup fault) e)
 read_status crashes words before now end (IsUnopened task folder device fault asks is makes refuses same spares) e = cc (of_six (Store fault) e)
-read_status crashes words before now end (IsOver folder peer device first met asks opened files served_so) e =
+read_status crashes words before now end (IsOver folder peer device first met asks opened files unheard served_so) e =
     read_failed first.schema (called peer served_so.home [] [] before.streams)
     (HasMadeAlone first now.disk.failed (Lasts crashes device first) before.times now.times) (λ ticket. ticket ≡ most_requests) now.streams met served_so.serves
     (cc (of_six (Session met) e))
@@ -302,7 +303,7 @@ read_status crashes words before now end (IsScripted folder file device first fo
     cc (of_six (Script met) e)
 read_status crashes words before now end (IsChecked folder device first found printed asks opened found_so lasts wrote same) e =
     cc (of_six (Checked printed) e)
-read_status crashes words before now end (IsLoaded edits met asks loads same) e =
+read_status crashes words before now end (IsLoaded edits met asks loads same unharmed) e =
     absurd (subst (λ x. Loads edits before.maker now.maker (output_of before.streams) (output_of now.streams) x) (of_six met e) loads)
 
 -- a text that was not written whole
@@ -343,12 +344,12 @@ load_failed edits m n before now (Checked printed) none e = absurd none
 
 pub write_status : (crashes : Crashing) (words : List (List ℕ)) (before now : Outside) (end : RunEnd) → Runs crashes words before now end
     → status_of end ≡ 7 → Rose before.streams.writes_failed now.streams.writes_failed
-write_status crashes words before now end (AreFaulty none same) e = absurd (omega (arith, e))
+write_status crashes words before now end (AreFaulty none same unharmed) e = absurd (omega (arith, e))
 write_status crashes words before now end (HasFailed task folder asks is rose same spares) e = absurd (omega (arith, e))
 write_status crashes words before now end (HasNoMemory task folder asks is same spares) e = absurd (omega (arith, e))
 write_status crashes words before now end (MakesNoDevice task folder fault asks is none_made same spares) e = absurd (of_seven (Setup fault) e)
 write_status crashes words before now end (IsUnopened task folder device fault asks is makes refuses same spares) e = absurd (of_seven (Store fault) e)
-write_status crashes words before now end (IsOver folder peer device first met asks opened files served_so) e =
+write_status crashes words before now end (IsOver folder peer device first met asks opened files unheard served_so) e =
     write_failed first.schema (called peer served_so.home [] [] before.streams)
     (HasMadeAlone first now.disk.failed (Lasts crashes device first) before.times now.times) (λ ticket. ticket ≡ most_requests) now.streams met served_so.serves
     (session_seven met (of_seven (Session met) e))
@@ -357,38 +358,38 @@ write_status crashes words before now end (IsScripted folder file device first f
     script_failed first now.disk.failed (Lasts crashes device first) found (output_of before.streams) (output_of now.streams) met came e
 write_status crashes words before now end (IsChecked folder device first found printed asks opened found_so lasts wrote same) e =
     part_failed (check_line found) (output_of before.streams) (output_of now.streams) printed wrote e
-write_status crashes words before now end (IsLoaded edits met asks loads same) e =
+write_status crashes words before now end (IsLoaded edits met asks loads same unharmed) e =
     load_failed edits before.maker now.maker (output_of before.streams) (output_of now.streams) met loads e
 
 pub disk_status : (crashes : Crashing) (words : List (List ℕ)) (before now : Outside) (end : RunEnd) → Runs crashes words before now end
     → status_of end ≡ 8 → Rose before.disk.failed now.disk.failed
-disk_status crashes words before now end (AreFaulty none same) e = absurd (omega (arith, e))
+disk_status crashes words before now end (AreFaulty none same unharmed) e = absurd (omega (arith, e))
 disk_status crashes words before now end (HasFailed task folder asks is rose same spares) e = absurd (omega (arith, e))
 disk_status crashes words before now end (HasNoMemory task folder asks is same spares) e = absurd (omega (arith, e))
 disk_status crashes words before now end (MakesNoDevice task folder fault asks is none_made same spares) e = cc (of_eight (Setup fault) e)
 disk_status crashes words before now end (IsUnopened task folder device fault asks is makes refuses same spares) e =
     refuses.cause (cc (of_eight (Store fault) e))
-disk_status crashes words before now end (IsOver folder peer device first met asks opened files served_so) e = cc (of_eight (Session met) e)
+disk_status crashes words before now end (IsOver folder peer device first met asks opened files unheard served_so) e = cc (of_eight (Session met) e)
 disk_status crashes words before now end (HasServed folder address device first history met asks opened files made ends same) e = cc (of_eight (Served met) e)
 disk_status crashes words before now end (IsScripted folder file device first found met asks opened found_so came same) e =
     cc (of_eight (Script met) e)
 disk_status crashes words before now end (IsChecked folder device first found printed asks opened found_so lasts wrote same) e =
     cc (of_eight (Checked printed) e)
-disk_status crashes words before now end (IsLoaded edits met asks loads same) e =
+disk_status crashes words before now end (IsLoaded edits met asks loads same unharmed) e =
     absurd (subst (λ x. Loads edits before.maker now.maker (output_of before.streams) (output_of now.streams) x) (of_eight met e) loads)
 
 pub files_status : (crashes : Crashing) (words : List (List ℕ)) (before now : Outside) (end : RunEnd) → Runs crashes words before now end
     → status_of end ≡ 13 → Rose before.files.failed now.files.failed
-files_status crashes words before now end (AreFaulty none same) e = absurd (omega (arith, e))
+files_status crashes words before now end (AreFaulty none same unharmed) e = absurd (omega (arith, e))
 files_status crashes words before now end (HasFailed task folder asks is rose same spares) e = rose
 files_status crashes words before now end (HasNoMemory task folder asks is same spares) e = absurd (omega (arith, e))
 files_status crashes words before now end (MakesNoDevice task folder fault asks is none_made same spares) e = cc (of_thirteen (Setup fault) e)
 files_status crashes words before now end (IsUnopened task folder device fault asks is makes refuses same spares) e = cc (of_thirteen (Store fault) e)
-files_status crashes words before now end (IsOver folder peer device first met asks opened files served_so) e = cc (of_thirteen (Session met) e)
+files_status crashes words before now end (IsOver folder peer device first met asks opened files unheard served_so) e = cc (of_thirteen (Session met) e)
 files_status crashes words before now end (HasServed folder address device first history met asks opened files made ends same) e = cc (of_thirteen (Served met) e)
 files_status crashes words before now end (IsScripted folder file device first found met asks opened found_so came same) e =
     cc (of_thirteen (Script met) e)
 files_status crashes words before now end (IsChecked folder device first found printed asks opened found_so lasts wrote same) e =
     cc (of_thirteen (Checked printed) e)
-files_status crashes words before now end (IsLoaded edits met asks loads same) e =
+files_status crashes words before now end (IsLoaded edits met asks loads same unharmed) e =
     absurd (subst (λ x. Loads edits before.maker now.maker (output_of before.streams) (output_of now.streams) x) (of_thirteen met e) loads)

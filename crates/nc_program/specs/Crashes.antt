@@ -61,9 +61,13 @@ pub record SurvivesRun (crashes : Crashing) (device : Device) (first : State) (h
 abbrev pub Lasts : Crashing → Device → State → List Entry → Type 0
 Lasts crashes device first history = Told crashes.seen (λ _. SurvivesRun crashes device first history)
 
+-- nothing was done to the disk: a crash at any moment of the run leaves what one before it had left
+abbrev pub Unharmed : Crashing → Type 0
+Unharmed crashes = (c : List ℕ) → crashes.left_since crashes.began c → crashes.may_leave c
+
 -- Where a run made no server of a folder's store, the store keeps what it held: nothing was done to the disk; or it was
 -- opened for this device, and a crash at any moment of the run leaves one of those that it held, where these are known.
 pub data Spares (crashes : Crashing) (files : Filing) (folder : List ℕ) : Type 0 where
-  Untouched : ((c : List ℕ) → crashes.left_since crashes.began c → crashes.may_leave c) → Spares crashes files folder
+  Untouched : Unharmed crashes → Spares crashes files folder
   Opened : (device : Device) → Makes files folder device
       → Told crashes.seen (λ _. IfSome crashes.held (Leaves crashes device crashes.began)) → Spares crashes files folder

@@ -11,7 +11,7 @@ use Rattle.nc_session.specs.declared.end.SessionEnd.{SessionEnd}
 use Rattle.nc_setup.specs.declared.fault.SetupFault.{SetupFault}
 use Rattle.nc_store.specs.declared.fault.StoreFault.{StoreFault}
 use Rattle.nc_program.specs.Counts.{check_line}
-use Rattle.nc_program.specs.Crashes.{Crashing, Lasts, Spares}
+use Rattle.nc_program.specs.Crashes.{Crashing, Lasts, Spares, Unharmed}
 use Rattle.nc_program.specs.Devices.{Begins, Makes, MakesNone, Refuses}
 use Rattle.nc_program.specs.Ends.{status_of}
 use Rattle.nc_program.specs.Loads.{Loads}
@@ -48,6 +48,10 @@ pub record IsFound (device : Device) (first : State) (found : Found) : Type 0 wh
 abbrev pub NothingBut : (before now : Outside) → Type 0
 NothingBut before now = now ≡ record before { files = now.files; disk = now.disk; maker = now.maker }
 
+-- The same, and no fault of the files was met.
+abbrev pub NothingFailed : (before now : Outside) → Type 0
+NothingFailed before now = now ≡ record before { disk = now.disk; maker = now.maker }
+
 -- Besides, standard output took something.
 abbrev pub NothingButOutput : (before now : Outside) → Type 0
 NothingButOutput before now = now ≡ record before {
@@ -60,13 +64,13 @@ NothingButOutput before now = now ≡ record before {
 -- makes no server; its store was not opened; or that was done which the words ask for. A file is asked for, a pattern
 -- made and the store opened in this order and before all else, but for the file of a script. What a server of the store
 -- did lasts over crashes; where the store was looked at, its history has no entry. Where no server did anything, the
--- store keeps what it held.
+-- store keeps what it held; and where no folder is named, nothing is done to the disk.
 pub data Runs (crashes : Crashing) (words : List (List ℕ)) (before now : Outside) : RunEnd → Type 0 where
-  AreFaulty : HasNoReading words → now ≡ before → Runs crashes words before now Words
+  AreFaulty : HasNoReading words → now ≡ before → Unharmed crashes → Runs crashes words before now Words
   HasFailed : (task : Task) (folder : List ℕ) → Asks words task → IsIn folder task
       → Rose before.files.failed now.files.failed → NothingBut before now → Spares crashes before.files folder
       → Runs crashes words before now Files
-  HasNoMemory : (task : Task) (folder : List ℕ) → Asks words task → IsIn folder task → NothingBut before now
+  HasNoMemory : (task : Task) (folder : List ℕ) → Asks words task → IsIn folder task → NothingFailed before now
       → Spares crashes before.files folder → Runs crashes words before now Memory
   MakesNoDevice : (task : Task) (folder : List ℕ) (fault : SetupFault) → Asks words task → IsIn folder task
       → MakesNone before.files folder before.maker now.maker fault → now ≡ record before { maker = now.maker }
@@ -77,6 +81,7 @@ pub data Runs (crashes : Crashing) (words : List (List ℕ)) (before now : Outsi
       → Runs crashes words before now (Store fault)
   IsOver : (folder : List ℕ) (peer : Peer) (device : Device) (first : State) (end : SessionEnd)
       → Asks words (ToServe folder peer) → IsOpened before folder device first → now.files ≡ before.files
+      → now.listener ≡ before.listener
       → IsServed first now.disk.failed (Lasts crashes device first) peer
       (sitting before.streams before.times) (sitting now.streams now.times) end
       → Runs crashes words before now (Session end)
@@ -102,7 +107,7 @@ pub data Runs (crashes : Crashing) (words : List (List ℕ)) (before now : Outsi
         streams = record before.streams { taken = now.streams.taken; writes_failed = now.streams.writes_failed };
         maker = now.maker;
       }
-      → Runs crashes words before now end
+      → Unharmed crashes → Runs crashes words before now end
 
 -- a run came to this end: the status is its, and standard error took its line, or a beginning of it where a write
 -- failed

@@ -3,7 +3,7 @@ use Rattle.std.proofs.Common.{◌≡◌, ◌≢◌, ◌<◌, ◌≤◌, ◌+◌,
 use Rattle.std.specs.List.{flat_map}
 use Rattle.std.proofs.lemmas.List.Elements.{All-append, All-cons, All-head, All-nil, All-push, All-tail, All-weaker}
 use Rattle.std.proofs.lemmas.List.Concat.{flat_map-append}
-use Rattle.nc_peer.specs.Lines.{space, line_feed, peer_limit, IsName, IsNameByte, IsPeerLine, BeginsNone, HasNoFeed, StopsAtFeed, line_of}
+use Rattle.nc_peer.specs.Lines.{space, line_feed, peer_limit, and_space, IsName, IsNameByte, IsPeerLine, BeginsNone, GoesOn, GoesOnToLast, HasNoFeed, StopsAtFeed, line_of}
 use Rattle.std.specs.Prelude.{Bool, true, Option, Ok, Err}
 use Rattle.std.specs.Io.KnownBytes.{prepend_known}
 use Rattle.nc_outside.proofs.Known.{prepend_twice}
@@ -11,7 +11,7 @@ use Rattle.nc_peer.specs.declared.fault.PeerFault.{PeerFault}
 use Rattle.nc_peer.specs.declared.fault.PeerFault.TheVariants.{BadPeer, InputEnded, ReadFault, Memory}
 use Rattle.nc_peer.specs.Faults.{Stops}
 use Rattle.nc_names.specs.Counts.{Rose}
-use Rattle.nc_peer.specs.inner.Underway.{IsUnderway, Takes, NamesReadAs, ReadsNames, and_space}
+use Rattle.nc_peer.specs.inner.Underway.{IsUnderway, Takes, NamesReadAs, ReadsNames}
 
 record Cut (a b : List ℕ) (x y : ℕ) (s t : List ℕ) : Type 0 where
   front : a ≡ b
@@ -222,8 +222,24 @@ one_more {bytes} b u =
 rose_since : (before between now : ℕ) → before ≤ between → Rose between now → Rose before now
 rose_since before between now later rose = omega (arith, later, rose)
 
+-- a line that is being read goes on
+underway_goes_on : {bytes : List ℕ} {names : List (List ℕ)} {word : List ℕ} → IsUnderway bytes names word → GoesOn bytes
+underway_goes_on {bytes} {names} {word} u = record {
+  names = names;
+  word = word;
+  bytes_are = u.bytes_are;
+  whole = u.whole;
+  begun = u.begun;
+  short = u.short;
+}
+
+-- and it goes on to a byte more
+goes_on_to : {bytes : List ℕ} {names : List (List ℕ)} {word : List ℕ} (b : ℕ) → IsUnderway bytes names word →
+    GoesOnToLast (bytes ++ b ∷ [])
+goes_on_to {bytes} b u = record { front = bytes; last = b; bytes_are = refl; goes_on = underway_goes_on u }
+
 -- no byte came, and the line that is being read has no end
-unread_as : (bytes : List ℕ) (left : Option (List ℕ)) (before between now : ℕ) (fault : PeerFault) → HasNoFeed bytes →
+unread_as : (bytes : List ℕ) (left : Option (List ℕ)) (before between now : ℕ) (fault : PeerFault) → GoesOn bytes →
     before ≤ between → Stops left between now fault → NamesReadAs bytes left before now (Err fault)
 unread_as bytes left before between now (BadPeer at) all later stops = absurd stops
 unread_as bytes left before between now Memory all later stops = absurd stops
@@ -240,7 +256,7 @@ unread first last {bytes} before between now fault e u later stops =
       taken = e;
       few = omega (arith, short);
       stops = plain_stops bytes all;
-      reads = unread_as bytes last before between now fault all later stops;
+      reads = unread_as bytes last before between now fault (underway_goes_on u) later stops;
     }
 
 -- a byte that ends the line
@@ -258,11 +274,12 @@ whole first last {bytes} part b all before now e u over is takes =
     }
 
 stops_as : (bytes : List ℕ) (names : List (List ℕ)) (word : List ℕ) (left : Option (List ℕ)) (before now : ℕ)
-    (fault : PeerFault) → Takes bytes names word (Err fault) → NamesReadAs bytes left before now (Err fault)
-stops_as bytes names word left before now (BadPeer at) t = t
-stops_as bytes names word left before now Memory t = t
-stops_as bytes names word left before now InputEnded t = absurd t
-stops_as bytes names word left before now ReadFault t = absurd t
+    (fault : PeerFault) → GoesOnToLast bytes → Takes bytes names word (Err fault)
+    → NamesReadAs bytes left before now (Err fault)
+stops_as bytes names word left before now (BadPeer at) there t = (t.0, there, t.1)
+stops_as bytes names word left before now Memory there t = t
+stops_as bytes names word left before now InputEnded there t = absurd t
+stops_as bytes names word left before now ReadFault there t = absurd t
 
 -- a byte that ends the reading by a fault
 pub stopped : (first last : Option (List ℕ)) {bytes : List ℕ} {old : List (List ℕ)} {part : List ℕ} (b : ℕ)
@@ -277,5 +294,5 @@ stopped first last {bytes} b names word before now fault e u t =
       taken = e;
       few = more.0;
       stops = more.1;
-      reads = stops_as (bytes ++ b ∷ []) names word last before now fault t;
+      reads = stops_as (bytes ++ b ∷ []) names word last before now fault (goes_on_to b u) t;
     }

@@ -2,18 +2,19 @@
 use Rattle.std.specs.Prelude.{◌≡◌, ◌≤◌, ◌+◌, ℕ, false, List, ◌∷◌, Option, Result, Ok, Err, length}
 use Rattle.std.specs.Io.KnownBytes.{prepend_known, IsAtEnd}
 use Rattle.nc_names.specs.Counts.{Rose}
-use Rattle.nc_peer.specs.Lines.{IsPeerLine, BeginsNone, HasNoFeed, StopsAtFeed, bad_place, peer_limit}
+use Rattle.nc_peer.specs.Lines.{IsPeerLine, BeginsNone, GoesOn, GoesOnToLast, StopsAtFeed, bad_place, peer_limit}
 use Rattle.nc_protocol.specs.declared.peer.Peer.{Peer}
 use Rattle.nc_peer.specs.declared.fault.PeerFault.{PeerFault}
 use Rattle.nc_peer.specs.declared.fault.PeerFault.TheVariants.{BadPeer, InputEnded, ReadFault, Memory}
 
--- what reading came to, by the bytes that were taken of the source, those that are left, and how often it has failed
+-- What reading came to, by the bytes that were taken of the source, those that are left, and how often it has failed.
+-- No byte was taken past the one that shows that no line begins so.
 abbrev pub ReadsAs : (bytes : List ℕ) → (left : Option (List ℕ)) → (failed_before failed_now : ℕ) →
     Result Peer PeerFault → Type 0
 ReadsAs bytes left before now (Ok peer) = IsPeerLine (peer.user ∷ peer.groups) bytes × (peer.recovery ≡ false)
-ReadsAs bytes left before now (Err (BadPeer at)) = BeginsNone bytes × (at ≡ bad_place bytes)
-ReadsAs bytes left before now (Err InputEnded) = IsAtEnd left × HasNoFeed bytes
-ReadsAs bytes left before now (Err ReadFault) = Rose before now × HasNoFeed bytes
+ReadsAs bytes left before now (Err (BadPeer at)) = BeginsNone bytes × GoesOnToLast bytes × (at ≡ bad_place bytes)
+ReadsAs bytes left before now (Err InputEnded) = IsAtEnd left × GoesOn bytes
+ReadsAs bytes left before now (Err ReadFault) = Rose before now × GoesOn bytes
 ReadsAs bytes left before now (Err Memory) = Unit {0}
 
 -- These bytes were taken of the source, and nothing beyond them: not more than a line has, and none past its end.

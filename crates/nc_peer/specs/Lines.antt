@@ -1,5 +1,6 @@
 -- The line that names a peer.
 use Rattle.std.specs.Prelude.{◌≡◌, ◌≢◌, ◌<◌, ◌≤◌, ◌+◌, ◌-◌, ℕ, List, [], ◌∷◌, ◌++◌, length, All, min}
+use Rattle.std.specs.List.{flat_map}
 use Rattle.std.specs.Str.{IsUtf8}
 use Rattle.std.specs.Str.Lossy.{utf8_valid_len}
 
@@ -36,6 +37,26 @@ pub record IsPeerLine (names : List (List ℕ)) (bytes : List ℕ) : Type 0 wher
   pub line : bytes ≡ line_of names
   pub named : All IsName names
   pub short : length bytes ≤ peer_limit + 1
+
+-- a name, and the space that ends it
+abbrev pub and_space : List ℕ → List ℕ
+and_space name = name ++ space ∷ []
+
+-- a line that goes on: names, each with its space, and a beginning of one more, which need not be text yet
+pub record GoesOn (bytes : List ℕ) : Type 0 where
+  pub names : List (List ℕ)
+  pub word : List ℕ
+  pub bytes_are : bytes ≡ flat_map and_space names ++ word
+  pub whole : All IsName names
+  pub begun : All IsNameByte word
+  pub short : length bytes ≤ peer_limit
+
+-- a line goes on until the last of these bytes
+pub record GoesOnToLast (bytes : List ℕ) : Type 0 where
+  pub front : List ℕ
+  pub last : ℕ
+  pub bytes_are : bytes ≡ front ++ last ∷ []
+  pub goes_on : GoesOn front
 
 -- no peer's line begins with these bytes
 abbrev pub BeginsNone : List ℕ → Type 0

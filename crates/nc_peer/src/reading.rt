@@ -58,9 +58,9 @@ fn peer_of(names: Many<Text>) -> Peer
     }
 }
 
-/// Reads the line that names a peer, and no byte past its line feed: the user and the groups, separated by
-/// single spaces, at most 1,024 bytes of UTF-8 without the line feed. The peer has no recovery. Memory is
-/// taken for one line alone.
+/// Reads the line that names a peer, and no byte past its line feed, nor past the one that shows that there is
+/// no such line: the user and the groups, separated by single spaces, at most 1,024 bytes of UTF-8 without
+/// the line feed. The peer has no recovery. Memory is taken for one line alone.
 ///
 /// # Errors
 ///

@@ -1,14 +1,11 @@
 -- A peer's line that is being read.
-use Rattle.std.specs.Prelude.{◌≡◌, ◌<◌, ◌≤◌, ◌+◌, ℕ, Bool, true, false, List, [], ◌∷◌, ◌++◌, length, All, Option, Result, Ok, Err}
+use Rattle.std.specs.Prelude.{◌≡◌, ◌<◌, ◌≤◌, ◌+◌, ℕ, Bool, true, false, List, ◌++◌, length, All, Option, Result, Ok, Err}
 use Rattle.std.specs.Io.KnownBytes.{prepend_known, IsAtEnd}
 use Rattle.nc_names.specs.Counts.{Rose}
 use Rattle.std.specs.List.{flat_map}
-use Rattle.nc_peer.specs.Lines.{space, peer_limit, IsName, IsNameByte, IsPeerLine, BeginsNone, HasNoFeed, StopsAtFeed, bad_place}
+use Rattle.nc_peer.specs.Lines.{peer_limit, and_space, IsName, IsNameByte, IsPeerLine, BeginsNone, GoesOn, GoesOnToLast, StopsAtFeed, bad_place}
 use Rattle.nc_peer.specs.declared.fault.PeerFault.{PeerFault}
 use Rattle.nc_peer.specs.declared.fault.PeerFault.TheVariants.{BadPeer, InputEnded, ReadFault, Memory}
-
-abbrev pub and_space : List ℕ → List ℕ
-and_space name = name ++ space ∷ []
 
 -- the bytes so far are whole names, each with its space, and a beginning of the next name
 pub record IsUnderway (bytes : List ℕ) (names : List (List ℕ)) (word : List ℕ) : Type 0 where
@@ -30,9 +27,9 @@ Takes bytes names word (Err ReadFault) = ⊥
 abbrev pub NamesReadAs : (bytes : List ℕ) → (left : Option (List ℕ)) → (failed_before failed_now : ℕ) →
     Result (List (List ℕ)) PeerFault → Type 0
 NamesReadAs bytes left before now (Ok names) = IsPeerLine names bytes × (0 < length names)
-NamesReadAs bytes left before now (Err (BadPeer at)) = BeginsNone bytes × (at ≡ bad_place bytes)
-NamesReadAs bytes left before now (Err InputEnded) = IsAtEnd left × HasNoFeed bytes
-NamesReadAs bytes left before now (Err ReadFault) = Rose before now × HasNoFeed bytes
+NamesReadAs bytes left before now (Err (BadPeer at)) = BeginsNone bytes × GoesOnToLast bytes × (at ≡ bad_place bytes)
+NamesReadAs bytes left before now (Err InputEnded) = IsAtEnd left × GoesOn bytes
+NamesReadAs bytes left before now (Err ReadFault) = Rose before now × GoesOn bytes
 NamesReadAs bytes left before now (Err Memory) = Unit {0}
 
 -- these bytes were taken of the source, and the names come of them

@@ -28,7 +28,7 @@ use Rattle.nc_program.specs.Loads.{Loads, load_contents, nothing_lasts}
 use Rattle.nc_program.specs.Notes.{Told}
 use Rattle.nc_program.specs.Outside.{Filing, Ground, Listening, Making, Stored, Times, outside}
 use Rattle.nc_program.specs.Printing.{IsPrinted}
-use Rattle.nc_program.specs.Run.{HasFailed, HasNoMemory, HasServed, IsChecked, IsOver, IsScripted, Runs, output_of}
+use Rattle.nc_program.specs.Run.{HasNoMemory, HasNoScript, HasServed, IsChecked, IsOver, IsScripted, Runs, output_of}
 use Rattle.nc_program.specs.Scripts.{FoundIn, RunsAt, Scripts}
 use Rattle.nc_program.specs.Sessions.{HasMade, IsServed, sitting}
 use Rattle.nc_program.specs.Words.{IsCheck, IsScript, IsServe, IsStdio}
@@ -131,7 +131,7 @@ pub unread : (crashes : Crashing) (words : List (List ℕ)) (folder file : List 
     → Finds file h.files files (Err end) → Spares crashes g.files folder
     → Runs crashes words (outside g.files g.disk s t l g.maker) (outside files disk s t l h.maker) end
 unread crashes words folder file g h files disk s t l first schema modules S Files asks ready (rose, same) spares =
-    HasFailed (ToScript folder file) folder asks (scripted file)
+    HasNoScript folder file ready.device first asks (is_opened folder g h s t l first schema modules S ready)
     (subst (λ f. Rose f.failed files.failed) ready.files rose) refl spares
 unread crashes words folder file g h files disk s t l first schema modules S Memory asks ready same spares =
     HasNoMemory (ToScript folder file) folder asks (scripted file)

@@ -20,7 +20,7 @@ use Rattle.nc_program.specs.Loads.{Loads, nothing_lasts}
 use Rattle.nc_program.specs.Notes.{Told}
 use Rattle.nc_program.specs.Outside.{Ground, Listening, Making, Outside, Times, outside}
 use Rattle.nc_program.specs.Printing.{IsPrinted}
-use Rattle.nc_program.specs.Run.{AreFaulty, HasFailed, HasNoMemory, HasServed, IsChecked, IsLoaded, IsOpened, IsOver, IsScripted, IsUnopened, MakesNoDevice, Runs, output_of}
+use Rattle.nc_program.specs.Run.{AreFaulty, HasFailed, HasNoMemory, HasNoScript, HasServed, IsChecked, IsLoaded, IsOpened, IsOver, IsScripted, IsUnopened, MakesNoDevice, Runs, output_of}
 use Rattle.nc_program.specs.Scripts.{Comes, HadNoMemory, HasBadLine, HasSteps, IsAbsent, Scripts}
 use Rattle.nc_program.specs.Sessions.{HasMadeAlone}
 use Rattle.nc_program.specs.Words.{Asks, HasNoReading, IsIn, Task}
@@ -38,7 +38,8 @@ use Rattle.nc_program.specs.declared.end.ScriptEnd.TheVariants.{Absent, BadLine,
 pub no_server : (crashes : Crashing) (words : List (List ℕ)) (task : Task) (folder : List ℕ) (g h : Ground) (s : Streams) (t : Times) (l : Listening) (end : RunEnd)
     → Asks words task → IsIn folder task → Spares crashes g.files folder → Fails folder g h end
     → Runs crashes words (outside g.files g.disk s t l g.maker) (outside h.files h.disk s t l h.maker) end
-no_server crashes words task folder g h s t l Files asks is spares (rose, same) = HasFailed task folder asks is rose refl spares
+no_server crashes words task folder g h s t l Files asks is spares (rose, same) =
+    HasFailed task folder asks is rose (λ i. outside h.files (same i).disk s t l h.maker) spares
 no_server crashes words task folder g h s t l Memory asks is spares same =
     HasNoMemory task folder asks is (λ i. outside (same i).files h.disk s t l h.maker) spares
 no_server crashes words task folder g h s t l (Setup fault) asks is spares (none, same) =
@@ -269,6 +270,8 @@ pub words_status : (crashes : Crashing) (words : List (List ℕ)) (before now : 
     → status_of end ≡ 2 ↔ HasNoReading words
 words_status crashes words before now end (AreFaulty none same unharmed) = (λ e. none, λ n. refl)
 words_status crashes words before now end (HasFailed task folder asks is rose same spares) = (λ e. absurd (omega (arith, e)), λ none. absurd (none task asks))
+words_status crashes words before now end (HasNoScript folder file device first asks opened rose same spares) =
+    (λ e. absurd (omega (arith, e)), λ none. absurd (none (ToScript folder file) asks))
 words_status crashes words before now end (HasNoMemory task folder asks is same spares) = (λ e. absurd (omega (arith, e)), λ none. absurd (none task asks))
 words_status crashes words before now end (MakesNoDevice task folder fault asks is none_made same spares) =
     (λ e. cc (of_two (Setup fault) e), λ none. absurd (none task asks))
@@ -291,6 +294,7 @@ pub read_status : (crashes : Crashing) (words : List (List ℕ)) (before now : O
     → status_of end ≡ 6 → Rose before.streams.reads_failed now.streams.reads_failed
 read_status crashes words before now end (AreFaulty none same unharmed) e = absurd (omega (arith, e))
 read_status crashes words before now end (HasFailed task folder asks is rose same spares) e = absurd (omega (arith, e))
+read_status crashes words before now end (HasNoScript folder file device first asks opened rose same spares) e = absurd (omega (arith, e))
 read_status crashes words before now end (HasNoMemory task folder asks is same spares) e = absurd (omega (arith, e))
 read_status crashes words before now end (MakesNoDevice task folder fault asks is none_made same spares) e = cc (of_six (Setup fault) e)
 read_status crashes words before now end (IsUnopened task folder device fault asks is makes refuses same spares) e = cc (of_six (Store fault) e)
@@ -346,6 +350,7 @@ pub write_status : (crashes : Crashing) (words : List (List ℕ)) (before now : 
     → status_of end ≡ 7 → Rose before.streams.writes_failed now.streams.writes_failed
 write_status crashes words before now end (AreFaulty none same unharmed) e = absurd (omega (arith, e))
 write_status crashes words before now end (HasFailed task folder asks is rose same spares) e = absurd (omega (arith, e))
+write_status crashes words before now end (HasNoScript folder file device first asks opened rose same spares) e = absurd (omega (arith, e))
 write_status crashes words before now end (HasNoMemory task folder asks is same spares) e = absurd (omega (arith, e))
 write_status crashes words before now end (MakesNoDevice task folder fault asks is none_made same spares) e = absurd (of_seven (Setup fault) e)
 write_status crashes words before now end (IsUnopened task folder device fault asks is makes refuses same spares) e = absurd (of_seven (Store fault) e)
@@ -365,6 +370,7 @@ pub disk_status : (crashes : Crashing) (words : List (List ℕ)) (before now : O
     → status_of end ≡ 8 → Rose before.disk.failed now.disk.failed
 disk_status crashes words before now end (AreFaulty none same unharmed) e = absurd (omega (arith, e))
 disk_status crashes words before now end (HasFailed task folder asks is rose same spares) e = absurd (omega (arith, e))
+disk_status crashes words before now end (HasNoScript folder file device first asks opened rose same spares) e = absurd (omega (arith, e))
 disk_status crashes words before now end (HasNoMemory task folder asks is same spares) e = absurd (omega (arith, e))
 disk_status crashes words before now end (MakesNoDevice task folder fault asks is none_made same spares) e = cc (of_eight (Setup fault) e)
 disk_status crashes words before now end (IsUnopened task folder device fault asks is makes refuses same spares) e =
@@ -382,6 +388,7 @@ pub files_status : (crashes : Crashing) (words : List (List ℕ)) (before now : 
     → status_of end ≡ 13 → Rose before.files.failed now.files.failed
 files_status crashes words before now end (AreFaulty none same unharmed) e = absurd (omega (arith, e))
 files_status crashes words before now end (HasFailed task folder asks is rose same spares) e = rose
+files_status crashes words before now end (HasNoScript folder file device first asks opened rose same spares) e = rose
 files_status crashes words before now end (HasNoMemory task folder asks is same spares) e = absurd (omega (arith, e))
 files_status crashes words before now end (MakesNoDevice task folder fault asks is none_made same spares) e = cc (of_thirteen (Setup fault) e)
 files_status crashes words before now end (IsUnopened task folder device fault asks is makes refuses same spares) e = cc (of_thirteen (Store fault) e)

@@ -44,7 +44,11 @@ pub record IsFound (device : Device) (first : State) (found : Found) : Type 0 wh
   pub nodes : found.nodes ≡ length device.schema.nodes
   pub rows : found.rows ≡ length first.running
 
--- A run does nothing but to read files, make patterns, and open the store.
+-- A run does nothing but to read files and make patterns.
+abbrev pub NothingButReading : (before now : Outside) → Type 0
+NothingButReading before now = now ≡ record before { files = now.files; maker = now.maker }
+
+-- Besides, it opens the store.
 abbrev pub NothingBut : (before now : Outside) → Type 0
 NothingBut before now = now ≡ record before { files = now.files; disk = now.disk; maker = now.maker }
 
@@ -68,8 +72,11 @@ NothingButOutput before now = now ≡ record before {
 pub data Runs (crashes : Crashing) (words : List (List ℕ)) (before now : Outside) : RunEnd → Type 0 where
   AreFaulty : HasNoReading words → now ≡ before → Unharmed crashes → Runs crashes words before now Words
   HasFailed : (task : Task) (folder : List ℕ) → Asks words task → IsIn folder task
-      → Rose before.files.failed now.files.failed → NothingBut before now → Spares crashes before.files folder
+      → Rose before.files.failed now.files.failed → NothingButReading before now → Spares crashes before.files folder
       → Runs crashes words before now Files
+  HasNoScript : (folder file : List ℕ) (device : Device) (first : State) → Asks words (ToScript folder file)
+      → IsOpened before folder device first → Rose before.files.failed now.files.failed → NothingBut before now
+      → Spares crashes before.files folder → Runs crashes words before now Files
   HasNoMemory : (task : Task) (folder : List ℕ) → Asks words task → IsIn folder task → NothingFailed before now
       → Spares crashes before.files folder → Runs crashes words before now Memory
   MakesNoDevice : (task : Task) (folder : List ℕ) (fault : SetupFault) → Asks words task → IsIn folder task

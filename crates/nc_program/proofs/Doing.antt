@@ -101,15 +101,15 @@ pub looked : (crashes : Crashing) (words : List (List ℕ)) (folder : List ℕ) 
     (printed : Printed) → IsCheck words folder → (ready : IsReady folder g h first schema modules S)
     → found.modules ≡ modules → found.nodes ≡ length schema.nodes → found.rows ≡ length first.running
     → Lasts crashes ready.device first [] → IsPrinted (check_line found) (output_of s) (output_of r) printed
-    → r ≡ record s { taken = r.taken; writes_failed = r.writes_failed }
+    → r ≡ record s { taken = r.taken; writes_failed = r.writes_failed } → disk.failed ≡ first.faults
     → Runs crashes words (outside g.files g.disk s t l g.maker) (outside h.files disk r t l h.maker) (Checked printed)
-looked crashes words folder g h disk s r t l first schema modules S found printed asks ready counted nodes rows lasts wrote same =
+looked crashes words folder g h disk s r t l first schema modules S found printed asks ready counted nodes rows lasts wrote same faults =
     IsChecked folder ready.device first found printed asks (is_opened folder g h s t l first schema modules S ready)
     (record {
       modules = counted ∙ ready.modules_is;
       nodes = nodes ∙ ap (λ x. length x.nodes) ready.schema_is;
       rows = rows;
-    }) lasts wrote (λ i. outside (ready.files i) disk (same i) t l h.maker)
+    }) lasts wrote (λ i. outside (ready.files i) disk (same i) t l h.maker) (faults ∙ ap (λ x. x.faults) ready.begins.is)
 
 -- a script is over
 pub scripted_so : (crashes : Crashing) (words : List (List ℕ)) (folder file : List ℕ) (g h : Ground) (files : Filing)

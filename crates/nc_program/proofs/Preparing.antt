@@ -145,12 +145,12 @@ not_opened folder f g d e m n device (Checked printed) prepared none = absurd no
 -- ---- the first state of a server
 pub begins_good : (device : Device) (disk : Stored) (first : State) → Begins device disk first → IsGood first
 begins_good device disk first begins =
-    subst IsGood (sym begins.is) (opening_is_good device.schema begins.base begins.failed begins.proper begins.configuration begins.valid)
+    subst IsGood (sym begins.is) (opening_is_good device.schema begins.base disk.failed begins.proper begins.configuration begins.valid)
 
 pub begins_so : (device : Device) (disk : Stored) (first : State) (schema : Tables) → Begins device disk first → schema ≡ device.schema
     → (base : List Row) × (failed : ℕ) × (first ≡ opening schema base failed)
 begins_so device disk first schema begins same =
-    (begins.base, begins.failed, begins.is ∙ ap (λ s. opening s begins.base begins.failed) (sym same))
+    (begins.base, disk.failed, begins.is ∙ ap (λ s. opening s begins.base disk.failed) (sym same))
 
 -- ---- a store is opened, or not
 pub ok_so : {A E : Type 0} (P Q : A → Type 0) (result : Result A E) → ((it : A) → P it → Q it) → IfOk result P → IfOk result Q
@@ -170,11 +170,10 @@ pub begins_by : {D : Type 0} (device : Device) (disk : Stored) (failed : ℕ) (t
     (running : List Row) (first : State) → tables ≡ device.schema → schema ≡ device.schema → IsProperSchema device.schema
     → HasBegun (record { header = device.header; tables = tables; initial = device.initial }) store running
     → Told disk.seen (BeginsWith (record { header = device.header; tables = tables; initial = device.initial }) running)
-    → first ≡ opening schema running failed → Begins device disk first
-begins_by device disk failed tables schema store running first same so proper begun reads is = record {
+    → failed ≡ disk.failed → first ≡ opening schema running failed → Begins device disk first
+begins_by device disk failed tables schema store running first same so proper begun reads unfailed is = record {
   base = running;
-  failed = failed;
-  is = is ∙ ap (λ t. opening t running failed) so;
+  is = is ∙ ap (λ t. opening t running failed) so ∙ ap (λ n. opening device.schema running n) unfailed;
   proper = proper;
   configuration = subst (λ t. IsConfiguration t running) same begun.configuration;
   valid = subst (λ t. IsValid t running) same begun.valid;

@@ -283,7 +283,7 @@ words_status crashes words before now end (HasServed folder address device first
     (λ e. cc (of_two (Served met) e), λ none. absurd (none (ToListen folder address) asks))
 words_status crashes words before now end (IsScripted folder file device first found met asks opened found_so came same) =
     (λ e. cc (of_two (Script met) e), λ none. absurd (none (ToScript folder file) asks))
-words_status crashes words before now end (IsChecked folder device first found printed asks opened found_so lasts wrote same) =
+words_status crashes words before now end (IsChecked folder device first found printed asks opened found_so lasts wrote same unfailed) =
     (λ e. cc (of_two (Checked printed) e), λ none. absurd (none (ToCheck folder) asks))
 words_status crashes words before now end (IsLoaded edits met asks loads same unharmed) = (
   λ e. absurd (subst (λ x. Loads edits before.maker now.maker (output_of before.streams) (output_of now.streams) x) (of_two met e) loads),
@@ -305,7 +305,7 @@ read_status crashes words before now end (IsOver folder peer device first met as
 read_status crashes words before now end (HasServed folder address device first history met asks opened files made ends same) e = cc (of_six (Served met) e)
 read_status crashes words before now end (IsScripted folder file device first found met asks opened found_so came same) e =
     cc (of_six (Script met) e)
-read_status crashes words before now end (IsChecked folder device first found printed asks opened found_so lasts wrote same) e =
+read_status crashes words before now end (IsChecked folder device first found printed asks opened found_so lasts wrote same unfailed) e =
     cc (of_six (Checked printed) e)
 read_status crashes words before now end (IsLoaded edits met asks loads same unharmed) e =
     absurd (subst (λ x. Loads edits before.maker now.maker (output_of before.streams) (output_of now.streams) x) (of_six met e) loads)
@@ -328,9 +328,9 @@ comes_failed text_of first failed S steps before now ScriptMemory came e = absur
 
 script_failed : (first : State) (failed : ℕ) (S : List Entry → Type 0) (found : Option (List ℕ)) (before now : Told) (end : ScriptEnd)
     → Scripts first failed S found before now end → script_status end ≡ 7 → Rose before.failed now.failed
-script_failed first failed S found before now end (IsAbsent none same lasts) e = absurd (omega (arith, e))
-script_failed first failed S found before now end (HasBadLine text line is bad same lasts) e = absurd (omega (arith, e))
-script_failed first failed S found before now end (HadNoMemory same lasts) e = absurd (omega (arith, e))
+script_failed first failed S found before now end (IsAbsent none same lasts unfailed) e = absurd (omega (arith, e))
+script_failed first failed S found before now end (HasBadLine text line is bad same lasts unfailed) e = absurd (omega (arith, e))
+script_failed first failed S found before now end (HadNoMemory same lasts unfailed) e = absurd (omega (arith, e))
 script_failed first failed S found before now end (HasSteps text steps met is script comes) e =
     comes_failed _ first failed S steps before now met comes e
 
@@ -361,7 +361,7 @@ write_status crashes words before now end (IsOver folder peer device first met a
 write_status crashes words before now end (HasServed folder address device first history met asks opened files made ends same) e = absurd (of_seven (Served met) e)
 write_status crashes words before now end (IsScripted folder file device first found met asks opened found_so came same) e =
     script_failed first now.disk.failed (Lasts crashes device first) found (output_of before.streams) (output_of now.streams) met came e
-write_status crashes words before now end (IsChecked folder device first found printed asks opened found_so lasts wrote same) e =
+write_status crashes words before now end (IsChecked folder device first found printed asks opened found_so lasts wrote same unfailed) e =
     part_failed (check_line found) (output_of before.streams) (output_of now.streams) printed wrote e
 write_status crashes words before now end (IsLoaded edits met asks loads same unharmed) e =
     load_failed edits before.maker now.maker (output_of before.streams) (output_of now.streams) met loads e
@@ -379,7 +379,7 @@ disk_status crashes words before now end (IsOver folder peer device first met as
 disk_status crashes words before now end (HasServed folder address device first history met asks opened files made ends same) e = cc (of_eight (Served met) e)
 disk_status crashes words before now end (IsScripted folder file device first found met asks opened found_so came same) e =
     cc (of_eight (Script met) e)
-disk_status crashes words before now end (IsChecked folder device first found printed asks opened found_so lasts wrote same) e =
+disk_status crashes words before now end (IsChecked folder device first found printed asks opened found_so lasts wrote same unfailed) e =
     cc (of_eight (Checked printed) e)
 disk_status crashes words before now end (IsLoaded edits met asks loads same unharmed) e =
     absurd (subst (λ x. Loads edits before.maker now.maker (output_of before.streams) (output_of now.streams) x) (of_eight met e) loads)
@@ -396,7 +396,7 @@ files_status crashes words before now end (IsOver folder peer device first met a
 files_status crashes words before now end (HasServed folder address device first history met asks opened files made ends same) e = cc (of_thirteen (Served met) e)
 files_status crashes words before now end (IsScripted folder file device first found met asks opened found_so came same) e =
     cc (of_thirteen (Script met) e)
-files_status crashes words before now end (IsChecked folder device first found printed asks opened found_so lasts wrote same) e =
+files_status crashes words before now end (IsChecked folder device first found printed asks opened found_so lasts wrote same unfailed) e =
     cc (of_thirteen (Checked printed) e)
 files_status crashes words before now end (IsLoaded edits met asks loads same unharmed) e =
     absurd (subst (λ x. Loads edits before.maker now.maker (output_of before.streams) (output_of now.streams) x) (of_thirteen met e) loads)

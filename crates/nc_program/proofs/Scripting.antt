@@ -137,10 +137,10 @@ not_done text_of first failed S steps now (Done printed) none = absurd none
 pub not_read : {K : Type 0} (words : Lasting K) (machine : Serving K) (found : Option (List ℕ)) (now : Told)
     (end : ScriptEnd) → Reads found (Err end)
     → Scripts machine.state machine.state.faults (GoesOn words machine machine) found now now end
-not_read words machine found now Absent none = IsAbsent none refl (goes_nowhere words machine)
+not_read words machine found now Absent none = IsAbsent none refl (goes_nowhere words machine) refl
 not_read words machine found now (BadLine line) (text, is, bad) =
-    HasBadLine text line is bad refl (goes_nowhere words machine)
-not_read words machine found now Memory u = HadNoMemory refl (goes_nowhere words machine)
+    HasBadLine text line is bad refl (goes_nowhere words machine) refl
+not_read words machine found now Memory u = HadNoMemory refl (goes_nowhere words machine) refl
 not_read words machine found now (BadStep n) none = absurd none
 not_read words machine found now (Spent n) none = absurd none
 not_read words machine found now (Done printed) none = absurd none
@@ -181,9 +181,11 @@ comes_so text_of first failed S T steps before now (BadLine line) less none = no
 pub scripts_so : (first : State) (failed : ℕ) (S T : List Entry → Type 0) (found : Option (List ℕ)) (before now : Told)
     (end : ScriptEnd) → ((history : List Entry) → S history → T history)
     → Scripts first failed S found before now end → Scripts first failed T found before now end
-scripts_so first failed S T found before now end less (IsAbsent none same made) = IsAbsent none same (less [] made)
-scripts_so first failed S T found before now end less (HasBadLine text line is bad same made) =
-    HasBadLine text line is bad same (less [] made)
-scripts_so first failed S T found before now end less (HadNoMemory same made) = HadNoMemory same (less [] made)
+scripts_so first failed S T found before now end less (IsAbsent none same made unfailed) =
+    IsAbsent none same (less [] made) unfailed
+scripts_so first failed S T found before now end less (HasBadLine text line is bad same made unfailed) =
+    HasBadLine text line is bad same (less [] made) unfailed
+scripts_so first failed S T found before now end less (HadNoMemory same made unfailed) =
+    HadNoMemory same (less [] made) unfailed
 scripts_so first failed S T found before now end less (HasSteps text steps met is script comes) =
     HasSteps text steps met is script (comes_so all_outputs first failed S T steps before now met less comes)

@@ -48,11 +48,10 @@ abbrev pub begun_with : Device → Begun
 begun_with device = record { header = device.header; tables = device.schema; initial = device.initial }
 
 -- The server of a device before its first event: running is a valid configuration, and that which the file of its store
--- holds. `failed` is how often the disk had failed by then.
+-- holds. It counts as many disk faults as the disk had counted before: the opening met none.
 pub record Begins (device : Device) (disk : Stored) (first : State) : Type 0 where
   pub base : List Row
-  pub failed : ℕ
-  pub is : first ≡ opening device.schema base failed
+  pub is : first ≡ opening device.schema base disk.failed
   pub proper : IsProperSchema device.schema
   pub configuration : IsConfiguration device.schema base
   pub valid : IsValid device.schema base

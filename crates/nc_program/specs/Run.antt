@@ -107,7 +107,8 @@ pub data Runs (crashes : Crashing) (words : List (List ℕ)) (before now : Outsi
       → Asks words (ToCheck folder) → IsOpened before folder device first → IsFound device first found
       → Lasts crashes device first []
       → IsPrinted (check_line found) (output_of before.streams) (output_of now.streams) printed
-      → NothingButOutput before now → Runs crashes words before now (Checked printed)
+      → NothingButOutput before now → now.disk.failed ≡ before.disk.failed
+      → Runs crashes words before now (Checked printed)
   IsLoaded : (edits : ℕ) (end : RunEnd) → Asks words (ToLoad edits)
       → Loads edits before.maker now.maker (output_of before.streams) (output_of now.streams) end
       → now ≡ record before {

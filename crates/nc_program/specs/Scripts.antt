@@ -67,16 +67,17 @@ Comes text_of first failed Lasts steps before now end = ⊥
 abbrev pub all_outputs : ScriptRun → List ℕ
 all_outputs run = outputs_text run.outputs
 
--- What came of a script, of which this was found. Where no step was done, nothing was made.
+-- What came of a script, of which this was found. Where no step was done, nothing was made, and no disk fault was met.
 pub data Scripts (first : State) (failed : ℕ) (Lasts : List Entry → Type 0) (found : Option (List ℕ))
     (before now : Told) : ScriptEnd → Type 0 where
   -- there is none
-  IsAbsent : found ≡ None → now ≡ before → Lasts [] → Scripts first failed Lasts found before now Absent
+  IsAbsent : found ≡ None → now ≡ before → Lasts [] → first.faults ≡ failed
+      → Scripts first failed Lasts found before now Absent
   -- a line of it is no step
   HasBadLine : (text : List ℕ) (line : ℕ) → found ≡ Some text → IsBadAt text line → now ≡ before → Lasts []
-      → Scripts first failed Lasts found before now (BadLine line)
+      → first.faults ≡ failed → Scripts first failed Lasts found before now (BadLine line)
   -- no memory was found for its steps
-  HadNoMemory : now ≡ before → Lasts [] → Scripts first failed Lasts found before now Memory
+  HadNoMemory : now ≡ before → Lasts [] → first.faults ≡ failed → Scripts first failed Lasts found before now Memory
   -- its steps came to that
   HasSteps : (text : List ℕ) (steps : List ScriptStep) (end : ScriptEnd) → found ≡ Some text → IsScript text steps
       → Comes all_outputs first failed Lasts steps before now end → Scripts first failed Lasts found before now end

@@ -125,6 +125,8 @@ impl<D: Disk> Store<D> {
         ensures tells { IfOk result (λ it. is_some (D.seen it.0.disk) ≡ is_some (D.seen disk)) ×
             IfErr result (λ it. is_some (D.seen it.0) ≡ is_some (D.seen disk)) }
         ensures cause { IfErr result (λ it. it.1 ≡ DiskFault → Rose (D.faults disk) (D.faults it.0)) }
+        // No fault is passed over: an opening that meets one does not end well.
+        ensures unfailed { IfOk result (λ it. D.faults it.0.disk ≡ D.faults disk) }
     {
         let (journal, bodies) = match Journal::begin(alloc, disk, header.as_slice()) {
             Ok(opened) => opened,

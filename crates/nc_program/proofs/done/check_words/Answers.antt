@@ -31,4 +31,4 @@ returns g c = λ words left ends failed clock listener asks held known.
     c.in-Ok.ensures.ready c.found_in.ensures.modules c.found_in.ensures.nodes c.found_in.ensures.rows
     (has_left g.D.Disk.seen g.D.Disk.may_leave g.D.Disk.moment g.D.Disk.left_since c.args.disk ready.device c.in-Ok.ready.opened.machine ready.begun (times None 0) [] held known_there c.disk_of.result []
     (record { last = c.in-Ok.ready.opened.machine; disk_is = sym c.disk_of.ensures.disk; goes = goes_nowhere (store_words g.D.Disk.seen g.D.Disk.moment g.D.Disk.left_since) c.in-Ok.ready.opened.machine }))
-    c.print.ensures refl
+    c.print.ensures refl c.disk_of.ensures.faults

@@ -14,7 +14,7 @@ returns-in-Ok-begin-clause-begins g c =
     (λ it. Begins c.args.device (stored (g.D.Disk.seen c.args.disk) (g.D.Disk.faults c.args.disk)) it.machine.state) c.with_machine.result
     (λ it is. begins_by c.args.device (stored (g.D.Disk.seen c.args.disk) (g.D.Disk.faults c.args.disk)) (g.D.Disk.faults c.in-Ok-begin.store.disk) c.in-Ok.owners.store.value c.in-Ok.owners.machine.value
     c.in-Ok-begin.store c.in-Ok-begin.running it.machine.state c.in-Ok.ensures.store c.in-Ok.ensures.machine c.requires.proper
-    c.in-Ok-begin.ensures.begun c.in-Ok-begin.ensures.reads is) c.with_machine.ensures.opening
+    c.in-Ok-begin.ensures.begun c.in-Ok-begin.ensures.reads c.in-Ok-begin.ensures.unfailed is) c.with_machine.ensures.opening
 
 pub returns-in-Ok-begin-clause-begun : goal.returns-in-Ok-begin-clause-begun
 returns-in-Ok-begin-clause-begun g c =

@@ -24,6 +24,10 @@ list port { key "name at"; leaf name { type string; } leaf at { type uint32; } }
 }
 """)
 USER = "<user><name>u#</name><type>admin</type></user>"
+PLACES = module("ex", """choice place { case here { list host { key name; leaf name { type string; } leaf type { type string; } } }
+case there { leaf far { type string; } } }
+""")
+HOST = f'<host xmlns="{SPACE}"><name>u#</name><type>admin</type></host>'
 RULE = "<rule><name>u#</name></rule>"
 PARTIAL = "urn:ietf:params:xml:ns:netconf:partial-lock:1.0"
 ACM = "urn:ietf:params:xml:ns:yang:ietf-netconf-acm"
@@ -50,12 +54,18 @@ def prefixes(count, elements):
 def messages(by):
     """The messages, each with the modules and the configuration that it meets, and what comes before it."""
     attributes = "".join(f' a{at}=""' for at in range(300_000 // by))
+    count = 280_000 // by
+    yield f"{count:,} elements that each declare a namespace", USERS, None, [], [get_config('<a xmlns="b"/>' * count)]
+    yield (f"{count:,} of them below 55 that do", USERS, None, [],
+           [get_config('<a xmlns="b">' * 55 + '<a xmlns="b"/>' * count + "</a>" * 55)])
     yield f"{300_000 // by:,} attributes", USERS, None, [], [f"<get{attributes}/>"]
     yield f"{90_000 // by:,} prefixes above {400_000 // by:,} elements", USERS, None, [], [prefixes(90_000 // by, 400_000 // by)]
     yield (f"a filter of {60_000 // by:,} overlapping matches", TAGGED, users(100, tags), [],
            [get_config(top("users", triples("", 60_000 // by)))])
     for count in [1_000 // by, 10_000 // by, 60_000 // by]:
         yield f"a merge of {count:,} new entries", USERS, None, [], [edit(top("users", entries(USER, count, "mixed")))]
+    for count in [1_000 // by, 10_000 // by]:
+        yield f"a merge of {count:,} new entries in a case", PLACES, None, [], [edit(entries(HOST, count, "mixed"))]
     ordered = [edit(top("users", entries(RULE, 10_000 // by)))]
     yield (f"{10_000 // by:,} entries ordered by the user, merged in reverse", USERS, None, ordered,
            [edit(top("users", entries(RULE, 10_000 // by, "reverse")))])
@@ -72,15 +82,23 @@ list inner { key at; leaf at { type string; } } }
     count = 100_000 // by
     yield (f"a commit of an entry beside {count:,} under `unique`", module("ex", LISTS), entries(PORT, count), [],
            [edit(PORT.replace("#", "more")), "<commit/>"])
-    yield (f"a get over {10_000 // by:,} entries under {1_000 // by:,} rules", USERS,
-           access_rules(1_000 // by) + top("users", entries(USER, 10_000 // by)), [], [get_config()])
+
+
+def governed(by):
+    """The same for messages of a user to whom the device's access control applies."""
+    users = top("users", entries(USER, 10_000 // by))
+    yield (f"a get over {10_000 // by:,} entries under {1_000 // by:,} rules", USERS, access_rules(1_000 // by) + users, [],
+           [get_config()])
+    for count in [10 // by or 1, 1_000 // by or 1]:
+        yield (f"{count:,} merges of a container above {10_000 // by:,} entries", USERS, users, [],
+               [edit(f'<users xmlns="{SPACE}"/>' * count)])
 
 
 def look_at_messages(program, room, by):
     """The rows of the messages; the names of those that took too long."""
     slow = []
-    for name, texts, initial, before, requests in messages(by):
-        timer = Timer(program, device(room, {"ex": texts}, initial))
+    for rules, (name, texts, initial, before, requests) in [(False, it) for it in messages(by)] + [(True, it) for it in governed(by)]:
+        timer = Timer(program, device(room, {"ex": texts}, initial), rules)
         seconds, ran = timer.time(requests, before=before, limit=LIMIT)
         taken = f"more than {LIMIT} s" if ran.cut else ms(seconds * len(requests))
         told = "ended" if ran.cut else f"{ran.errors} refused" if ran.errors else "answered"

@@ -123,13 +123,13 @@ def read_to(stream, end, number):
 class Ran:
     """A session that is over, on a device without a store: its seconds of processor time, the peak of memory in kB, the bytes
     that it wrote, how many errors they have, the line of a refused run, and whether it was ended, after `limit` seconds of
-    processor time."""
+    processor time. It is a recovery session, to which no rule applies, unless the device's access control is asked for."""
 
-    def __init__(self, program, folder, requests=(), framing=0, limit=3600):
+    def __init__(self, program, folder, requests=(), framing=0, limit=3600, governed=False):
         if os.path.exists(f"{folder}/running.nc"):
             os.remove(f"{folder}/running.nc")
-        run = subprocess.Popen([program, "stdio", "--recovery", folder, "alice"], stdin=subprocess.PIPE, stdout=subprocess.PIPE,
-                               stderr=subprocess.PIPE)
+        words = [program, "stdio", folder, "alice"] if governed else [program, "stdio", "--recovery", folder, "alice"]
+        run = subprocess.Popen(words, stdin=subprocess.PIPE, stdout=subprocess.PIPE, stderr=subprocess.PIPE)
         writer = threading.Thread(target=send, args=(run.stdin, session(framing, requests)))
         writer.start()
         resource.prlimit(run.pid, resource.RLIMIT_CPU, (limit, limit))
@@ -157,17 +157,17 @@ class Ran:
 class Timer:
     """The requests of one device: its start is timed once."""
 
-    def __init__(self, program, folder):
-        self.program, self.folder = program, folder
-        self.start = Ran(program, folder)
+    def __init__(self, program, folder, governed=False):
+        self.program, self.folder, self.governed = program, folder, governed
+        self.start = Ran(program, folder, governed=governed)
         if self.start.told:
             sys.exit(f"{sys.argv[0]}: {self.start.told}")
 
     def time(self, requests, framing=0, before=(), limit=3600):
         """The seconds of each of these requests, and how the session ran, with the bytes of its replies; the time of those
         before them is not counted."""
-        begun = Ran(self.program, self.folder, before, framing, limit).seconds if before else self.start.seconds
-        ran = Ran(self.program, self.folder, list(before) + list(requests), framing, limit)
+        begun = Ran(self.program, self.folder, before, framing, limit, self.governed).seconds if before else self.start.seconds
+        ran = Ran(self.program, self.folder, list(before) + list(requests), framing, limit, self.governed)
         ran.replied = max(0, ran.size - self.start.size)
         return max(0.0, ran.seconds - begun) / len(requests), ran
 

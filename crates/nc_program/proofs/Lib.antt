@@ -1,7 +1,5 @@
-mod Arguments
 mod Doing
 mod Lasting
-mod Noting
 mod Outputting
 mod Preparing
 mod Running

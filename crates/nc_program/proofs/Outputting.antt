@@ -6,10 +6,10 @@ use Rattle.std.proofs.lemmas.List.{take_more}
 use Rattle.std.proofs.lemmas.List.Concat.{flat_map-append}
 use Rattle.nc_outside.specs.declared.fault.Failed.{Failed}
 use Rattle.nc_script.specs.declared.output.Output.{Output}
-use Rattle.nc_program.proofs.Noting.{wrote_front, wrote_more, wrote_same}
-use Rattle.nc_program.specs.Notes.{Told}
+use Rattle.nc_words.proofs.Noting.{wrote_front, wrote_more, wrote_same}
+use Rattle.nc_words.specs.Notes.{Told}
 use Rattle.nc_program.specs.Outputs.{output_text, outputs_text}
-use Rattle.nc_program.specs.inner.Writings.{Wrote}
+use Rattle.nc_words.specs.Writings.{Wrote}
 
 -- the texts before an output, its own, and those behind it
 texts_split : (outputs : List Output) (i : ℕ) (d : Output) → i < length outputs

@@ -37,8 +37,8 @@ use Rattle.nc_program.specs.inner.Grounds.{Fails, IsReady}
 use Rattle.nc_program.specs.inner.Opening.{Unopens}
 use Rattle.nc_program.specs.inner.Preparing.{IsRead, MakesOf, Prepares}
 use Rattle.nc_program.specs.declared.device.Device.{Device}
-use Rattle.nc_program.specs.declared.end.RunEnd.{RunEnd}
-use Rattle.nc_program.specs.declared.end.RunEnd.TheVariants.{Words, Files, Setup, Store, Memory, Session, Served, Script, Checked}
+use Rattle.nc_words.specs.declared.end.RunEnd.{RunEnd}
+use Rattle.nc_words.specs.declared.end.RunEnd.TheVariants.{Words, Files, Setup, Store, Memory, Session, Served, Script, Checked}
 
 -- ---- what the folder holds
 pub not_read : (files later : Option (List NamedFile)) (folder : List ℕ) (before now : ℕ) (m : Making) (end : RunEnd)

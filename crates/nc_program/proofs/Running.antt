@@ -15,24 +15,24 @@ use Rattle.nc_store.specs.declared.fault.StoreFault.TheVariants.{DiskFault, Dama
 use Rattle.nc_program.proofs.Serving.{read_failed, write_failed}
 use Rattle.nc_program.specs.Counts.{check_line}
 use Rattle.nc_program.specs.Crashes.{Crashing, Lasts, Spares}
-use Rattle.nc_program.specs.Ends.{printed_status, script_status, status_of}
+use Rattle.nc_words.specs.Ends.{printed_status, script_status, status_of}
 use Rattle.nc_program.specs.Loads.{Loads, nothing_lasts}
-use Rattle.nc_program.specs.Notes.{Told}
+use Rattle.nc_words.specs.Notes.{Told}
 use Rattle.nc_program.specs.Outside.{Ground, Listening, Making, Outside, Times, outside}
-use Rattle.nc_program.specs.Printing.{IsPrinted}
+use Rattle.nc_words.specs.Printing.{IsPrinted}
 use Rattle.nc_program.specs.Run.{AreFaulty, HasFailed, HasNoMemory, HasNoScript, HasServed, IsChecked, IsLoaded, IsOpened, IsOver, IsScripted, IsUnopened, MakesNoDevice, Runs, output_of}
 use Rattle.nc_program.specs.Scripts.{Comes, HadNoMemory, HasBadLine, HasSteps, IsAbsent, Scripts}
 use Rattle.nc_program.specs.Sessions.{HasMadeAlone}
-use Rattle.nc_program.specs.Words.{Asks, HasNoReading, IsIn, Task}
-use Rattle.nc_program.specs.Words.{Stdio as ToServe, Serve as ToListen, Script as ToScript, Check as ToCheck, Load as ToLoad}
+use Rattle.nc_words.specs.Words.{Asks, HasNoReading, IsIn, Task}
+use Rattle.nc_words.specs.Words.{Stdio as ToServe, Serve as ToListen, Script as ToScript, Check as ToCheck, Load as ToLoad}
 use Rattle.nc_program.specs.inner.Grounds.{Fails, IsReady}
 use Rattle.nc_program.specs.declared.device.Device.{Device}
-use Rattle.nc_program.specs.declared.end.Printed.{Printed}
-use Rattle.nc_program.specs.declared.end.Printed.TheVariants.{Part, Whole}
-use Rattle.nc_program.specs.declared.end.RunEnd.{RunEnd}
-use Rattle.nc_program.specs.declared.end.RunEnd.TheVariants.{Words, Files, Setup, Store, Memory, Session, Served, Script, Checked}
-use Rattle.nc_program.specs.declared.end.ScriptEnd.{ScriptEnd}
-use Rattle.nc_program.specs.declared.end.ScriptEnd.TheVariants.{Absent, BadLine, BadStep, Spent as ScriptSpent, Memory as ScriptMemory, Done}
+use Rattle.nc_words.specs.declared.end.Printed.{Printed}
+use Rattle.nc_words.specs.declared.end.Printed.TheVariants.{Part, Whole}
+use Rattle.nc_words.specs.declared.end.RunEnd.{RunEnd}
+use Rattle.nc_words.specs.declared.end.RunEnd.TheVariants.{Words, Files, Setup, Store, Memory, Session, Served, Script, Checked}
+use Rattle.nc_words.specs.declared.end.ScriptEnd.{ScriptEnd}
+use Rattle.nc_words.specs.declared.end.ScriptEnd.TheVariants.{Absent, BadLine, BadStep, Spent as ScriptSpent, Memory as ScriptMemory, Done}
 
 -- ---- no server was made
 pub no_server : (crashes : Crashing) (words : List (List ℕ)) (task : Task) (folder : List ℕ) (g h : Ground) (s : Streams) (t : Times) (l : Listening) (end : RunEnd)

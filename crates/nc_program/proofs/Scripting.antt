@@ -21,11 +21,11 @@ use Rattle.nc_script.specs.declared.output.ScriptRun.{ScriptRun}
 use Rattle.nc_script_text.specs.Lines.{IsProper, IsScript}
 use Rattle.nc_script_text.specs.declared.step.ScriptStep.{ScriptStep}
 use Rattle.nc_script_text.specs.declared.step.ScriptStep.TheVariants.{Begin, Piece, End, Reading}
-use Rattle.nc_program.specs.Notes.{Told}
+use Rattle.nc_words.specs.Notes.{Told}
 use Rattle.nc_program.specs.Scripts.{Comes, HadNoMemory, HasBadLine, HasSteps, IsAbsent, RunsAt, Scripts, all_outputs, made_by, unsaid}
 use Rattle.nc_program.specs.inner.Scripting.{Reads, RunsTo, Tells}
-use Rattle.nc_program.specs.declared.end.ScriptEnd.{ScriptEnd}
-use Rattle.nc_program.specs.declared.end.ScriptEnd.TheVariants.{Absent, BadLine, BadStep, Spent, Memory, Done}
+use Rattle.nc_words.specs.declared.end.ScriptEnd.{ScriptEnd}
+use Rattle.nc_words.specs.declared.end.ScriptEnd.TheVariants.{Absent, BadLine, BadStep, Spent, Memory, Done}
 
 -- a step of a script text reads a clock within its limit
 one_timed : (step : ScriptStep) → IsProper step → IsTimed step

@@ -15,7 +15,7 @@ use Rattle.nc_program.specs.Crashes.{BeginsAmong, Held, Lasts, crashing}
 use Rattle.nc_program.specs.Devices.{Makes}
 use Rattle.nc_program.specs.Outside.{Filing}
 use Rattle.nc_program.specs.Sessions.{IsServed, Sitting}
-use Rattle.nc_program.specs.Words.{Asks, IsIn, Task}
+use Rattle.nc_words.specs.Words.{Asks, IsIn, Task}
 use Rattle.nc_program.specs.inner.Begun.{IsBegun, IsSeatedAt, Keeps, store_words}
 use Rattle.nc_program.specs.declared.device.Device.{Device}
 

@@ -2,7 +2,7 @@
 use Rattle.std.specs.Prelude.{ℕ, List, ◌++◌, codes}
 use Rattle.std.specs.Fmt.{decimal}
 use Rattle.nc_script.specs.declared.output.ScriptRun.{ScriptRun}
-use Rattle.nc_program.specs.Notes.{line_end}
+use Rattle.nc_words.specs.Notes.{line_end}
 use Rattle.nc_program.specs.declared.count.Found.{Found}
 
 -- what stands before each number

@@ -8,7 +8,7 @@ use Rattle.nc_outside.specs.Disks.{Told}
 use Rattle.nc_store.specs.Reopening.{Reopens}
 use Rattle.nc_program.specs.Devices.{Makes, begun_with}
 use Rattle.nc_program.specs.Outside.{Filing}
-use Rattle.nc_program.specs.Words.{Asks, IsIn, Task}
+use Rattle.nc_words.specs.Words.{Asks, IsIn, Task}
 use Rattle.nc_program.specs.declared.device.Device.{Device}
 
 -- what is known of crashes over a run: the bytes of the disk before it, where it tells them, and those that a crash

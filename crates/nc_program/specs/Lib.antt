@@ -1,14 +1,10 @@
 pub mod Counts
 pub mod Crashes
 pub mod Devices
-pub mod Ends
 pub mod Loads
-pub mod Notes
 pub mod Outputs
 pub mod Outside
-pub mod Printing
 pub mod Run
 pub mod Scripts
 pub mod Sessions
-pub mod Words
 pub mod inner

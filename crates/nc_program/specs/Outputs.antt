@@ -5,7 +5,7 @@ use Rattle.std.specs.List.{flat_map}
 use Rattle.nc_script.specs.declared.output.Output.{Output}
 use Rattle.nc_session.specs.declared.end.SessionEnd.{SessionEnd}
 use Rattle.nc_session.specs.declared.end.SessionEnd.TheVariants.{Closed, InputEnded, BadHello, BadFrame, Malformed, TooBig, Killed, ReadFault, WriteFault, Full, Spent, Memory}
-use Rattle.nc_program.specs.Notes.{line_end, space_word}
+use Rattle.nc_words.specs.Notes.{line_end, space_word}
 
 -- what each connection's line begins with
 unfoldable pub output_word : List ℕ

@@ -13,11 +13,11 @@ use Rattle.nc_script.specs.declared.fault.ScriptFault.TheVariants.{BadStep as St
 use Rattle.nc_script.specs.declared.output.ScriptRun.{ScriptRun}
 use Rattle.nc_script_text.specs.Lines.{IsBadAt, IsScript}
 use Rattle.nc_script_text.specs.declared.step.ScriptStep.{ScriptStep}
-use Rattle.nc_program.specs.Notes.{Told}
+use Rattle.nc_words.specs.Notes.{Told}
 use Rattle.nc_program.specs.Outputs.{outputs_text}
-use Rattle.nc_program.specs.Printing.{IsPrinted}
-use Rattle.nc_program.specs.declared.end.ScriptEnd.{ScriptEnd}
-use Rattle.nc_program.specs.declared.end.ScriptEnd.TheVariants.{Absent, BadLine, BadStep, Spent, Memory, Done}
+use Rattle.nc_words.specs.Printing.{IsPrinted}
+use Rattle.nc_words.specs.declared.end.ScriptEnd.{ScriptEnd}
+use Rattle.nc_words.specs.declared.end.ScriptEnd.TheVariants.{Absent, BadLine, BadStep, Spent, Memory, Done}
 
 -- where the files are told, this is what they have under that name
 abbrev pub FoundIn : Option (List NamedFile) → List ℕ → Option (List ℕ) → Type 0

@@ -1,8 +1,6 @@
-pub mod Asking
 pub mod Begun
 pub mod Grounds
 pub mod Opening
 pub mod Preparing
 pub mod Scripting
 pub mod Serving
-pub mod Writings

@@ -1,14 +1,13 @@
 //! A look at a device and its store.
 ghost use Rattle.std.specs.Prelude.{◌≡◌, length};
 ghost use Rattle.nc_program.specs.Counts.{check_line};
-ghost use Rattle.nc_program.specs.Notes.{told};
-ghost use Rattle.nc_program.specs.Printing.{IsPrinted};
+ghost use Rattle.nc_words.specs.Notes.{told};
+ghost use Rattle.nc_words.specs.Printing.{IsPrinted};
 
 use crate::count::{Found, write_found};
-use crate::end::Printed;
 use crate::ground::Ready;
-use crate::writing::printed;
 use nc_outside::{Disk, Sink};
+use nc_words::{Printed, printed_by};
 
 /// What a look at a server finds.
 pub(crate) fn found_in<D: Disk>(ready: &Ready<D>) -> Found
@@ -30,5 +29,5 @@ pub(crate) fn print<K: Sink>(sink: &mut K, found: Found) -> Printed
         (told (K.taken sink.old) (K.faults sink.old))
         (told (K.taken sink.new) (K.faults sink.new)) result }
 {
-    printed(write_found(sink, found))
+    printed_by(write_found(sink, found))
 }

@@ -1,14 +1,14 @@
 //! The lines of counts that are written to standard output.
 ghost use Rattle.std.specs.Prelude.{◌≡◌};
 ghost use Rattle.nc_program.specs.Counts as meant;
-ghost use Rattle.nc_program.specs.Notes.{told};
-ghost use Rattle.nc_program.specs.inner.Writings.{Wrote};
+ghost use Rattle.nc_words.specs.Notes.{told};
+ghost use Rattle.nc_words.specs.Writings.{Wrote};
 
-use crate::writing::write_text;
-use crate::{count_words as counted, line_words as words};
+use crate::count_words as counted;
 use itoa::Buffer;
 use nc_outside::{Failed, Sink};
 use nc_script::ScriptRun;
+use nc_words::{line_end, write_text};
 
 /// What a look at a device finds.
 #[derive(Clone, Copy, Debug, PartialEq, Eq)]
@@ -44,7 +44,7 @@ pub(crate) fn write_found<K: Sink>(sink: &mut K, found: Found) -> Result<(), Fai
     write_count(sink, counted::nodes_word(), found.nodes as u64)?;
     write_count(sink, counted::rows_word(), found.rows)?;
     write_count(sink, counted::records_word(), found.records)?;
-    write_text(sink, words::line_end())
+    write_text(sink, line_end())
 }
 
 /// Writes the line of `load`.
@@ -58,5 +58,5 @@ pub(crate) fn write_load<K: Sink>(sink: &mut K, edits: u32, run: &ScriptRun) -> 
     write_count(sink, counted::ok_word(), run.ok)?;
     write_count(sink, counted::errors_word(), run.errors)?;
     write_count(sink, counted::rows_word(), run.rows)?;
-    write_text(sink, words::line_end())
+    write_text(sink, line_end())
 }

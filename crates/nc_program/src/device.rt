@@ -10,7 +10,6 @@ ghost use Rattle.nc_program.specs.Devices.{IsDevice};
 ghost use Rattle.nc_program.specs.Outside.{filing, making};
 ghost use Rattle.nc_program.specs.inner.Preparing.{IsRead, MakesOf, Prepares};
 
-use crate::end::RunEnd;
 use nc_header::header_of;
 use nc_names::{Bytes, Memory};
 use nc_outside::{FileFault, Files};
@@ -18,6 +17,7 @@ use nc_patterns::Maker;
 use nc_schema::Schema;
 use nc_setup::{Contents, Setup, read_folder, set_up};
 use nc_tree::Config;
+use nc_words::RunEnd;
 use std::alloc::Global;
 
 /// What the folder of a device makes.

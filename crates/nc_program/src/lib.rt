@@ -12,17 +12,12 @@ mod count;
 mod count_words;
 mod device;
 mod done;
-mod end;
 mod ground;
-mod line_words;
 mod load;
-mod note;
 mod opening;
 mod output;
 mod program;
 mod script;
 mod session;
-mod words;
-mod writing;
 
 pub use program::{Ran, World, run, without_words};

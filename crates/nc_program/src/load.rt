@@ -8,13 +8,11 @@ ghost use Rattle.nc_schema.specs.Violations.{IsValid};
 ghost use Rattle.nc_setup.specs.Setup.{IsSetup};
 ghost use Rattle.nc_program.specs.Loads as meant;
 ghost use Rattle.nc_program.specs.Loads.{Loads};
-ghost use Rattle.nc_program.specs.Notes.{told};
+ghost use Rattle.nc_words.specs.Notes.{told};
 ghost use Rattle.nc_program.specs.Outside.{Making, making};
 
 use crate::count::write_load;
-use crate::end::{RunEnd, ScriptEnd};
 use crate::script::do_steps;
-use crate::writing::printed;
 use nc_machine::Machine;
 use nc_names::{Bytes, Copies, Many, Memory, Text};
 use nc_outside::Sink;
@@ -22,6 +20,7 @@ use nc_patterns::Maker;
 use nc_script::load_script;
 use nc_setup::{Contents, Setup, set_up};
 use nc_tree::MemKeeper;
+use nc_words::{RunEnd, ScriptEnd, printed_by};
 use nc_yang_texts::ModuleText;
 use std::alloc::Global;
 use std::sync::Arc;
@@ -103,7 +102,7 @@ fn load_at<K: Sink>(alloc: Global, edits: u32, setup: Setup, sink: &mut K) -> Ru
     };
     match do_steps(alloc, &mut machine, steps.as_slice()) {
         Ok(run) => {
-            let end = ScriptEnd::Done(printed(write_load(sink, edits, &run)));
+            let end = ScriptEnd::Done(printed_by(write_load(sink, edits, &run)));
             RunEnd::Script(end)
         }
         Err(end) => RunEnd::Script(end),

@@ -13,16 +13,16 @@ ghost use Rattle.nc_program.specs.Devices.{Begins};
 ghost use Rattle.nc_program.specs.Outside.{stored};
 ghost use Rattle.nc_program.specs.inner.Begun.{IsBegun, IsKept, store_words};
 ghost use Rattle.nc_program.specs.inner.Opening.{Unopens};
-ghost use Rattle.nc_program.specs.declared.end.RunEnd.TheVariants.{Memory as EndMemory};
+ghost use Rattle.nc_words.specs.declared.end.RunEnd.TheVariants.{Memory as EndMemory};
 
 use crate::device::Device;
-use crate::end::RunEnd;
 use nc_machine::Machine;
 use nc_names::Memory;
 use nc_outside::Disk;
 use nc_schema::Schema;
 use nc_store::Store;
 use nc_tree::Config;
+use nc_words::RunEnd;
 use std::alloc::Global;
 use std::sync::Arc;
 

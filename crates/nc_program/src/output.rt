@@ -1,15 +1,14 @@
 //! What a script writes to standard output.
 ghost use Rattle.std.specs.Prelude.{◌≡◌, ◌++◌};
-ghost use Rattle.nc_program.specs.Notes.{told};
+ghost use Rattle.nc_words.specs.Notes.{told};
 ghost use Rattle.nc_program.specs.Outputs as meant;
-ghost use Rattle.nc_program.specs.inner.Writings.{Wrote};
+ghost use Rattle.nc_words.specs.Writings.{Wrote};
 
-use crate::line_words as words;
-use crate::writing::write_three;
 use itoa::Buffer;
 use nc_outside::{Failed, Sink};
 use nc_script::Output;
 use nc_session::SessionEnd;
+use nc_words::{line_end, space_word, write_three};
 
 #[tactic(auto, unfolding(crate::specs::Outputs::output_word))]
 fn output_word() -> &'static str
@@ -50,7 +49,7 @@ fn write_number<K: Sink>(sink: &mut K, connection: u32) -> Result<(), Failed>
         sink,
         output_word().as_bytes(),
         digits.format(connection).as_bytes(),
-        words::space_word().as_bytes(),
+        space_word().as_bytes(),
     )
 }
 
@@ -63,7 +62,7 @@ fn write_end<K: Sink>(sink: &mut K, end: Option<SessionEnd>, count: usize) -> Re
     write_three(
         sink,
         end_word(end).as_bytes(),
-        words::space_word().as_bytes(),
+        space_word().as_bytes(),
         digits.format(count).as_bytes(),
     )
 }
@@ -73,12 +72,7 @@ fn write_told<K: Sink>(sink: &mut K, bytes: &[u8]) -> Result<(), Failed>
         (told (K.taken sink.old) (K.faults sink.old))
         (told (K.taken sink.new) (K.faults sink.new)) result }
 {
-    write_three(
-        sink,
-        words::line_end().as_bytes(),
-        bytes,
-        words::line_end().as_bytes(),
-    )
+    write_three(sink, line_end().as_bytes(), bytes, line_end().as_bytes())
 }
 
 fn write_output<K: Sink>(sink: &mut K, output: &Output) -> Result<(), Failed>

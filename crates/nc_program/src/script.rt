@@ -4,19 +4,18 @@ ghost use Rattle.std.specs.List.{All};
 ghost use Rattle.nc_machine.specs.Lasting.{lasting};
 ghost use Rattle.nc_machine.specs.Serving.{GoesOn};
 ghost use Rattle.nc_script.specs.Steps.{IsTimed};
-ghost use Rattle.nc_program.specs.Notes.{told};
+ghost use Rattle.nc_words.specs.Notes.{told};
 ghost use Rattle.nc_program.specs.Outside.{filing};
 ghost use Rattle.nc_program.specs.Scripts.{Comes, Scripts, all_outputs};
 ghost use Rattle.nc_program.specs.inner.Scripting.{Finds, Reads, RunsTo, Tells};
 
-use crate::end::{RunEnd, ScriptEnd};
 use crate::output::write_outputs;
-use crate::writing::printed;
 use nc_machine::Machine;
 use nc_names::{Bytes, Many};
 use nc_outside::{FileFault, Files, Sink};
 use nc_script::{ScriptFault, ScriptRun, ScriptStep, ScriptTextFault, read_script, run_script};
 use nc_tree::Keeper;
+use nc_words::{RunEnd, ScriptEnd, printed_by};
 use std::alloc::Global;
 
 /// What the file of a script holds, where there is one.
@@ -93,7 +92,7 @@ fn do_and_write<Q: Keeper, K: Sink>(
         (told (K.taken sink.new) (K.faults sink.new)) result }
 {
     match do_steps(alloc, machine, steps) {
-        Ok(run) => ScriptEnd::Done(printed(write_outputs(sink, run.outputs.as_slice()))),
+        Ok(run) => ScriptEnd::Done(printed_by(write_outputs(sink, run.outputs.as_slice()))),
         Err(end) => end,
     }
 }

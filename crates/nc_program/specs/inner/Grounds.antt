@@ -6,8 +6,8 @@ use Rattle.nc_schema.specs.Tables.{Tables}
 use Rattle.nc_program.specs.Devices.{Begins, Makes, MakesNone, Refuses}
 use Rattle.nc_program.specs.Outside.{Ground}
 use Rattle.nc_program.specs.declared.device.Device.{Device}
-use Rattle.nc_program.specs.declared.end.RunEnd.{RunEnd}
-use Rattle.nc_program.specs.declared.end.RunEnd.TheVariants.{Files, Setup, Store, Memory}
+use Rattle.nc_words.specs.declared.end.RunEnd.{RunEnd}
+use Rattle.nc_words.specs.declared.end.RunEnd.TheVariants.{Files, Setup, Store, Memory}
 
 -- a server that begins in this state, of a device with this schema and so many modules; and its store was opened so
 pub record IsReady (folder : List ℕ) (before now : Ground) (first : State) (schema : Tables) (modules : ℕ)

@@ -2,8 +2,8 @@
 use Rattle.nc_program.specs.Devices.{Refuses}
 use Rattle.nc_program.specs.Outside.{Stored}
 use Rattle.nc_program.specs.declared.device.Device.{Device}
-use Rattle.nc_program.specs.declared.end.RunEnd.{RunEnd}
-use Rattle.nc_program.specs.declared.end.RunEnd.TheVariants.{Store, Memory}
+use Rattle.nc_words.specs.declared.end.RunEnd.{RunEnd}
+use Rattle.nc_words.specs.declared.end.RunEnd.TheVariants.{Store, Memory}
 
 -- the store is not opened, or no memory was found for a server over it
 abbrev pub Unopens : Device → (before now : Stored) → RunEnd → Type 0

@@ -7,8 +7,8 @@ use Rattle.nc_setup.specs.declared.folder.Contents.{Contents}
 use Rattle.nc_program.specs.Devices.{HoldsIn, IsDevice, Makes, MakesNone}
 use Rattle.nc_program.specs.Outside.{Filing, Making, refusals_of}
 use Rattle.nc_program.specs.declared.device.Device.{Device}
-use Rattle.nc_program.specs.declared.end.RunEnd.{RunEnd}
-use Rattle.nc_program.specs.declared.end.RunEnd.TheVariants.{Files, Setup, Memory}
+use Rattle.nc_words.specs.declared.end.RunEnd.{RunEnd}
+use Rattle.nc_words.specs.declared.end.RunEnd.TheVariants.{Files, Setup, Memory}
 
 -- the folder was read, or the files failed, or no memory was found
 abbrev pub IsRead : Option (List NamedFile) → List ℕ → ℕ → ℕ → Result Contents RunEnd → Type 0

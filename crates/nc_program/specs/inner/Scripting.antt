@@ -10,10 +10,10 @@ use Rattle.nc_script_text.specs.Lines.{IsBadAt, IsScript}
 use Rattle.nc_script_text.specs.declared.step.ScriptStep.{ScriptStep}
 use Rattle.nc_program.specs.Outside.{Filing}
 use Rattle.nc_program.specs.Scripts.{FoundIn, RunsAt}
-use Rattle.nc_program.specs.declared.end.RunEnd.{RunEnd}
-use Rattle.nc_program.specs.declared.end.RunEnd.TheVariants.{Files, Memory as EndMemory}
-use Rattle.nc_program.specs.declared.end.ScriptEnd.{ScriptEnd}
-use Rattle.nc_program.specs.declared.end.ScriptEnd.TheVariants.{Absent, BadLine, BadStep, Spent, Memory}
+use Rattle.nc_words.specs.declared.end.RunEnd.{RunEnd}
+use Rattle.nc_words.specs.declared.end.RunEnd.TheVariants.{Files, Memory as EndMemory}
+use Rattle.nc_words.specs.declared.end.ScriptEnd.{ScriptEnd}
+use Rattle.nc_words.specs.declared.end.ScriptEnd.TheVariants.{Absent, BadLine, BadStep, Spent, Memory}
 
 -- the file was asked for, or the files failed, or no memory was found
 abbrev pub Finds : List ℕ → (before now : Filing) → Result (Option (List ℕ)) RunEnd → Type 0

@@ -5,8 +5,8 @@ use Rattle.nc_model.specs.declared.entry.Entry.{Entry}
 use Rattle.nc_server.specs.Ends.{EndsAs}
 use Rattle.nc_program.specs.Outside.{Listening, Times}
 use Rattle.nc_program.specs.Sessions.{HasMade}
-use Rattle.nc_program.specs.declared.end.RunEnd.{RunEnd}
-use Rattle.nc_program.specs.declared.end.RunEnd.TheVariants.{Memory, Served}
+use Rattle.nc_words.specs.declared.end.RunEnd.{RunEnd}
+use Rattle.nc_words.specs.declared.end.RunEnd.TheVariants.{Memory, Served}
 
 -- serving ended so, all that was entered is one history, and so much of it lasts; or no memory was found, nothing was
 -- served, and so much is kept

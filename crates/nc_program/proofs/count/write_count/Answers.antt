@@ -1,7 +1,7 @@
 use Rattle.std.proofs.Common.{refl}
 use Rattle.std.specs.Fmt.{decimal}
-use Rattle.nc_program.proofs.Noting.{wrote_front, wrote_more, wrote_same}
-use Rattle.nc_program.specs.Notes.{told}
+use Rattle.nc_words.proofs.Noting.{wrote_front, wrote_more, wrote_same}
+use Rattle.nc_words.specs.Notes.{told}
 use Rattle.nc_program.proofs.count.write_count.Goals as goal
 
 pub returns-in_err-write_text : goal.returns-in_err-write_text

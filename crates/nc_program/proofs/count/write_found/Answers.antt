@@ -1,7 +1,7 @@
 use Rattle.std.proofs.Common.{ap, ◌++◌}
-use Rattle.nc_program.proofs.Noting.{wrote_front, wrote_more, wrote_same}
+use Rattle.nc_words.proofs.Noting.{wrote_front, wrote_more, wrote_same}
 use Rattle.nc_program.specs.Counts as meant
-use Rattle.nc_program.specs.Notes.{line_end, told}
+use Rattle.nc_words.specs.Notes.{line_end, told}
 use Rattle.nc_program.proofs.count.write_found.Goals as goal
 
 pub returns-in_err-write_count : goal.returns-in_err-write_count

@@ -3,7 +3,7 @@ use Rattle.nc_machine.proofs.Stood.{goes_nowhere}
 use Rattle.nc_outside.specs.Streams.{streams}
 use Rattle.nc_program.specs.Crashes.{crashing}
 use Rattle.nc_program.specs.Outside.{filing, ground, making, stored, times}
-use Rattle.nc_program.specs.Words.{Check, checked}
+use Rattle.nc_words.specs.Words.{Check, checked}
 use Rattle.nc_program.specs.inner.Begun.{store_words}
 use Rattle.nc_program.proofs.Doing.{looked}
 use Rattle.nc_program.proofs.Lasting.{has_left, spares_so}

@@ -1,6 +1,6 @@
 use Rattle.std.proofs.Common.{subst}
 use Rattle.nc_outside.specs.Streams.{streams}
-use Rattle.nc_program.specs.inner.Asking.{AsksIn}
+use Rattle.nc_words.specs.Asking.{AsksIn}
 use Rattle.nc_program.proofs.done.folder_words.Goals as goal
 
 pub returns-in-Serve : goal.returns-in-Serve

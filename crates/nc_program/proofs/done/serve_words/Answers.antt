@@ -1,7 +1,7 @@
 use Rattle.std.proofs.Common.{◌≡◌, [], None, refl}
 use Rattle.nc_program.specs.Crashes.{crashing}
 use Rattle.nc_program.specs.Outside.{filing, ground, listening, making, stored, times}
-use Rattle.nc_program.specs.Words.{Serve, listened}
+use Rattle.nc_words.specs.Words.{Serve, listened}
 use Rattle.nc_program.specs.inner.Begun.{HasLeft, store_words}
 use Rattle.nc_program.proofs.Doing.{served_so}
 use Rattle.nc_program.proofs.Lasting.{given_back, has_left, spares_so}

@@ -4,7 +4,7 @@ use Rattle.nc_program.specs.Crashes.{Untouched, crashing}
 use Rattle.nc_program.specs.Outside.{filing, ground, making, stored, times}
 use Rattle.nc_program.specs.Run.{HasNoMemory}
 use Rattle.nc_program.specs.Sessions.{sitting}
-use Rattle.nc_program.specs.Words.{IsStdio, Stdio, arguments, served}
+use Rattle.nc_words.specs.Words.{IsStdio, Stdio, arguments, served}
 use Rattle.nc_program.proofs.Doing.{sat}
 use Rattle.nc_program.proofs.Lasting.{spares_so}
 use Rattle.nc_program.proofs.Running.{no_server}

@@ -1,6 +1,6 @@
 use Rattle.std.proofs.Common.{refl, ap, ◌++◌}
-use Rattle.nc_program.proofs.Noting.{wrote_front, wrote_more, wrote_same}
-use Rattle.nc_program.specs.Notes.{told}
+use Rattle.nc_words.proofs.Noting.{wrote_front, wrote_more, wrote_same}
+use Rattle.nc_words.specs.Notes.{told}
 use Rattle.nc_program.specs.Outputs.{end_part, number_part, told_part}
 use Rattle.std.proofs.Common.{length}
 use Rattle.nc_program.proofs.output.write_output.Goals as goal

@@ -1,7 +1,7 @@
 use Rattle.std.proofs.Common.{◌<◌, length, arith}
-use Rattle.nc_program.proofs.Noting.{wrote_nothing}
+use Rattle.nc_words.proofs.Noting.{wrote_nothing}
 use Rattle.nc_program.proofs.Outputting.{written_more, written_part}
-use Rattle.nc_program.specs.Notes.{told}
+use Rattle.nc_words.specs.Notes.{told}
 use Rattle.nc_program.proofs.output.write_outputs.Goals as goal
 
 pub loop-output-init : goal.loop-output-init

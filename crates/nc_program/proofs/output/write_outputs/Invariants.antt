@@ -1,8 +1,8 @@
 -- The outputs so far were written.
 use Rattle.std.proofs.Common.{take, Ok}
-use Rattle.nc_program.specs.Notes.{told}
+use Rattle.nc_words.specs.Notes.{told}
 use Rattle.nc_program.specs.Outputs.{outputs_text}
-use Rattle.nc_program.specs.inner.Writings.{Wrote}
+use Rattle.nc_words.specs.Writings.{Wrote}
 use Rattle.nc_program.proofs.output.write_outputs.Given as goal
 
 abbrev pub invariant-loop-output : goal.invariant-loop-output

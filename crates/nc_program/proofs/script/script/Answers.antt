@@ -1,7 +1,7 @@
 use Rattle.std.proofs.Common.{subst}
 use Rattle.nc_machine.specs.Lasting.{lasting}
 use Rattle.nc_machine.specs.Serving.{GoesOn}
-use Rattle.nc_program.specs.Notes.{told}
+use Rattle.nc_words.specs.Notes.{told}
 use Rattle.nc_program.specs.Scripts.{Comes, all_outputs}
 use Rattle.nc_program.proofs.Scripting.{not_read, was_read}
 use Rattle.nc_program.proofs.script.script.Goals as goal

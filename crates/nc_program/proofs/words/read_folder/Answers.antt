@@ -1,4 +1,0 @@
-use Rattle.nc_program.proofs.words.read_folder.Goals as goal
-
-pub returns : goal.returns
-returns c = c.in_ok-it.ensures

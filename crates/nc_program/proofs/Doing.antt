@@ -20,25 +20,25 @@ use Rattle.nc_setup.specs.Setup.{IsSetup}
 use Rattle.nc_setup.specs.declared.setup.Setup.{Setup as Server}
 use Rattle.nc_store.specs.Keeping.{Storing}
 use Rattle.nc_program.proofs.Running.{is_opened}
-use Rattle.nc_program.proofs.Serving.{good_along, made_so}
+use Rattle.nc_device.proofs.Serving.{good_along, made_so}
 use Rattle.nc_program.proofs.Scripting.{comes_so, not_done, runs_so}
 use Rattle.nc_program.specs.Counts.{check_line, load_line}
-use Rattle.nc_program.specs.Crashes.{Crashing, Lasts, Spares}
+use Rattle.nc_device.specs.Crashes.{Crashing, Lasts, Spares}
 use Rattle.nc_program.specs.Loads.{Loads, load_contents, nothing_lasts}
 use Rattle.nc_words.specs.Notes.{Told}
-use Rattle.nc_program.specs.Outside.{Filing, Ground, Listening, Making, Stored, Times, outside}
+use Rattle.nc_device.specs.Outside.{Filing, Ground, Listening, Making, Stored, Times, outside}
 use Rattle.nc_words.specs.Printing.{IsPrinted}
 use Rattle.nc_program.specs.Run.{HasNoMemory, HasNoScript, HasServed, IsChecked, IsOver, IsScripted, Runs, output_of}
 use Rattle.nc_program.specs.Scripts.{FoundIn, RunsAt, Scripts}
-use Rattle.nc_program.specs.Sessions.{HasMade, IsServed, sitting}
+use Rattle.nc_device.specs.Sessions.{HasMade, IsServed, sitting}
 use Rattle.nc_words.specs.Words.{IsCheck, IsScript, IsServe, IsStdio}
 use Rattle.nc_words.specs.Words.{Script as ToScript, Serve as ToListen, listened, scripted}
-use Rattle.nc_program.specs.inner.Begun.{HasLeft}
-use Rattle.nc_program.specs.inner.Grounds.{IsReady}
+use Rattle.nc_device.specs.Begun.{HasLeft}
+use Rattle.nc_device.specs.Grounds.{IsReady}
 use Rattle.nc_program.specs.inner.Scripting.{Finds, RunsTo}
 use Rattle.nc_program.specs.inner.Serving.{ServesAt}
 use Rattle.nc_program.specs.declared.count.Found.{Found}
-use Rattle.nc_program.specs.declared.device.Device.{Device}
+use Rattle.nc_device.specs.declared.device.Device.{Device}
 use Rattle.nc_words.specs.declared.end.Printed.{Printed}
 use Rattle.nc_words.specs.declared.end.RunEnd.{RunEnd}
 use Rattle.nc_words.specs.declared.end.RunEnd.TheVariants.{Words, Files, Setup, Store, Memory, Session, Served, Script, Checked}

@@ -1,9 +1,5 @@
 mod Doing
-mod Lasting
 mod Outputting
-mod Preparing
 mod Running
 mod Scripting
-mod Seated
 mod Sent
-mod Serving

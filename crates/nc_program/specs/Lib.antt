@@ -1,10 +1,6 @@
 pub mod Counts
-pub mod Crashes
-pub mod Devices
 pub mod Loads
 pub mod Outputs
-pub mod Outside
 pub mod Run
 pub mod Scripts
-pub mod Sessions
 pub mod inner

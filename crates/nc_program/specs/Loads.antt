@@ -8,7 +8,7 @@ use Rattle.nc_setup.specs.declared.folder.Contents.{Contents}
 use Rattle.nc_setup.specs.declared.setup.Setup.{Setup as Server}
 use Rattle.nc_program.specs.Counts.{load_line}
 use Rattle.nc_words.specs.Notes.{Told}
-use Rattle.nc_program.specs.Outside.{Making, refusals_of}
+use Rattle.nc_device.specs.Outside.{Making, refusals_of}
 use Rattle.nc_program.specs.Scripts.{Comes}
 use Rattle.nc_words.specs.declared.end.RunEnd.{RunEnd}
 use Rattle.nc_words.specs.declared.end.RunEnd.TheVariants.{Memory, Script, Setup}

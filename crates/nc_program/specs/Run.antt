@@ -11,19 +11,19 @@ use Rattle.nc_session.specs.declared.end.SessionEnd.{SessionEnd}
 use Rattle.nc_setup.specs.declared.fault.SetupFault.{SetupFault}
 use Rattle.nc_store.specs.declared.fault.StoreFault.{StoreFault}
 use Rattle.nc_program.specs.Counts.{check_line}
-use Rattle.nc_program.specs.Crashes.{Crashing, Lasts, Spares, Unharmed}
-use Rattle.nc_program.specs.Devices.{Begins, Makes, MakesNone, Refuses}
+use Rattle.nc_device.specs.Crashes.{Crashing, Lasts, Spares, Unharmed}
+use Rattle.nc_device.specs.Devices.{Begins, Makes, MakesNone, Refuses}
 use Rattle.nc_words.specs.Ends.{status_of}
 use Rattle.nc_program.specs.Loads.{Loads}
 use Rattle.nc_words.specs.Notes.{Noted, Told, line_of, told}
-use Rattle.nc_program.specs.Outside.{Outside}
+use Rattle.nc_device.specs.Outside.{Outside}
 use Rattle.nc_words.specs.Printing.{IsPrinted}
 use Rattle.nc_program.specs.Scripts.{FoundIn, Scripts}
-use Rattle.nc_program.specs.Sessions.{HasMade, IsServed, sitting}
+use Rattle.nc_device.specs.Sessions.{HasMade, IsServed, sitting}
 use Rattle.nc_words.specs.Words.{Asks, HasNoReading, IsIn, Task}
 use Rattle.nc_words.specs.Words.{Stdio as ToServe, Serve as ToListen, Script as ToScript, Check as ToCheck, Load as ToLoad}
 use Rattle.nc_program.specs.declared.count.Found.{Found}
-use Rattle.nc_program.specs.declared.device.Device.{Device}
+use Rattle.nc_device.specs.declared.device.Device.{Device}
 use Rattle.nc_words.specs.declared.end.Printed.{Printed}
 use Rattle.nc_words.specs.declared.end.RunEnd.{RunEnd}
 use Rattle.nc_words.specs.declared.end.RunEnd.TheVariants.{Words, Files, Setup, Store, Memory, Session, Served, Script, Checked}

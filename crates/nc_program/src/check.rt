@@ -5,7 +5,7 @@ ghost use Rattle.nc_words.specs.Notes.{told};
 ghost use Rattle.nc_words.specs.Printing.{IsPrinted};
 
 use crate::count::{Found, write_found};
-use crate::ground::Ready;
+use nc_device::Ready;
 use nc_outside::{Disk, Sink};
 use nc_words::{Printed, printed_by};
 

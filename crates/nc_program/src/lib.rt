@@ -10,14 +10,10 @@
 mod check;
 mod count;
 mod count_words;
-mod device;
 mod done;
-mod ground;
 mod load;
-mod opening;
 mod output;
 mod program;
 mod script;
-mod session;
 
 pub use program::{Ran, World, run, without_words};

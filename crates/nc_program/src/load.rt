@@ -9,7 +9,7 @@ ghost use Rattle.nc_setup.specs.Setup.{IsSetup};
 ghost use Rattle.nc_program.specs.Loads as meant;
 ghost use Rattle.nc_program.specs.Loads.{Loads};
 ghost use Rattle.nc_words.specs.Notes.{told};
-ghost use Rattle.nc_program.specs.Outside.{Making, making};
+ghost use Rattle.nc_device.specs.Outside.{Making, making};
 
 use crate::count::write_load;
 use crate::script::do_steps;

@@ -3,9 +3,9 @@ ghost use Rattle.std.specs.Prelude.{◌≡◌, ◌↔◌, ℕ, List, Option, IfS
 ghost use Rattle.nc_names.specs.Counts.{Rose};
 ghost use Rattle.nc_names.specs.declared.path.Row.{Row};
 ghost use Rattle.nc_outside.specs.Streams.{streams};
-ghost use Rattle.nc_program.specs.Crashes.{Held, crashing};
+ghost use Rattle.nc_device.specs.Crashes.{Held, crashing};
 ghost use Rattle.nc_words.specs.Notes.{Noted, memory_line, told};
-ghost use Rattle.nc_program.specs.Outside.{filing, listening, making, outside, stored, times};
+ghost use Rattle.nc_device.specs.Outside.{filing, listening, making, outside, stored, times};
 ghost use Rattle.nc_program.specs.Run.{HasRun, Runs};
 ghost use Rattle.nc_words.specs.Words.{HasNoReading};
 

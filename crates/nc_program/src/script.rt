@@ -5,7 +5,7 @@ ghost use Rattle.nc_machine.specs.Lasting.{lasting};
 ghost use Rattle.nc_machine.specs.Serving.{GoesOn};
 ghost use Rattle.nc_script.specs.Steps.{IsTimed};
 ghost use Rattle.nc_words.specs.Notes.{told};
-ghost use Rattle.nc_program.specs.Outside.{filing};
+ghost use Rattle.nc_device.specs.Outside.{filing};
 ghost use Rattle.nc_program.specs.Scripts.{Comes, Scripts, all_outputs};
 ghost use Rattle.nc_program.specs.inner.Scripting.{Finds, Reads, RunsTo, Tells};
 

@@ -8,7 +8,7 @@ use Rattle.nc_script.specs.declared.fault.ScriptFault.TheVariants.{BadStep as St
 use Rattle.nc_script.specs.declared.output.ScriptRun.{ScriptRun}
 use Rattle.nc_script_text.specs.Lines.{IsBadAt, IsScript}
 use Rattle.nc_script_text.specs.declared.step.ScriptStep.{ScriptStep}
-use Rattle.nc_program.specs.Outside.{Filing}
+use Rattle.nc_device.specs.Outside.{Filing}
 use Rattle.nc_program.specs.Scripts.{FoundIn, RunsAt}
 use Rattle.nc_words.specs.declared.end.RunEnd.{RunEnd}
 use Rattle.nc_words.specs.declared.end.RunEnd.TheVariants.{Files, Memory as EndMemory}

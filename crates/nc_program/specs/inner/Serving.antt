@@ -3,8 +3,8 @@ use Rattle.std.specs.Prelude.{◌≡◌, ℕ, List}
 use Rattle.nc_model.specs.State.{State}
 use Rattle.nc_model.specs.declared.entry.Entry.{Entry}
 use Rattle.nc_server.specs.Ends.{EndsAs}
-use Rattle.nc_program.specs.Outside.{Listening, Times}
-use Rattle.nc_program.specs.Sessions.{HasMade}
+use Rattle.nc_device.specs.Outside.{Listening, Times}
+use Rattle.nc_device.specs.Sessions.{HasMade}
 use Rattle.nc_words.specs.declared.end.RunEnd.{RunEnd}
 use Rattle.nc_words.specs.declared.end.RunEnd.TheVariants.{Memory, Served}
 

@@ -1,14 +1,14 @@
 use Rattle.std.proofs.Common.{[], None, refl, sym}
 use Rattle.nc_machine.proofs.Stood.{goes_nowhere}
 use Rattle.nc_outside.specs.Streams.{streams}
-use Rattle.nc_program.specs.Crashes.{crashing}
-use Rattle.nc_program.specs.Outside.{filing, ground, making, stored, times}
+use Rattle.nc_device.specs.Crashes.{crashing}
+use Rattle.nc_device.specs.Outside.{filing, ground, making, stored, times}
 use Rattle.nc_words.specs.Words.{Check, checked}
-use Rattle.nc_program.specs.inner.Begun.{store_words}
+use Rattle.nc_device.specs.Begun.{store_words}
 use Rattle.nc_program.proofs.Doing.{looked}
-use Rattle.nc_program.proofs.Lasting.{has_left, spares_so}
+use Rattle.nc_device.proofs.Lasting.{has_left, spares_so}
 use Rattle.nc_program.proofs.Running.{no_server}
-use Rattle.nc_program.proofs.Seated.{known_of}
+use Rattle.nc_device.proofs.Seated.{known_of}
 use Rattle.nc_program.proofs.done.check_words.Goals as goal
 
 pub returns-in-Err : goal.returns-in-Err

@@ -1,8 +1,8 @@
 use Rattle.std.proofs.Common.{◌∙◌, ap, refl}
 use denote.Exit.{no}
 use denote.Param.Send.{arg_send, param_send}
-use Rattle.nc_program.specs.Outside.{listening, times}
-use Rattle.nc_program.specs.inner.Begun.{store_words}
+use Rattle.nc_device.specs.Outside.{listening, times}
+use Rattle.nc_device.specs.Begun.{store_words}
 use Rattle.nc_program.proofs.Sent.{store_send}
 use Rattle.nc_program.proofs.Doing.{has_made}
 use Rattle.nc_program.proofs.done.serve_at.Goals as goal

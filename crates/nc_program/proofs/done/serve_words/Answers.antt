@@ -1,12 +1,12 @@
 use Rattle.std.proofs.Common.{◌≡◌, [], None, refl}
-use Rattle.nc_program.specs.Crashes.{crashing}
-use Rattle.nc_program.specs.Outside.{filing, ground, listening, making, stored, times}
+use Rattle.nc_device.specs.Crashes.{crashing}
+use Rattle.nc_device.specs.Outside.{filing, ground, listening, making, stored, times}
 use Rattle.nc_words.specs.Words.{Serve, listened}
-use Rattle.nc_program.specs.inner.Begun.{HasLeft, store_words}
+use Rattle.nc_device.specs.Begun.{HasLeft, store_words}
 use Rattle.nc_program.proofs.Doing.{served_so}
-use Rattle.nc_program.proofs.Lasting.{given_back, has_left, spares_so}
+use Rattle.nc_device.proofs.Lasting.{given_back, has_left, spares_so}
 use Rattle.nc_program.proofs.Running.{no_server}
-use Rattle.nc_program.proofs.Seated.{known_of}
+use Rattle.nc_device.proofs.Seated.{known_of}
 use Rattle.nc_program.proofs.done.serve_words.Goals as goal
 
 pub returns-in-Err : goal.returns-in-Err

@@ -1,14 +1,14 @@
 use Rattle.std.proofs.Common.{refl, sym, subst, ap, ◌∙◌, map, string_bytes}
 use Rattle.nc_outside.specs.Streams.{streams}
-use Rattle.nc_program.specs.Crashes.{Untouched, crashing}
-use Rattle.nc_program.specs.Outside.{filing, ground, making, stored, times}
+use Rattle.nc_device.specs.Crashes.{Untouched, crashing}
+use Rattle.nc_device.specs.Outside.{filing, ground, making, stored, times}
 use Rattle.nc_program.specs.Run.{HasNoMemory}
-use Rattle.nc_program.specs.Sessions.{sitting}
+use Rattle.nc_device.specs.Sessions.{sitting}
 use Rattle.nc_words.specs.Words.{IsStdio, Stdio, arguments, served}
 use Rattle.nc_program.proofs.Doing.{sat}
-use Rattle.nc_program.proofs.Lasting.{spares_so}
+use Rattle.nc_device.proofs.Lasting.{spares_so}
 use Rattle.nc_program.proofs.Running.{no_server}
-use Rattle.nc_program.proofs.Seated.{known_of, sat_lasting}
+use Rattle.nc_device.proofs.Seated.{known_of, sat_lasting}
 use Rattle.nc_program.proofs.done.stdio_words.Goals as goal
 
 pub returns-in_default : goal.returns-in_default

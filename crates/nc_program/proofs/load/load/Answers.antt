@@ -1,4 +1,4 @@
-use Rattle.nc_program.specs.Outside.{making}
+use Rattle.nc_device.specs.Outside.{making}
 use Rattle.nc_program.proofs.load.load.Goals as goal
 
 pub returns-in-Ok-set_up : goal.returns-in-Ok-set_up

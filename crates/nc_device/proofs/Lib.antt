@@ -1,0 +1,4 @@
+pub mod Lasting
+mod Preparing
+pub mod Seated
+pub mod Serving

@@ -1,0 +1,7 @@
+pub mod Begun
+pub mod Crashes
+pub mod Devices
+pub mod Grounds
+pub mod Outside
+pub mod Sessions
+pub mod inner

@@ -1,0 +1,16 @@
+//! The device that a folder makes, its open store with a server over it, and one session served alone at
+//! such a server. It stands on the crates of the folder, of the store, of the server and of a session.
+//!
+//! `ready_of` answers the server of a folder before its first event, or why there is none and what is left
+//! of the disk; `serve` gives one session the server, and says what of its history lasts over a crash.
+#![tactic(auto)]
+
+mod device;
+mod ground;
+mod opening;
+mod session;
+
+pub use device::Device;
+pub use ground::{Ready, ready_of};
+pub use opening::{Ended, Opened};
+pub use session::{Over, serve};

@@ -1,4 +1,0 @@
-use Rattle.nc_program.proofs.opening.with_machine.Goals as goal
-
-pub returns-in-Ok-clause-stands : goal.returns-in-Ok-clause-stands
-returns-in-Ok-clause-stands g c = c.in-Ok.ensures.stands

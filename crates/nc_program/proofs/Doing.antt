@@ -1,10 +1,10 @@
 -- What the words ask for, done at the server of a folder.
-use Rattle.std.proofs.Common.{◌≡◌, ◌≤◌, ◌+◌, ◌-◌, ◌^◌, ℕ, List, [], length, Option, Ok, Err, refl, sym, subst, ap, ◌∙◌}
+use Rattle.std.proofs.Common.{◌≡◌, ◌≤◌, ◌+◌, ◌-◌, ◌^◌, ℕ, List, length, Option, Ok, Err, refl, sym, subst, ap, ◌∙◌}
 use Rattle.std.specs.Prelude.{IfSome, min}
 use Rattle.nc_machine.specs.Lasting.{Lasting}
 use Rattle.nc_machine.specs.Seats.{Seat, TellsReadings}
 use Rattle.nc_machine.specs.Serving.{Serving}
-use Rattle.nc_model.specs.State.{IsGood, State, opening}
+use Rattle.nc_model.specs.State.{IsGood, State}
 use Rattle.nc_model.specs.declared.entry.Entry.{Entry}
 use Rattle.nc_names.specs.Limits.{most_requests}
 use Rattle.nc_seats.specs.Offices.{home_at, HasServed as IsAt}
@@ -12,38 +12,29 @@ use Rattle.nc_names.specs.Counts.{Rose}
 use Rattle.nc_outside.specs.Streams.{Streams}
 use Rattle.nc_protocol.specs.declared.peer.Peer.{Peer}
 use Rattle.nc_schema.specs.Tables.{Tables}
-use Rattle.nc_script.specs.Load.{load_steps}
-use Rattle.nc_script.specs.declared.output.ScriptRun.{ScriptRun}
-use Rattle.nc_script_text.specs.declared.step.ScriptStep.{ScriptStep}
 use Rattle.nc_session.specs.declared.end.SessionEnd.{SessionEnd}
-use Rattle.nc_setup.specs.Setup.{IsSetup}
-use Rattle.nc_setup.specs.declared.setup.Setup.{Setup as Server}
 use Rattle.nc_store.specs.Keeping.{Storing}
 use Rattle.nc_program.proofs.Running.{is_opened}
 use Rattle.nc_device.proofs.Serving.{good_along, made_so}
-use Rattle.nc_program.proofs.Scripting.{comes_so, not_done, runs_so}
-use Rattle.nc_program.specs.Counts.{check_line, load_line}
+use Rattle.nc_reports.specs.Counts.{check_line}
 use Rattle.nc_device.specs.Crashes.{Crashing, Lasts, Spares}
-use Rattle.nc_program.specs.Loads.{Loads, load_contents, nothing_lasts}
-use Rattle.nc_words.specs.Notes.{Told}
-use Rattle.nc_device.specs.Outside.{Filing, Ground, Listening, Making, Stored, Times, outside}
+use Rattle.nc_device.specs.Outside.{Filing, Ground, Listening, Stored, Times, outside}
 use Rattle.nc_words.specs.Printing.{IsPrinted}
 use Rattle.nc_program.specs.Run.{HasNoMemory, HasNoScript, HasServed, IsChecked, IsOver, IsScripted, Runs, output_of}
-use Rattle.nc_program.specs.Scripts.{FoundIn, RunsAt, Scripts}
+use Rattle.nc_reports.specs.Scripts.{FoundIn, RunsAt, Scripts}
 use Rattle.nc_device.specs.Sessions.{HasMade, IsServed, sitting}
 use Rattle.nc_words.specs.Words.{IsCheck, IsScript, IsServe, IsStdio}
 use Rattle.nc_words.specs.Words.{Script as ToScript, Serve as ToListen, listened, scripted}
 use Rattle.nc_device.specs.Begun.{HasLeft}
 use Rattle.nc_device.specs.Grounds.{IsReady}
-use Rattle.nc_program.specs.inner.Scripting.{Finds, RunsTo}
+use Rattle.nc_reports.specs.Scripting.{Finds}
 use Rattle.nc_program.specs.inner.Serving.{ServesAt}
-use Rattle.nc_program.specs.declared.count.Found.{Found}
+use Rattle.nc_reports.specs.declared.count.Found.{Found}
 use Rattle.nc_device.specs.declared.device.Device.{Device}
 use Rattle.nc_words.specs.declared.end.Printed.{Printed}
 use Rattle.nc_words.specs.declared.end.RunEnd.{RunEnd}
 use Rattle.nc_words.specs.declared.end.RunEnd.TheVariants.{Words, Files, Setup, Store, Memory, Session, Served, Script, Checked}
 use Rattle.nc_words.specs.declared.end.ScriptEnd.{ScriptEnd}
-use Rattle.nc_words.specs.declared.end.ScriptEnd.TheVariants.{Done}
 
 -- a session is over
 pub sat : (crashes : Crashing) (words : List (List ℕ)) (folder : List ℕ) (peer : Peer) (g h : Ground) (disk : Stored)
@@ -143,35 +134,3 @@ unread crashes words folder file g h files disk s t l first schema modules S (Se
 unread crashes words folder file g h files disk s t l first schema modules S (Served end) asks ready none spares = absurd none
 unread crashes words folder file g h files disk s t l first schema modules S (Script end) asks ready none spares = absurd none
 unread crashes words folder file g h files disk s t l first schema modules S (Checked printed) asks ready none spares = absurd none
-
--- a load test whose steps were done
-pub loaded : (edits : ℕ) (server : Server) (first : State) (failed : ℕ) (S : List Entry → Type 0) (steps : List ScriptStep)
-    (run : ScriptRun) (m n : Making) (before now : Told) (printed : Printed) → IsSetup load_contents server
-    → first ≡ opening server.schema server.running 0 → steps ≡ load_steps edits → RunsAt first failed S steps (Ok run)
-    → IsPrinted (load_line edits run) before now printed → Loads edits m n before now (Script (Done printed))
-loaded edits server first failed S steps run m n before now printed setup is steps_are runs wrote = record {
-  server = server;
-  setup = setup;
-  failed = failed;
-  comes = (
-    run,
-    subst (λ (z : State × List ScriptStep). RunsAt z.0 failed nothing_lasts z.1 (Ok run)) (λ i. (is i, steps_are i))
-        (runs_so first failed S nothing_lasts steps (Ok run) (λ history made. tt) runs),
-    wrote,
-  );
-}
-
--- and one whose steps were not
-pub not_loaded : (edits : ℕ) (server : Server) (first : State) (failed : ℕ) (S : List Entry → Type 0)
-    (steps : List ScriptStep) (m n : Making) (now : Told) (end : ScriptEnd) → IsSetup load_contents server
-    → first ≡ opening server.schema server.running 0 → steps ≡ load_steps edits → RunsTo first failed S steps (Err end)
-    → Loads edits m n now now (Script end)
-not_loaded edits server first failed S steps m n now end setup is steps_are runs = record {
-  server = server;
-  setup = setup;
-  failed = failed;
-  comes = comes_so (load_line edits) (opening server.schema server.running 0) failed S nothing_lasts (load_steps edits)
-      now now end (λ history made. tt)
-      (not_done (load_line edits) (opening server.schema server.running 0) failed S (load_steps edits) now end
-      (subst (λ (z : State × List ScriptStep). RunsTo z.0 failed S z.1 (Err end)) (λ i. (is i, steps_are i)) runs));
-}

@@ -1,5 +1,3 @@
 mod Doing
-mod Outputting
 mod Running
-mod Scripting
 mod Sent

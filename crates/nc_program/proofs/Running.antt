@@ -13,15 +13,15 @@ use Rattle.nc_session.specs.declared.end.SessionEnd.TheVariants.{Closed, InputEn
 use Rattle.nc_setup.specs.declared.fault.SetupFault.TheVariants.{Module, Feature, Unread, Invalid, Memory as SetupMemory}
 use Rattle.nc_store.specs.declared.fault.StoreFault.TheVariants.{DiskFault, Damaged, OtherModules, Memory as StoreMemory}
 use Rattle.nc_device.proofs.Serving.{read_failed, write_failed}
-use Rattle.nc_program.specs.Counts.{check_line}
+use Rattle.nc_reports.specs.Counts.{check_line}
 use Rattle.nc_device.specs.Crashes.{Crashing, Lasts, Spares}
 use Rattle.nc_words.specs.Ends.{printed_status, script_status, status_of}
-use Rattle.nc_program.specs.Loads.{Loads, nothing_lasts}
+use Rattle.nc_reports.specs.Loads.{Loads, nothing_lasts}
 use Rattle.nc_words.specs.Notes.{Told}
 use Rattle.nc_device.specs.Outside.{Ground, Listening, Making, Outside, Times, outside}
 use Rattle.nc_words.specs.Printing.{IsPrinted}
 use Rattle.nc_program.specs.Run.{AreFaulty, HasFailed, HasNoMemory, HasNoScript, HasServed, IsChecked, IsLoaded, IsOpened, IsOver, IsScripted, IsUnopened, MakesNoDevice, Runs, output_of}
-use Rattle.nc_program.specs.Scripts.{Comes, HadNoMemory, HasBadLine, HasSteps, IsAbsent, Scripts}
+use Rattle.nc_reports.specs.Scripts.{Comes, HadNoMemory, HasBadLine, HasSteps, IsAbsent, Scripts}
 use Rattle.nc_device.specs.Sessions.{HasMadeAlone}
 use Rattle.nc_words.specs.Words.{Asks, HasNoReading, IsIn, Task}
 use Rattle.nc_words.specs.Words.{Stdio as ToServe, Serve as ToListen, Script as ToScript, Check as ToCheck, Load as ToLoad}

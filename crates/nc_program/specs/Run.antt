@@ -10,19 +10,19 @@ use Rattle.nc_server.specs.declared.end.ServeEnd.{ServeEnd}
 use Rattle.nc_session.specs.declared.end.SessionEnd.{SessionEnd}
 use Rattle.nc_setup.specs.declared.fault.SetupFault.{SetupFault}
 use Rattle.nc_store.specs.declared.fault.StoreFault.{StoreFault}
-use Rattle.nc_program.specs.Counts.{check_line}
+use Rattle.nc_reports.specs.Counts.{check_line}
 use Rattle.nc_device.specs.Crashes.{Crashing, Lasts, Spares, Unharmed}
 use Rattle.nc_device.specs.Devices.{Begins, Makes, MakesNone, Refuses}
 use Rattle.nc_words.specs.Ends.{status_of}
-use Rattle.nc_program.specs.Loads.{Loads}
+use Rattle.nc_reports.specs.Loads.{Loads}
 use Rattle.nc_words.specs.Notes.{Noted, Told, line_of, told}
 use Rattle.nc_device.specs.Outside.{Outside}
 use Rattle.nc_words.specs.Printing.{IsPrinted}
-use Rattle.nc_program.specs.Scripts.{FoundIn, Scripts}
+use Rattle.nc_reports.specs.Scripts.{FoundIn, Scripts}
 use Rattle.nc_device.specs.Sessions.{HasMade, IsServed, sitting}
 use Rattle.nc_words.specs.Words.{Asks, HasNoReading, IsIn, Task}
 use Rattle.nc_words.specs.Words.{Stdio as ToServe, Serve as ToListen, Script as ToScript, Check as ToCheck, Load as ToLoad}
-use Rattle.nc_program.specs.declared.count.Found.{Found}
+use Rattle.nc_reports.specs.declared.count.Found.{Found}
 use Rattle.nc_device.specs.declared.device.Device.{Device}
 use Rattle.nc_words.specs.declared.end.Printed.{Printed}
 use Rattle.nc_words.specs.declared.end.RunEnd.{RunEnd}

@@ -1,2 +1,1 @@
-pub mod Scripting
 pub mod Serving

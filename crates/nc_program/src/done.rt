@@ -13,13 +13,11 @@ ghost use Rattle.nc_words.specs.Asking.{AsksIn};
 ghost use Rattle.nc_device.specs.Begun.{HasLeft, store_words};
 ghost use Rattle.nc_program.specs.inner.Serving.{ServesAt};
 
-use crate::check::{found_in, print};
-use crate::load::load;
-use crate::script::{script, text_of};
 use nc_device::{Ended, Opened, Over, Ready, ready_of, serve};
 use nc_machine::Machine;
 use nc_outside::{Clock, Disk, Files, Gate, Listener, Sink, Source};
 use nc_patterns::Maker;
+use nc_reports::{found_in, load, print, script, text_of};
 use nc_seats::{AfterServing, serve_shared};
 use nc_store::Store;
 use nc_words::{InFolder, RunEnd, Stdio, Work};

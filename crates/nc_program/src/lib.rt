@@ -7,13 +7,7 @@
 //! error; and beside it, in plain clauses, when single statuses come.
 #![tactic(auto)]
 
-mod check;
-mod count;
-mod count_words;
 mod done;
-mod load;
-mod output;
 mod program;
-mod script;
 
 pub use program::{Ran, World, run, without_words};

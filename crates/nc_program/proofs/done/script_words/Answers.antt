@@ -4,13 +4,13 @@ use Rattle.nc_outside.specs.Streams.{streams}
 use Rattle.nc_device.specs.Crashes.{Lasts, crashing}
 use Rattle.nc_words.specs.Notes.{told}
 use Rattle.nc_device.specs.Outside.{filing, ground, making, stored, times}
-use Rattle.nc_program.specs.Scripts.{Scripts}
+use Rattle.nc_reports.specs.Scripts.{Scripts}
 use Rattle.nc_words.specs.Words.{Script, scripted}
 use Rattle.nc_device.specs.Begun.{store_words}
 use Rattle.nc_program.proofs.Doing.{scripted_so, unread}
 use Rattle.nc_device.proofs.Lasting.{given_back, has_left, spares_so}
 use Rattle.nc_program.proofs.Running.{no_server}
-use Rattle.nc_program.proofs.Scripting.{scripts_so}
+use Rattle.nc_reports.proofs.Scripting.{scripts_so}
 use Rattle.nc_device.proofs.Seated.{known_of}
 use Rattle.nc_program.proofs.done.script_words.Goals as goal
 

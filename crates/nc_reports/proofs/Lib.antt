@@ -1,0 +1,3 @@
+mod Loading
+mod Outputting
+pub mod Scripting

@@ -1,0 +1,5 @@
+pub mod Counts
+pub mod Loads
+pub mod Outputs
+pub mod Scripting
+pub mod Scripts

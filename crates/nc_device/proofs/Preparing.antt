@@ -1,18 +1,15 @@
 -- What the folder of a device comes to.
-use Rattle.std.proofs.Common.{◌≡◌, ◌≤◌, ◌<◌, ℕ, Bool, true, false, cond, List, [], ◌∷◌, length, Option, Some, None, Result, Ok, Err, refl, sym, subst, ap, ◌∙◌, map, arith}
-use Rattle.std.specs.List.{All, find, flat_map, position_or_len}
+use Rattle.std.proofs.Common.{◌≡◌, ◌≤◌, ◌<◌, ℕ, Bool, true, false, cond, List, [], ◌∷◌, length, Option, Some, None, Result, Ok, Err, sym, subst, ap, ◌∙◌, arith}
+use Rattle.std.specs.List.{All, find, position_or_len}
 use Rattle.std.specs.Prelude.{position, slice_index_or, is_some, IfErr, IfOk}
 use Rattle.std.proofs.lemmas.Bool.{lt-ltb}
 use Rattle.std.proofs.lemmas.Bool.Decides.{nat_tests}
 use Rattle.std.proofs.lemmas.List.Folds.{find_at}
 use Rattle.std.proofs.lemmas.Option.{slice_get_past}
-use Rattle.nc_header.specs.Header.{line}
-use Rattle.nc_journal.specs.Header.{IsHeader}
 use Rattle.nc_machine.specs.Serving.{IsHomeOf, Serving, StandsFor}
-use Rattle.nc_model.proofs.GoodLemmas.{opening_is_good}
 use Rattle.nc_model.proofs.SessionLemmas.{none_found}
 use Rattle.nc_model.specs.Desks.{Home}
-use Rattle.nc_model.specs.State.{IsGood, State, opening}
+use Rattle.nc_model.specs.State.{State, opening}
 use Rattle.nc_names.specs.declared.path.Row.{Row}
 use Rattle.nc_outside.specs.declared.files.NamedFile.{NamedFile}
 use Rattle.nc_names.specs.Counts.{Rose}
@@ -28,13 +25,12 @@ use Rattle.nc_store.specs.declared.fault.StoreFault.{StoreFault}
 use Rattle.nc_store.specs.declared.fault.StoreFault.TheVariants.{DiskFault}
 use Rattle.nc_setup.specs.Setup.{IsSetup}
 use Rattle.nc_setup.specs.declared.folder.Contents.{Contents}
-use Rattle.nc_yang_texts.specs.Texts.{is_long, module_limit, text_limit}
+use Rattle.nc_yang_texts.specs.Texts.{is_long, text_limit}
 use Rattle.nc_yang_texts.specs.declared.text.ModuleText.{ModuleText}
-use Rattle.nc_device.specs.Devices.{Begins, Makes, Refuses}
+use Rattle.nc_device.specs.Devices.{Begins, Refuses}
 use Rattle.nc_device.specs.Outside.{Filing, Making, Stored, filing, ground}
 use Rattle.nc_device.specs.Begun.{IsBegun, IsKept, WasOpened, store_words}
-use Rattle.nc_device.specs.Grounds.{Fails, IsReady}
-use Rattle.nc_device.specs.inner.Opening.{Unopens}
+use Rattle.nc_device.specs.Grounds.{IsReady}
 use Rattle.nc_device.specs.inner.Preparing.{IsRead, MakesOf, Prepares}
 use Rattle.nc_device.specs.declared.device.Device.{Device}
 use Rattle.nc_words.specs.declared.end.RunEnd.{RunEnd}
@@ -71,8 +67,6 @@ was_read files later folder before now m n contents (Err (Script end)) same read
 was_read files later folder before now m n contents (Err (Checked printed)) same read none = absurd none
 
 -- ---- the header of a store
-pub few_modules : (contents : Contents) (server : _) → IsSetup contents server → length contents.modules ≤ module_limit
-few_modules contents server setup = setup.schema.defines.begun.read.read.few
 
 not_long : (text : ModuleText) → is_long text ≡ false → length text.bytes ≤ text_limit
 not_long text short = grind (arith, nat_tests)
@@ -97,12 +91,6 @@ pub short_modules : (contents : Contents) (server : _) → IsSetup contents serv
     → All (λ text. length text.bytes ≤ text_limit) contents.modules
 short_modules contents server setup = all_short contents.modules setup.schema.defines.begun.read.read.short
 
-pub has_header : (files : Filing) (folder : List ℕ) (device : Device) → Makes files folder device
-    → (modules : List (List ℕ)) × (features : List ℕ) × IsHeader modules features device.header
-has_header files folder device makes =
-    let header = makes.is.header in
-    (map (λ text. text.bytes) makes.contents.modules, flat_map line header.names, header.is)
-
 -- ---- a server, or none
 pub is_ready : (folder : List ℕ) (f g : Filing) (d : Stored) (m n : Making) (device : Device) (first : State) (schema : Tables)
     (modules : ℕ) (S : Device → Type 0) → Prepares folder f g m n (Ok device) → Begins device d first
@@ -117,40 +105,6 @@ is_ready folder f g d m n device first schema modules S (makes, same) begins sch
   files = same;
   begun = begun;
 }
-
-pub not_prepared : (folder : List ℕ) (f g : Filing) (d : Stored) (m n : Making) (end : RunEnd) → Prepares folder f g m n (Err end)
-    → Fails folder (ground f d m) (ground g d n) end
-not_prepared folder f g d m n Files (rose, same) = (rose, refl)
-not_prepared folder f g d m n Memory same = λ i. ground (same i) d n
-not_prepared folder f g d m n (Setup fault) (none, same) = (none, λ i. ground (same i) d n)
-not_prepared folder f g d m n Words none = absurd none
-not_prepared folder f g d m n (Store fault) none = absurd none
-not_prepared folder f g d m n (Session end) none = absurd none
-not_prepared folder f g d m n (Served end) none = absurd none
-not_prepared folder f g d m n (Script end) none = absurd none
-not_prepared folder f g d m n (Checked printed) none = absurd none
-
-pub not_opened : (folder : List ℕ) (f g : Filing) (d e : Stored) (m n : Making) (device : Device) (end : RunEnd)
-    → Prepares folder f g m n (Ok device) → Unopens device d e end → Fails folder (ground f d m) (ground g e n) end
-not_opened folder f g d e m n device (Store fault) (makes, same) refuses = (device, makes, refuses, λ i. ground (same i) e n)
-not_opened folder f g d e m n device Memory (makes, same) u = λ i. ground (same i) e n
-not_opened folder f g d e m n device Words prepared none = absurd none
-not_opened folder f g d e m n device Files prepared none = absurd none
-not_opened folder f g d e m n device (Setup fault) prepared none = absurd none
-not_opened folder f g d e m n device (Session end) prepared none = absurd none
-not_opened folder f g d e m n device (Served end) prepared none = absurd none
-not_opened folder f g d e m n device (Script end) prepared none = absurd none
-not_opened folder f g d e m n device (Checked printed) prepared none = absurd none
-
--- ---- the first state of a server
-pub begins_good : (device : Device) (disk : Stored) (first : State) → Begins device disk first → IsGood first
-begins_good device disk first begins =
-    subst IsGood (sym begins.is) (opening_is_good device.schema begins.base disk.failed begins.proper begins.configuration begins.valid)
-
-pub begins_so : (device : Device) (disk : Stored) (first : State) (schema : Tables) → Begins device disk first → schema ≡ device.schema
-    → (base : List Row) × (failed : ℕ) × (first ≡ opening schema base failed)
-begins_so device disk first schema begins same =
-    (begins.base, disk.failed, begins.is ∙ ap (λ s. opening s begins.base disk.failed) (sym same))
 
 -- ---- a store is opened, or not
 pub ok_so : {A E : Type 0} (P Q : A → Type 0) (result : Result A E) → ((it : A) → P it → Q it) → IfOk result P → IfOk result Q

@@ -1,7 +1,5 @@
 -- A script at a server of its own.
 use Rattle.std.proofs.Common.{◌≡◌, ◌≤◌, ◌+◌, ℕ, List, [], ◌∷◌, ◌++◌, length, Option, Result, Ok, Err, refl, sym, ap, subst, ◌∙◌, arith, length-append}
-use Rattle.std.specs.List.{All}
-use Rattle.std.proofs.lemmas.List.Elements.{All-weaker}
 use Rattle.nc_machine.proofs.Stood.{goes_nowhere}
 use Rattle.nc_machine.specs.Lasting.{Lasting}
 use Rattle.nc_machine.specs.Serving.{GoesOn, Serving}
@@ -14,28 +12,15 @@ use Rattle.nc_model.specs.declared.entry.Entry.{Entry}
 use Rattle.nc_names.specs.declared.path.Row.{Row}
 use Rattle.nc_script.specs.Runs as scripts
 use Rattle.nc_script.specs.Runs.{AllDone, WasBad, WasSpent, HadNoMemory as RanOut, HadNoRoom}
-use Rattle.nc_script.specs.Steps.{IsTimed}
 use Rattle.nc_script.specs.declared.fault.ScriptFault.{ScriptFault}
 use Rattle.nc_script.specs.declared.fault.ScriptFault.TheVariants.{BadStep as StepIsBad, Spent as IsSpent, Memory as NoMemory}
 use Rattle.nc_script.specs.declared.output.ScriptRun.{ScriptRun}
-use Rattle.nc_script_text.specs.Lines.{IsProper, IsScript}
 use Rattle.nc_script_text.specs.declared.step.ScriptStep.{ScriptStep}
-use Rattle.nc_script_text.specs.declared.step.ScriptStep.TheVariants.{Begin, Piece, End, Reading}
 use Rattle.nc_words.specs.Notes.{Told}
 use Rattle.nc_reports.specs.Scripts.{Comes, HadNoMemory, HasBadLine, HasSteps, IsAbsent, RunsAt, Scripts, all_outputs, made_by, unsaid}
 use Rattle.nc_reports.specs.Scripting.{Reads, RunsTo, Tells}
 use Rattle.nc_words.specs.declared.end.ScriptEnd.{ScriptEnd}
 use Rattle.nc_words.specs.declared.end.ScriptEnd.TheVariants.{Absent, BadLine, BadStep, Spent, Memory, Done}
-
--- a step of a script text reads a clock within its limit
-one_timed : (step : ScriptStep) → IsProper step → IsTimed step
-one_timed (Begin number peer) proper = tt
-one_timed (Piece number bytes) proper = tt
-one_timed (End number) proper = tt
-one_timed (Reading at) proper = proper.within
-
-pub all_timed : (text : List ℕ) (steps : List ScriptStep) → IsScript text steps → All IsTimed steps
-all_timed text steps script = All-weaker IsProper IsTimed one_timed steps script.proper
 
 -- a machine but for its keeper
 abbrev forgotten : {K : Type 0} → Serving K → Serving (Unit {0})

@@ -24,10 +24,6 @@ pub no_user : (words after : List (List ℕ)) (first : List ℕ) → arguments w
     → (folder : List ℕ) (peer : Peer) → ¬ AreArguments words folder peer
 no_user words after first some none folder peer are = cc (some, none, are.arguments)
 
-pub zero_if : (n : ℕ) (b : Bool) → n ≤ 1 → (b ≡ true → n ≡ 1) → (b ≡ false → n ≢ 1) → n ≡ zero_or_one b
-zero_if n true few one none = one refl
-zero_if n false few one none = omega (arith, few, none refl)
-
 pub no_words : IsNoStdio []
 no_words folder peer is = cc is.command
 
@@ -42,12 +38,6 @@ pub no_arguments : (command : List ℕ) (behind : List (List ℕ)) → ((folder 
 no_arguments command behind none folder peer is = none folder peer (subst (λ words. AreArguments words folder peer) (cc is.command) is.are)
 
 -- ---- commands with one argument, or two
-pub not_two : (name : List ℕ) (words : List (List ℕ)) → length words ≢ 2 → (first : List ℕ) → ¬ IsCommand name words (first ∷ [])
-not_two name words other first is = other (ap length is.command)
-
-pub not_three : (name : List ℕ) (words : List (List ℕ)) → length words ≢ 3 → (first second : List ℕ)
-    → ¬ IsCommand name words (first ∷ second ∷ [])
-not_three name words other first second is = other (ap length is.command)
 
 pub other_one : (name command word : List ℕ) → command ≢ name → (first : List ℕ) → ¬ IsCommand name (command ∷ word ∷ []) (first ∷ [])
 other_one name command word other first is = other (cc is.command)

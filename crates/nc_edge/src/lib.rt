@@ -17,12 +17,8 @@ mod file_disk;
 mod gate;
 mod listener;
 mod opening;
-#[cfg(test)]
-mod socket_tests;
 mod stream;
 mod streams;
-#[cfg(test)]
-mod tests;
 mod waiting;
 
 pub use address::{Address, read_address};

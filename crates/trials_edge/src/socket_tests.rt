@@ -1,5 +1,5 @@
 //! The listener against the operating system, at sockets in the working folder, which each test removes.
-use crate::{Address, Connection, SocketListener, Stream};
+use nc_edge::{Address, Connection, SocketListener, Stream};
 use nc_outside::{Hangup, Listener, Sink, Source};
 use std::fs;
 use std::io::{Read, Write};

@@ -1,5 +1,5 @@
 //! The disk against the operating system, in folders of its own below the working folder.
-use crate::FileDisk;
+use nc_edge::FileDisk;
 use nc_outside::Disk;
 use std::{fs, io};
 

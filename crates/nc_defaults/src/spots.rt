@@ -18,7 +18,7 @@ use nc_tree::Listed;
 use std::alloc::Global;
 
 /// A place with the steps to it.
-#[derive(Debug, Drop)]
+#[derive(Drop)]
 pub struct Spot<'a> {
     /// The steps to it; none at the top.
     pub steps: Steps<'a>,

@@ -8,7 +8,7 @@ use std::marker::Model;
 
 /// Steps that contracts see as the list of them. Where they are the first steps of a row's path they are
 /// those of the row and take no memory.
-#[derive(Debug, Drop)]
+#[derive(Drop)]
 pub struct Steps<'a> {
     own: Option<Many<Step>>,
     there: &'a [Step],

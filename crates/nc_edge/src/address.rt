@@ -9,7 +9,7 @@ use nc_names::parse_decimal;
 const LARGEST_PORT: u64 = 65535;
 
 /// Where a server listens.
-#[derive(Clone, Copy, Debug, PartialEq, Eq)]
+#[derive(Clone, Copy, PartialEq, Eq)]
 pub enum Address<'a> {
     /// A Unix socket, `unix:PATH`. The path is not empty.
     Unix {

@@ -19,7 +19,7 @@ use nc_tree::{Config, RowsByPath, excludes, node_of};
 use std::alloc::Global;
 
 /// A change at a path, and the right that it needs.
-#[derive(Debug, Drop)]
+#[derive(Drop)]
 pub(crate) struct Asking {
     pub path: Path,
     pub right: Right,

@@ -34,7 +34,7 @@ pub(crate) fn chunked_message(
 }
 
 /// How far the reading of a message has come.
-#[derive(Debug, Drop)]
+#[derive(Drop)]
 pub(crate) struct Reader {
     /// What has come of the message. With the end-of-message mark its bytes may stand here too.
     pub(crate) message: Bytes,

@@ -11,7 +11,7 @@ use std::marker::Model;
 use std::mem::replace;
 
 /// How the messages of a stream are framed, or the fault that it has shown.
-#[derive(Clone, Copy, Debug, PartialEq, Eq)]
+#[derive(Clone, Copy, PartialEq, Eq)]
 pub(crate) enum State {
     /// With the end-of-message mark (RFC 6242 4.3).
     Marked,

@@ -6,7 +6,7 @@ use std::alloc::Global;
 use std::marker::Model;
 
 /// Bytes that are read from the front. Contracts see those that are left.
-#[derive(Debug, Drop)]
+#[derive(Drop)]
 pub(crate) struct Source {
     bytes: Bytes,
     start: usize,

@@ -10,7 +10,7 @@ use nc_outside::{Disk, Failed, put, put_two};
 
 /// A byte that is written anew before anything else is, since a failed call may have left it torn: its place,
 /// and the byte that it had.
-#[derive(Clone, Copy, Debug)]
+#[derive(Clone, Copy)]
 pub(crate) struct Undo {
     pub at: u64,
     pub byte: u8,

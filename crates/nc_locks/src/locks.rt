@@ -9,7 +9,7 @@ use std::marker::Model;
 
 /// The sessions that hold the locks of running and of the candidate (RFC 6241 7.5). No other datastore has a
 /// lock here: it is never held, and granting it changes nothing.
-#[derive(Debug, Drop)]
+#[derive(Drop)]
 pub struct Locks {
     running: Option<u32>,
     candidate: Option<u32>,

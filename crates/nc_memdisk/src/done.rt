@@ -2,7 +2,7 @@
 use nc_names::Bytes;
 
 /// A call that a disk in memory has done, and which changed the file or made it durable.
-#[derive(Debug, Drop)]
+#[derive(Drop)]
 pub enum DoneCall {
     /// These bytes were written at a place.
     Write {

@@ -23,7 +23,7 @@ const LARGEST_SIZE: u64 = 1 << 62;
 /// were, and for how many calls no memory was found.
 ///
 /// It keeps what it began with and every write until it is dropped.
-#[derive(Debug, Drop)]
+#[derive(Drop)]
 pub struct MemDisk {
     first: Bytes,
     log: Many<DoneCall>,

@@ -76,7 +76,7 @@ impl Part {
 }
 
 /// A whole message: its root element.
-#[derive(PartialEq, Eq, Debug, Drop)]
+#[derive(PartialEq, Eq, Drop)]
 pub struct Tree {
     /// The root element.
     pub root: Elem,

@@ -12,7 +12,7 @@ pub(crate) struct Stop {
 }
 
 /// Why no tree was read.
-#[derive(Clone, Copy, Debug, PartialEq, Eq)]
+#[derive(Clone, Copy, PartialEq, Eq)]
 pub enum MessageFault {
     /// The bytes spell no tree: how many bytes the longest beginning of whole tokens that fit has, and why no
     /// more fits.

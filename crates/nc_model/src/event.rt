@@ -2,7 +2,7 @@
 use nc_protocol::{Peer, Reply, Request, Verdict};
 
 /// What happens to the server.
-#[derive(PartialEq, Eq, Debug, Drop)]
+#[derive(PartialEq, Eq, Drop)]
 pub enum Event {
     /// A client opens a session (RFC 6241 8.1).
     Start {

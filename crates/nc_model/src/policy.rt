@@ -3,7 +3,7 @@ use nc_names::{Many, Text};
 use nc_schema::Pattern;
 
 /// The access operations that a rule is about (RFC 8341 3.2.2, `access-operations`).
-#[derive(Clone, Copy, PartialEq, Eq, Debug)]
+#[derive(Clone, Copy, PartialEq, Eq)]
 pub struct AccessOperations {
     /// Reading.
     pub read: bool,
@@ -18,7 +18,7 @@ pub struct AccessOperations {
 }
 
 /// What a rule is about (RFC 8341 3.5.2, `rule-type`).
-#[derive(PartialEq, Eq, Debug, Drop)]
+#[derive(PartialEq, Eq, Drop)]
 pub enum RuleKind {
     /// Everything of its module: it has no rule type.
     OfAll,
@@ -33,7 +33,7 @@ pub enum RuleKind {
 }
 
 /// A rule (RFC 8341 3.5.2, `rule`).
-#[derive(PartialEq, Eq, Debug, Drop)]
+#[derive(PartialEq, Eq, Drop)]
 pub struct Rule {
     /// The name of its rule-list.
     pub list: Text,
@@ -50,7 +50,7 @@ pub struct Rule {
 }
 
 /// The rules for some groups (RFC 8341 3.5.2, `rule-list`).
-#[derive(PartialEq, Eq, Debug, Drop)]
+#[derive(PartialEq, Eq, Drop)]
 pub struct RuleList {
     /// The names of the groups, or `*` for all (`group`).
     pub groups: Many<Text>,
@@ -59,7 +59,7 @@ pub struct RuleList {
 }
 
 /// A group of users (RFC 8341 3.5.2, `group`).
-#[derive(PartialEq, Eq, Debug, Drop)]
+#[derive(PartialEq, Eq, Drop)]
 pub struct Group {
     /// Its name.
     pub name: Text,
@@ -68,7 +68,7 @@ pub struct Group {
 }
 
 /// The policy of access control (RFC 8341 3.5.2, `nacm`).
-#[derive(PartialEq, Eq, Debug, Drop)]
+#[derive(PartialEq, Eq, Drop)]
 pub struct Policy {
     /// Whether access control is on (`enable-nacm`).
     pub on: bool,

@@ -19,7 +19,7 @@ use std::marker::Model;
 
 /// The policy of access control that a configuration holds (RFC 8341 3.5.2). Contracts see it as the record
 /// of `nc_model`.
-#[derive(Debug, Drop)]
+#[derive(Drop)]
 pub struct Policy {
     plain: nc_model::Policy,
 }

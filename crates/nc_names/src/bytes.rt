@@ -9,7 +9,7 @@ use std::hash::{Hash, Hasher};
 use std::marker::Model;
 
 /// Bytes that contracts see as the list of them.
-#[derive(Debug, Drop)]
+#[derive(Drop)]
 pub struct Bytes {
     items: Vec<u8>,
 }

@@ -52,7 +52,7 @@ impl Copies for Bound {
 
 /// What the hello says of a module (RFC 6020 5.6.4): its name, its namespace, its revision date, or
 /// an empty text where it has none, and the names of its features that are on.
-#[derive(PartialEq, Eq, Debug, Drop)]
+#[derive(PartialEq, Eq, Drop)]
 pub struct Module {
     /// The name of the module.
     pub name: Text,

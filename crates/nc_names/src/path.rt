@@ -38,7 +38,7 @@ impl Copies for Path {
 }
 
 /// A row of a configuration: a path and, at a leaf or a leaf-list entry, its canonical text.
-#[derive(PartialEq, Eq, Hash, Debug, Drop)]
+#[derive(PartialEq, Eq, Hash, Drop)]
 pub struct Row {
     /// Where the row stands.
     pub path: Path,
@@ -56,7 +56,7 @@ impl Copies for Row {
 }
 
 /// An access operation that a rule permits or denies (RFC 8341 3.2.2).
-#[derive(Clone, Copy, PartialEq, Eq, Hash, Debug)]
+#[derive(Clone, Copy, PartialEq, Eq, Hash)]
 pub enum Right {
     /// To read a node.
     Read,
@@ -72,7 +72,7 @@ pub enum Right {
 
 /// Where an edit puts an entry of a list or leaf-list that the user orders (RFC 7950 7.7.9, 7.8.6).
 /// An anchor is named by its canonical keys, or by its one canonical value.
-#[derive(PartialEq, Eq, Debug, Drop)]
+#[derive(PartialEq, Eq, Drop)]
 pub enum Place {
     /// Without `insert`: a new entry goes last, and an existing one keeps its place.
     Kept,

@@ -32,7 +32,7 @@ pub trait Clock {
 }
 
 /// A clock in memory. Contracts see its readings and how often it answered.
-#[derive(Debug, Drop)]
+#[derive(Drop)]
 pub struct MemClock {
     readings: Many<u64>,
     answers: u64,

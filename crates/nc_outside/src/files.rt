@@ -14,7 +14,7 @@ use std::alloc::Global;
 use std::marker::Model;
 
 /// A file: its name, in which `/` separates the folders, and its bytes.
-#[derive(Debug, Drop, PartialEq, Eq)]
+#[derive(Drop, PartialEq, Eq)]
 pub struct NamedFile {
     /// The name below the folder that is handed in.
     pub name: Text,
@@ -54,7 +54,7 @@ pub trait Files {
 
 /// Files in memory. Contracts see the files, the calls that are to fail, and how many calls and
 /// faults there were.
-#[derive(Debug, Drop)]
+#[derive(Drop)]
 pub struct MemFiles {
     files: Many<NamedFile>,
     plan: Plan,

@@ -8,7 +8,7 @@ pub trait Hangup {
 }
 
 /// A connection: its input, its output, and the line that both use.
-#[derive(Debug, Drop)]
+#[derive(Drop)]
 pub struct Joined<I, O, H> {
     /// Where the bytes of the peer come from.
     pub input: I,
@@ -19,7 +19,7 @@ pub struct Joined<I, O, H> {
 }
 
 /// A line of which nobody hears: hanging it up does nothing.
-#[derive(Clone, Copy, Debug, PartialEq, Eq)]
+#[derive(Clone, Copy, PartialEq, Eq)]
 pub struct Unheard;
 
 impl Hangup for Unheard {

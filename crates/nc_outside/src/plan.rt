@@ -5,7 +5,7 @@ ghost use Rattle.nc_names.specs.Counts.{one_more};
 use nc_names::Many;
 
 /// The numbers of the calls that are to fail, how many calls there were, and how many faults.
-#[derive(Debug, Drop)]
+#[derive(Drop)]
 pub struct Plan {
     /// The numbers of the calls that fail.
     pub failing: Many<u64>,

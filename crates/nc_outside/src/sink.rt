@@ -35,7 +35,7 @@ pub trait Sink {
 /// A sink in memory, which takes each piece whole. Contracts see the bytes that it took, the calls
 /// that are to fail, how many calls and faults there were, and for how many calls no memory was
 /// found.
-#[derive(Debug, Drop)]
+#[derive(Drop)]
 pub struct MemSink {
     taken: Bytes,
     starved: u64,

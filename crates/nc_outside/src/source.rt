@@ -49,7 +49,7 @@ pub(crate) fn ends_after(ends: u64, count: usize, room: usize) -> u64
 
 /// Bytes in memory, read in pieces of a fixed size. Contracts see the bytes that are left, the size
 /// of a piece, the calls that are to fail, and how many calls, ends of input and faults there were.
-#[derive(Debug, Drop)]
+#[derive(Drop)]
 pub struct MemSource {
     bytes: Bytes,
     at: usize,

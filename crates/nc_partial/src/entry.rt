@@ -7,7 +7,7 @@ use nc_names::{Copies, Many, Memory, Path, Step, same_steps};
 use std::alloc::Global;
 
 /// A partial lock and the session that holds it.
-#[derive(Clone, Copy, PartialEq, Eq, Debug)]
+#[derive(Clone, Copy, PartialEq, Eq)]
 pub struct Covered {
     /// Its lock-id.
     pub lock: u32,
@@ -17,7 +17,7 @@ pub struct Covered {
 
 /// A node that a partial lock locks, with the lock-id and the session of the lock. Entries are ordered by the
 /// steps first.
-#[derive(PartialEq, Eq, PartialOrd, Ord, Debug, Drop)]
+#[derive(PartialEq, Eq, PartialOrd, Ord, Drop)]
 pub(crate) struct Entry {
     pub(crate) steps: Many<Step>,
     pub(crate) id: u32,

@@ -7,7 +7,7 @@ use nc_names::{Many, Path};
 use std::marker::Model;
 
 /// A partial lock (RFC 5717 2.1).
-#[derive(Debug, Drop)]
+#[derive(Drop)]
 pub(crate) struct Held {
     id: u32,
     session: u32,

@@ -22,7 +22,7 @@ const MOST_LOCKS: usize = 64;
 const LAST_LOCK_ID: u32 = 4294967295;
 
 /// Why a session gets no partial lock.
-#[derive(Clone, Copy, PartialEq, Eq, Debug)]
+#[derive(Clone, Copy, PartialEq, Eq)]
 pub enum PartialFault {
     /// A partial lock of another session shares a node with it; of several the one with the lowest lock-id.
     Taken(Covered),
@@ -52,7 +52,7 @@ impl From<Memory> for PartialFault {
 }
 
 /// The partial locks of all sessions, and the last lock-id that was given (RFC 5717 2.1).
-#[derive(Debug, Drop)]
+#[derive(Drop)]
 pub struct PartialLocks {
     locks: Vec<Held>,
     last: u32,

@@ -5,7 +5,7 @@ ghost use Rattle.nc_path_places.specs.declared.fault.PathFault.TheVariants.{Memo
 use nc_names::Memory;
 
 /// Why a path text gives no path.
-#[derive(Clone, Copy, PartialEq, Eq, Debug)]
+#[derive(Clone, Copy, PartialEq, Eq)]
 pub enum PathFault {
     /// It names none. `at` is the place, in bytes from 0, of the first byte that no path of the schema has
     /// there, or the length of the text; at most 4,294,967,295.

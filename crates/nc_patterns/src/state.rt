@@ -13,7 +13,7 @@ use crate::token::{Front, Token};
 const DEEPEST_GROUP: u64 = 60;
 
 /// Where a token stands.
-#[derive(Clone, Copy, Debug, PartialEq, Eq)]
+#[derive(Clone, Copy, PartialEq, Eq)]
 pub enum Place {
     /// Outside classes.
     Outside,
@@ -24,7 +24,7 @@ pub enum Place {
 }
 
 /// How things stand between two tokens.
-#[derive(Clone, Copy, Debug, PartialEq, Eq)]
+#[derive(Clone, Copy, PartialEq, Eq)]
 pub struct State {
     /// How many groups are open.
     pub depth: u64,

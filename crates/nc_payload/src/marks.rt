@@ -11,7 +11,7 @@ use std::collections::BTreeMap;
 
 /// A step, as it is compared with those beside it: by the place of its node among the children of its
 /// parent, then by the turn of an entry that the user orders, or by the keys of another.
-#[derive(PartialEq, Eq, PartialOrd, Ord, Debug, Drop)]
+#[derive(PartialEq, Eq, PartialOrd, Ord, Drop)]
 pub(crate) struct Mark {
     pub(crate) place: u128,
     pub(crate) turn: u64,

@@ -18,7 +18,7 @@ use nc_schema::Schema;
 use std::alloc::Global;
 
 /// An element that names a data node and has no fault of its own.
-#[derive(Debug, Drop)]
+#[derive(Drop)]
 pub(crate) struct Found {
     pub within: Position,
     pub operation: EditOperation,

@@ -12,7 +12,7 @@ use nc_tree::Config;
 use std::marker::Model;
 
 /// Why a session may not follow, confirm or cancel the pending commit.
-#[derive(Clone, Copy, PartialEq, Eq, Debug)]
+#[derive(Clone, Copy, PartialEq, Eq)]
 pub enum PendingFault {
     /// The `persist-id` is not its `persist` text, or it has none (RFC 6241 8.4.5.1).
     BadToken,

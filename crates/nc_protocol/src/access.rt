@@ -8,7 +8,7 @@ ghost use Rattle.nc_protocol.specs.Unchecked.{every_right};
 use nc_names::{Memory, Path, Right, Text};
 
 /// What decided (RFC 8341 3.4.4 and 3.4.5).
-#[derive(PartialEq, Eq, Debug, Drop)]
+#[derive(PartialEq, Eq, Drop)]
 pub enum By {
     /// Access control is off (`enable-nacm`).
     Off,
@@ -34,7 +34,7 @@ pub enum By {
 }
 
 /// Whether access is permitted, and by what.
-#[derive(PartialEq, Eq, Debug, Drop)]
+#[derive(PartialEq, Eq, Drop)]
 pub struct Decision {
     /// Whether it is permitted.
     pub permit: bool,
@@ -64,7 +64,7 @@ pub trait Sees {
 }
 
 /// Access without access control (RFC 8341 3.3.4.1): every right is given, and every node may be seen.
-#[derive(Clone, Copy, PartialEq, Eq, Debug)]
+#[derive(Clone, Copy, PartialEq, Eq)]
 pub struct Unchecked;
 
 impl Rights for Unchecked {

@@ -4,7 +4,7 @@ use nc_message::{Bounds, Elem};
 use nc_names::{Many, Text};
 
 /// A protocol operation (RFC 6241 7, 8.3.4, 8.4.4 and 8.6.4; RFC 5717 2.4).
-#[derive(Clone, Copy, PartialEq, Eq, Debug)]
+#[derive(Clone, Copy, PartialEq, Eq)]
 pub enum Operation {
     /// `<get>` (RFC 6241 7.7).
     Get,

@@ -2,7 +2,7 @@
 use nc_names::{Many, Path, Place, Row, Text};
 
 /// What an edit does at its node (the `operation` attribute of RFC 6241 7.2).
-#[derive(PartialEq, Eq, Debug, Drop)]
+#[derive(PartialEq, Eq, Drop)]
 pub enum Action {
     /// No operation here; the node has to exist (default-operation `none`).
     Nothing,
@@ -28,7 +28,7 @@ pub enum Action {
 }
 
 /// One edit: an action at a node.
-#[derive(PartialEq, Eq, Debug, Drop)]
+#[derive(PartialEq, Eq, Drop)]
 pub struct Edit {
     /// The node.
     pub path: Path,

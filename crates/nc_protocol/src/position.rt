@@ -3,7 +3,7 @@ use nc_names::{Many, Step};
 
 /// What is done at a node (the `operation` attribute of RFC 6241 7.2). `Nothing` is no word of that
 /// attribute: only the default-operation `none` gives it.
-#[derive(Clone, Copy, PartialEq, Eq, Debug)]
+#[derive(Clone, Copy, PartialEq, Eq)]
 pub enum EditOperation {
     /// `merge`
     Merge,
@@ -20,7 +20,7 @@ pub enum EditOperation {
 }
 
 /// Under what an element of a payload stands.
-#[derive(Clone, Copy, PartialEq, Eq, Debug)]
+#[derive(Clone, Copy, PartialEq, Eq)]
 pub enum Under {
     /// Each element gives an edit, with this operation unless it has its own.
     Edited {
@@ -44,7 +44,7 @@ pub enum Under {
 }
 
 /// Where an element of a payload stands.
-#[derive(PartialEq, Eq, Debug, Drop)]
+#[derive(PartialEq, Eq, Drop)]
 pub struct Position {
     /// The path to its parent, empty at the top.
     pub above: Many<Step>,

@@ -85,7 +85,7 @@ impl Copies for Cause {
 }
 
 /// An `rpc` (RFC 6241 4.1).
-#[derive(PartialEq, Eq, Debug, Drop)]
+#[derive(PartialEq, Eq, Drop)]
 pub struct Request {
     /// The attributes of the `rpc`, which its reply repeats.
     pub attributes: Many<Attr>,

@@ -5,7 +5,7 @@ ghost use Rattle.nc_schema.specs.Kinds.{has_value};
 use nc_names::{Copies, Many, Memory, QName, Text};
 
 /// What kind of data node it is (RFC 7950 7.5 to 7.8).
-#[derive(Clone, Copy, PartialEq, Eq, Debug)]
+#[derive(Clone, Copy, PartialEq, Eq)]
 pub enum Kind {
     /// A container; `presence` says whether its existence has a meaning of its own (RFC 7950 7.5.1).
     Container { presence: bool },
@@ -27,7 +27,7 @@ impl Kind {
 }
 
 /// What access control denies at a node without a rule (RFC 8341 3.4.5).
-#[derive(Clone, Copy, PartialEq, Eq, Debug)]
+#[derive(Clone, Copy, PartialEq, Eq)]
 pub enum Deny {
     /// The node has neither statement.
     Nothing,
@@ -38,7 +38,7 @@ pub enum Deny {
 }
 
 /// A case of a choice (RFC 7950 7.9.2).
-#[derive(Clone, Copy, PartialEq, Eq, Hash, Debug)]
+#[derive(Clone, Copy, PartialEq, Eq, Hash)]
 pub struct Case {
     /// The number of the choice.
     pub choice: u32,
@@ -53,7 +53,7 @@ impl Copies for Case {
 }
 
 /// A choice (RFC 7950 7.9).
-#[derive(PartialEq, Eq, Debug, Drop)]
+#[derive(PartialEq, Eq, Drop)]
 pub struct Choice {
     /// The number of the data node in which it stands, or `None` at the top.
     pub parent: Option<u32>,
@@ -66,7 +66,7 @@ pub struct Choice {
 }
 
 /// A data node (RFC 7950 3).
-#[derive(PartialEq, Eq, Debug, Drop)]
+#[derive(PartialEq, Eq, Drop)]
 pub struct Node {
     /// Its name in the namespace of its module (RFC 7950 5.3, 6.2).
     pub name: QName,

@@ -3,7 +3,7 @@ use nc_names::{Copies, Many, Memory, Text};
 
 /// One step of a pattern: the number of a data node, and for each key of a list entry, or for the one
 /// value of a leaf-list entry, its text, or `None` where the pattern leaves it out.
-#[derive(PartialEq, Eq, Hash, Debug, Drop)]
+#[derive(PartialEq, Eq, Hash, Drop)]
 pub struct PatternStep {
     /// The number of the data node.
     pub node: u32,
@@ -22,7 +22,7 @@ impl Copies for PatternStep {
 
 /// A path in which keys may be left out: what a `node-instance-identifier` names (RFC 8341 3.5.2).
 /// Without steps it is the root.
-#[derive(PartialEq, Eq, Hash, Debug, Drop)]
+#[derive(PartialEq, Eq, Hash, Drop)]
 pub struct Pattern {
     /// One step for each data node from the top, containers included.
     pub steps: Many<PatternStep>,
@@ -38,7 +38,7 @@ impl Copies for Pattern {
 
 /// Where the path of a leafref ends (RFC 7950 9.9.2): the data node `target`, in the instance of
 /// `above` in which the leaf stands, or in the whole tree where `above` is `None`.
-#[derive(Clone, Copy, PartialEq, Eq, Debug)]
+#[derive(Clone, Copy, PartialEq, Eq)]
 pub struct LeafrefEnd {
     /// The number of the leaf or leaf-list to which the path leads.
     pub target: u32,

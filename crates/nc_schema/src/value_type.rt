@@ -2,7 +2,7 @@
 use nc_names::{Copies, Many, Memory, QName, Text};
 
 /// The numbers from one to another, both included (RFC 7950 9.2.4, 9.4.4).
-#[derive(Clone, Copy, PartialEq, Eq, Debug)]
+#[derive(Clone, Copy, PartialEq, Eq)]
 pub struct Between {
     /// The lowest of them.
     pub least: i128,
@@ -18,7 +18,7 @@ impl Copies for Between {
 
 /// The type of a leaf's or leaf-list's values (RFC 7950 9.2 to 9.13). Types are named by their
 /// number in the schema, data nodes by theirs.
-#[derive(PartialEq, Eq, Debug, Drop)]
+#[derive(PartialEq, Eq, Drop)]
 pub enum ValueType {
     /// An integer in one of the ranges (RFC 7950 9.2).
     Whole {

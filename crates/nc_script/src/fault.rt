@@ -6,7 +6,7 @@ ghost use Rattle.nc_script.specs.declared.fault.StepFault.TheVariants.{Memory as
 use nc_names::Memory;
 
 /// Why a script is not done to its end. Steps count from 1.
-#[derive(Clone, Copy, Debug, PartialEq, Eq)]
+#[derive(Clone, Copy, PartialEq, Eq)]
 pub enum ScriptFault {
     /// A step begins a connection that was begun before, or means one that was not begun or that the script
     /// has ended. The steps before it are done.

@@ -29,7 +29,7 @@ use nc_tree::Keeper;
 const REQUESTS: u64 = MOST_REQUESTS + 1;
 
 /// What a session did next.
-#[derive(Clone, Copy, PartialEq, Eq, Debug)]
+#[derive(Clone, Copy, PartialEq, Eq)]
 pub(crate) enum Turn {
     /// It answered a request.
     Answered,

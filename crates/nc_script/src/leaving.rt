@@ -8,7 +8,7 @@ use nc_protocol::{Asked, Verdict};
 use nc_session::SessionEnd;
 
 /// How the entry of a request leaves its session.
-#[derive(Clone, Copy, PartialEq, Eq, Debug)]
+#[derive(Clone, Copy, PartialEq, Eq)]
 pub(crate) enum Left {
     /// The session goes on.
     Live,

@@ -3,7 +3,7 @@ use nc_names::{Bytes, Many};
 use nc_session::SessionEnd;
 
 /// What a connection was told.
-#[derive(PartialEq, Eq, Debug, Drop)]
+#[derive(PartialEq, Eq, Drop)]
 pub struct Output {
     /// The connection's number.
     pub connection: u32,
@@ -14,7 +14,7 @@ pub struct Output {
 }
 
 /// What a script gives.
-#[derive(PartialEq, Eq, Debug, Drop)]
+#[derive(PartialEq, Eq, Drop)]
 pub struct ScriptRun {
     /// What each connection was told, in the order in which they began.
     pub outputs: Many<Output>,

@@ -6,14 +6,14 @@ use nc_model::{Entry, Outcome};
 use nc_protocol::Verdict;
 
 /// How many replies have no `rpc-error`, and how many have one or more.
-#[derive(Clone, Copy, PartialEq, Eq, Debug)]
+#[derive(Clone, Copy, PartialEq, Eq)]
 pub(crate) struct Tally {
     pub(crate) ok: u64,
     pub(crate) errors: u64,
 }
 
 // What a session is told by an entry.
-#[derive(Clone, Copy, PartialEq, Eq, Debug)]
+#[derive(Clone, Copy, PartialEq, Eq)]
 enum Told {
     Reply,
     Error,

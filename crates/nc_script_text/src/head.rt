@@ -15,7 +15,7 @@ const MOST_BYTES: u64 = 4_194_304;
 const LAST_READING: u64 = 1 << 62;
 
 /// What the words of a line say.
-#[derive(Debug, Drop)]
+#[derive(Drop)]
 pub(crate) enum Head {
     Begin { connection: u32, peer: Peer },
     Send { connection: u32, size: usize },

@@ -14,7 +14,7 @@ use std::alloc::Global;
 use std::str;
 
 /// A step, and how many bytes its line has.
-#[derive(Debug, Drop)]
+#[derive(Drop)]
 pub(crate) struct Found {
     pub(crate) step: ScriptStep,
     pub(crate) len: usize,

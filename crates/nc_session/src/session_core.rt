@@ -38,7 +38,7 @@ fn stream_end(fault: FrameFault) -> Result<SessionEnd, Memory>
 }
 
 /// Where the reader of a session stands.
-#[derive(Clone, Copy, PartialEq, Eq, Debug)]
+#[derive(Clone, Copy, PartialEq, Eq)]
 pub(crate) enum Phase {
     /// The client's hello is awaited.
     Greeting,
@@ -55,7 +55,7 @@ pub(crate) enum Phase {
 }
 
 /// What a session has to do next.
-#[derive(Debug, Drop)]
+#[derive(Drop)]
 pub enum Todo {
     /// This request is to be answered.
     Ask(Request),

@@ -14,7 +14,7 @@ const SMALL_AREA: u128 = 1_048_576;
 const RECORD_HEAD: u128 = 9;
 
 /// How a record is written: after the last one, or alone in a new area.
-#[derive(Debug, Drop)]
+#[derive(Drop)]
 pub enum Way {
     /// After the last one: the body with its length before it and a closed gate after it.
     Append { framed: Bytes },

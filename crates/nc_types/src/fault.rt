@@ -6,7 +6,7 @@ use nc_names::Memory;
 use std::alloc::AllocError;
 
 /// Why `canonical` gives no text.
-#[derive(Clone, Copy, PartialEq, Eq, Debug)]
+#[derive(Clone, Copy, PartialEq, Eq)]
 pub enum TypeFault {
     /// The text is no value of the type (RFC 7950 9).
     NotInType,

@@ -14,7 +14,7 @@ use std::alloc::Global;
 
 /// One session on standard input and output, which the words `stdio [--recovery] DIR USER [GROUP]...` ask
 /// for.
-#[derive(Clone, Copy, Debug, PartialEq, Eq)]
+#[derive(Clone, Copy, PartialEq, Eq)]
 pub struct Stdio<'a> {
     /// The path of the folder of the device.
     pub folder: &'a str,
@@ -27,7 +27,7 @@ pub struct Stdio<'a> {
 }
 
 /// The folder of a device, and what is done with it.
-#[derive(Clone, Copy, Debug, PartialEq, Eq)]
+#[derive(Clone, Copy, PartialEq, Eq)]
 pub struct InFolder<'a> {
     /// The path of the folder of the device.
     pub folder: &'a str,
@@ -36,7 +36,7 @@ pub struct InFolder<'a> {
 }
 
 /// What is done with the folder of a device.
-#[derive(Clone, Copy, Debug, PartialEq, Eq)]
+#[derive(Clone, Copy, PartialEq, Eq)]
 pub enum Work<'a> {
     /// Its store is opened, and counts are written.
     Check,
@@ -47,7 +47,7 @@ pub enum Work<'a> {
 }
 
 /// What a command line asks for.
-#[derive(Clone, Copy, Debug, PartialEq, Eq)]
+#[derive(Clone, Copy, PartialEq, Eq)]
 pub enum Command<'a> {
     /// One session.
     Stdio(Stdio<'a>),

@@ -11,7 +11,7 @@ use nc_schema::ValueType;
 use std::alloc::Global;
 
 /// The number of the type of a plan, and the data node for which it was given.
-#[derive(Clone, Copy, Debug)]
+#[derive(Clone, Copy)]
 pub(crate) struct Slot {
     pub node: u32,
     pub number: u32,

@@ -20,7 +20,7 @@ use nc_yang_words::Statement;
 use std::alloc::Global;
 
 /// What is found of a statement.
-#[derive(Debug, Drop)]
+#[derive(Drop)]
 pub(crate) enum Found {
     /// Nothing that needs a new plan.
     Same(Finding),

@@ -11,7 +11,7 @@ use nc_yang_scopes::Scopes;
 use std::alloc::Global;
 
 /// What a statement gives, and the number of the one whose statements are expanded there.
-#[derive(Clone, Copy, Debug)]
+#[derive(Clone, Copy)]
 pub(crate) struct Entry {
     pub role: Option<Role>,
     pub block: Option<usize>,

@@ -1,7 +1,7 @@
 //! How far a search has come with a number.
 
 /// What is known of a number.
-#[derive(Clone, Copy, Debug, PartialEq, Eq)]
+#[derive(Clone, Copy, PartialEq, Eq)]
 pub enum Mark {
     /// It was not met yet.
     Unseen,
@@ -12,7 +12,7 @@ pub enum Mark {
 }
 
 /// A number whose targets are looked at, one after another.
-#[derive(Clone, Copy, Debug, PartialEq, Eq)]
+#[derive(Clone, Copy, PartialEq, Eq)]
 pub struct Turn {
     pub number: u32,
     /// The place of the next target among its targets.

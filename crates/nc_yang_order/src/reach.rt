@@ -8,7 +8,7 @@ use nc_names::{Many, Memory};
 use std::alloc::Global;
 
 /// The numbers that were found, each after one from which an edge leads to it, and a mark at each of them.
-#[derive(Debug, Drop)]
+#[derive(Drop)]
 pub struct Reach {
     pub marks: Many<bool>,
     pub found: Many<usize>,

@@ -10,7 +10,7 @@ use nc_names::{Many, Memory};
 use std::alloc::Global;
 
 /// The state of a search.
-#[derive(Debug, Drop)]
+#[derive(Drop)]
 pub(crate) struct Search {
     /// The mark of each number.
     pub marks: Many<Mark>,

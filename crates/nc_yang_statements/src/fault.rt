@@ -1,7 +1,7 @@
 //! Faults of module texts.
 
 /// Why modules give no schema.
-#[derive(Clone, Copy, Debug, PartialEq, Eq)]
+#[derive(Clone, Copy, PartialEq, Eq)]
 pub enum ModuleWhy {
     /// The text is not UTF-8 (RFC 7950 6).
     NotText,
@@ -28,7 +28,7 @@ pub enum ModuleWhy {
 }
 
 /// A rule that a module text breaks.
-#[derive(Clone, Copy, Debug, PartialEq, Eq)]
+#[derive(Clone, Copy, PartialEq, Eq)]
 pub struct Fault {
     /// The line on which the statement stands, counted from 1 by line feeds.
     pub line: u32,

@@ -7,7 +7,7 @@ ghost use Rattle.nc_yang_statements.specs.Keywords.{word_of, keywords, keyword_o
 ghost use Rattle.nc_yang_statements.specs.Keywords.{is_refused, is_read_over, is_closed, is_same_keyword};
 
 /// A keyword of a statement.
-#[derive(Clone, Copy, Debug, PartialEq, Eq)]
+#[derive(Clone, Copy, PartialEq, Eq)]
 pub enum Keyword {
     /// `module` (RFC 7950 7.1).
     Module,

@@ -5,7 +5,7 @@ ghost use Rattle.nc_yang_statements.specs.Places as places;
 use crate::Keyword;
 
 /// How often a statement may stand below another.
-#[derive(Clone, Copy, Debug, PartialEq, Eq)]
+#[derive(Clone, Copy, PartialEq, Eq)]
 pub enum Count {
     /// It may not stand there.
     Never,

@@ -6,7 +6,7 @@ use nc_names::Memory;
 use nc_yang_statements::ModuleWhy;
 
 /// Why modules give no schema.
-#[derive(Clone, Copy, Debug, PartialEq, Eq)]
+#[derive(Clone, Copy, PartialEq, Eq)]
 pub enum CompileFault {
     /// A rule is broken, or a limit passed, in the file of that number, counted from 0, at that line, counted
     /// from 1.

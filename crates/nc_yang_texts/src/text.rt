@@ -2,7 +2,7 @@
 use nc_names::{Bytes, Text};
 
 /// A file with the text of a module (RFC 7950 5.2).
-#[derive(Debug, PartialEq, Eq, Drop)]
+#[derive(PartialEq, Eq, Drop)]
 pub struct ModuleText {
     /// The name of the file.
     pub file: Text,

@@ -10,7 +10,7 @@ use nc_yang_statements::{Keyword, is_same_keyword, kind, name, part};
 use nc_yang_words::Statement;
 
 /// What a type lists names of.
-#[derive(Clone, Copy, Debug, PartialEq, Eq)]
+#[derive(Clone, Copy, PartialEq, Eq)]
 pub(crate) enum Listed {
     /// `enum` statements (RFC 7950 9.6.4).
     Enums,
@@ -19,7 +19,7 @@ pub(crate) enum Listed {
 }
 
 /// A name that a type lists, with its value or position (RFC 7950 9.6.4.2, 9.7.4.2).
-#[derive(Debug, Drop, PartialEq, Eq)]
+#[derive(Drop, PartialEq, Eq)]
 pub struct Named {
     /// The name.
     pub name: Text,

@@ -6,7 +6,7 @@ use crate::statement::Statement;
 use nc_names::{Many, Memory, Text};
 
 /// A statement whose end is still to come, with what stands below it so far.
-#[derive(Debug, Drop)]
+#[derive(Drop)]
 pub(crate) struct Begun {
     pub keyword: Text,
     pub argument: Option<Text>,

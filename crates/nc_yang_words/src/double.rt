@@ -9,14 +9,14 @@ use nc_names::{Memory, Text};
 use std::alloc::Global;
 
 /// The value of a quoted string, and how many characters stand before its closing mark.
-#[derive(Debug, Drop)]
+#[derive(Drop)]
 pub(crate) struct Quoted {
     pub text: Text,
     pub count: usize,
 }
 
 /// What a character does to a string.
-#[derive(Clone, Copy, Debug)]
+#[derive(Clone, Copy)]
 pub(crate) enum Turn {
     Goes,
     Closes,

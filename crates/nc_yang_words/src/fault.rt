@@ -5,7 +5,7 @@ ghost use Rattle.nc_yang_words.specs.declared.fault.WordFault.TheVariants.{Memor
 use nc_names::Memory;
 
 /// Why `statements` gives no tree.
-#[derive(Clone, Copy, Debug, PartialEq, Eq)]
+#[derive(Clone, Copy, PartialEq, Eq)]
 pub enum WordFault {
     /// The text has no statements: at this line, counted from 1, the first token begins that is not
     /// whole or that no statement text has after the tokens before it. Where the text ends too

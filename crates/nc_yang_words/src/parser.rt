@@ -20,7 +20,7 @@ use std::alloc::Global;
 const MOST_DEPTH: usize = 64;
 
 /// A statement up to its `;` or `{`.
-#[derive(Debug, Drop)]
+#[derive(Drop)]
 struct Head {
     begun: Begun,
     /// Whether its block begins.

@@ -11,7 +11,7 @@ use nc_names::{Memory, Text};
 use std::alloc::Global;
 
 /// What stands first in a text that is not empty.
-#[derive(Debug, Drop)]
+#[derive(Drop)]
 pub(crate) enum Piece {
     /// White space or a comment, and how many characters it has after its first.
     Gap(usize),

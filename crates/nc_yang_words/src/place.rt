@@ -5,7 +5,7 @@ ghost use Rattle.nc_yang_words.specs.Places.{after, passed};
 /// The place of a character: its line, and how many columns are before it on that line. A tab is
 /// eight columns (RFC 7950 6.1.3), and every other character one. Either count stands still at its
 /// type's end.
-#[derive(Clone, Copy, Debug)]
+#[derive(Clone, Copy)]
 pub(crate) struct Place {
     pub line: u32,
     pub column: usize,

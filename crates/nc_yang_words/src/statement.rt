@@ -2,7 +2,7 @@
 use nc_names::{Many, Text};
 
 /// A statement with all that stands below it (RFC 7950 6.3).
-#[derive(Debug, Drop, PartialEq, Eq)]
+#[derive(Drop, PartialEq, Eq)]
 pub struct Statement {
     /// The keyword, with its prefix and colon where it has one.
     pub keyword: Text,

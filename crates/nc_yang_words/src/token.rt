@@ -2,7 +2,7 @@
 use nc_names::Text;
 
 /// What a token is (RFC 7950 6.1.2).
-#[derive(Debug, Drop)]
+#[derive(Drop)]
 pub(crate) enum Kind {
     /// A keyword or an unquoted string, or the `+` between quoted strings.
     Word(Text),
@@ -21,7 +21,7 @@ pub(crate) enum Kind {
 }
 
 /// A token and where it begins.
-#[derive(Debug, Drop)]
+#[derive(Drop)]
 pub(crate) struct Token {
     /// The line on which it begins.
     pub line: u32,

@@ -3,7 +3,7 @@ use std::fmt::{self, Display, Formatter};
 use std::io;
 
 /// Why the program ends with another status than 0.
-#[derive(Debug, Drop)]
+#[derive(Drop)]
 pub enum Fault {
     /// The words are no line `ADDRESS USER [GROUP]...`, or name no peer.
     Words,

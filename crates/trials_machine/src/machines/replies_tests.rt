@@ -12,7 +12,7 @@ use std::process::Abort;
 use std::sync::Arc;
 
 // Every path or none: what a session sees, and what a payload names.
-#[derive(Clone, Copy, Debug)]
+#[derive(Clone, Copy)]
 struct Paths {
     // Whether it is every path.
     all: bool,

@@ -10,7 +10,7 @@ use nc_protocol::{Reply, Verdict};
 use std::alloc::Global;
 
 // What goes wrong at the desk. Its calls are counted from 1.
-#[derive(Clone, Copy, PartialEq, Eq, Debug)]
+#[derive(Clone, Copy, PartialEq, Eq)]
 enum Trouble {
     Nothing,
     // There is no place for a session.

@@ -2,7 +2,7 @@
 use Rattle.std.proofs.Common.{◌≡◌, ◌+◌, ◌-◌, ◌<◌, ◌≤◌, ◌∙◌, ℕ, zero, suc, List, [], ◌∷◌, ◌++◌, get_or, length, take, drop, refl, sym, ap, subst, Bor, arith}
 use Rattle.std.specs.Prelude.{map}
 use Rattle.std.proofs.Math.Seq.{take-length}
-use Rattle.std.proofs.lemmas.List.{append_assoc, drop-map, drop_all, drop_more, get_or-map, length-drop, length-map, length-take-le, take-append-drop, take-map, take_more}
+use Rattle.std.proofs.lemmas.List.{append_assoc, drop-map, drop_all, drop_more, get_or-map, length-drop, length-map, take-append-drop, take-map, take_more}
 use Rattle.nc_names.specs.declared.path.Row.{Row}
 use Rattle.nc_changes.specs.inner.Common.{AreSame, AreSameBehind, rows_of}
 
@@ -75,12 +75,6 @@ none_last rows others first le less = record {
   where
     nothing : (list : List (Bor Row)) → drop (length list) (rows_of list) ≡ []
     nothing list = drop_all (length list) (rows_of list) (omega (arith, length-map list (λ (one : Bor Row). one.now)))
-
-pub lengths_are : (rows : List (Bor Row)) → length (rows_of rows) ≡ length rows
-lengths_are rows = length-map rows (λ (one : Bor Row). one.now)
-
-pub first_within : (rows upper : List Row) (first left : ℕ) → upper ≡ take left rows → first ≤ left → left ≤ length rows → first ≤ length upper
-first_within rows upper first left is le within = subst (λ (n : ℕ). first ≤ n) (sym (ap length is ∙ length-take-le left rows within)) le
 
 pub parts_found : (rows others above before after gone come below : List Row) (first left rest : ℕ) → take first rows ≡ take first others →
     AreSameBehind rows others first left rest → above ≡ take first rows → before ≡ take left rows → after ≡ take rest others →

@@ -88,10 +88,6 @@ found_kept false above entry = refl
 same_keys_are : (keys others : List (List ℕ)) → is_same_keys keys others ≡ true → keys ≡ others
 same_keys_are keys others e = (keys_decide keys others).0 e
 
-some_found : (has : Bool) (above found : Option (List (List ℕ))) → Some found ≡ found_in has above → found ≡ above
-some_found true above found e = cc e
-some_found false above found e = absurd (cc e)
-
 none_found : (has : Bool) (above : Option (List (List ℕ))) → None ≡ found_in has above → has ≡ false
 none_found true above e = absurd (cc e)
 none_found false above e = refl
@@ -103,10 +99,6 @@ is_found false above = refl
 some_mapped : (found : Option (Option (Bor (List (List ℕ))))) → is_some found ≡ is_some (option_map option_copied found)
 some_mapped None = refl
 some_mapped (Some above) = refl
-
-pub nothing_above : (table : BTreeMap (Bor (List (List ℕ))) (Option (Bor (List (List ℕ))))) →
-    ((keys : Bor (List (List ℕ))) → get order table keys ≡ None) → HasAbove (record { table = table; last = None }) []
-nothing_above table none = (λ keys. ap (option_map option_copied) (none keys), refl)
 
 module _ (above : Above) (entry : Bor (List (List ℕ))) (entries : List (List (List ℕ))) where
   here : HasAbove above entries → (keys : Bor (List (List ℕ))) → has_entry keys.now entries ≡ is_some (get order above.table keys)
@@ -148,12 +140,6 @@ module _ (above : Above) (entry : Bor (List (List ℕ))) (entries : List (List (
           ap (λ one. has_entry one entries) (sym (same_keys_are entry.now keys.now f)) ∙ here known entry ∙ unknown in
           absurd (cc (has, e))
 
--- what is found for an entry is the one before it, and where nothing is found the last
-pub above_some : (above : Above) (entries : List (List (List ℕ))) (keys : Bor (List (List ℕ))) (found : Option (Bor (List (List ℕ)))) → HasAbove above entries →
-    Some found ≡ get order above.table keys → option_copied found ≡ entry_above keys.now entries
-above_some above entries keys found known some =
-    some_found (has_entry keys.now entries) (entry_above keys.now entries) (option_copied found) (ap (option_map option_copied) some ∙ known.0 keys)
-
 pub above_none : (above : Above) (entries : List (List (List ℕ))) (keys : Bor (List (List ℕ))) → HasAbove above entries →
     None ≡ get order above.table keys → option_copied above.last ≡ entry_above keys.now entries
 above_none above entries keys known none =
@@ -189,11 +175,6 @@ known_more before now found at entry within is so_far put other =
     by true false = refl
     by false true = refl
     by false false = refl
-
-pub no_ranks : (old new : List Row) (table : BTreeMap (Bor (List Step)) Listed) → ((above : Bor (List Step)) → get steps_order table above ≡ None) →
-    AreRanks old new (record { table = table })
-no_ranks old new table none above =
-    subst (λ (found : Option Listed). IfSome found (λ listed. AreMoves listed.moves (entries old above.now listed.number) (entries new above.now listed.number))) (sym (none above)) tt
 
 pub rank_found : (old new : List Row) (ranks : Ranks) (above : Bor (List Step)) (listed : Listed) → AreRanks old new ranks → Some listed ≡ get steps_order ranks.table above →
     AreMoves listed.moves (entries old above.now listed.number) (entries new above.now listed.number)

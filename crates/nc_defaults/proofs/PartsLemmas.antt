@@ -1,6 +1,6 @@
 -- One part more of a place.
-use Rattle.std.proofs.Common.{◌≡◌, ◌+◌, ◌||◌, ◌++◌, ◌<◌, ◌≤◌, ◌≢◌, ℕ, zero, suc, Bool, true, false, cond, List, [], ◌∷◌, Option, length, map, get_or, drop, refl, sym, ap, subst, ◌∙◌, arith, drop-cons}
-use Rattle.std.specs.List.{cons_option, filter, filter_map, find, flat_map, list_all, list_any}
+use Rattle.std.proofs.Common.{◌≡◌, ◌+◌, ◌||◌, ◌++◌, ◌<◌, ◌≤◌, ℕ, zero, suc, Bool, true, false, cond, List, [], ◌∷◌, Option, length, map, get_or, drop, refl, sym, ap, subst, ◌∙◌, arith, drop-cons}
+use Rattle.std.specs.List.{cons_option, filter, filter_map, find, list_all, list_any}
 use Rattle.std.specs.Prelude.{None, Some, slice_get, option_and_then}
 use Rattle.nc_schema.specs.InUse.{first_value, named_value, or_else}
 use Rattle.nc_defaults.specs.inner.Runs.{named_from, value_at}
@@ -10,7 +10,7 @@ use Rattle.nc_names.specs.Same.{is_same_text}
 use Rattle.std.proofs.lemmas.Bool.Decides.{Decides-eqb}
 use Rattle.nc_schema.specs.InUse.{value_from, values_in_use}
 use Rattle.nc_schema.specs.Tables.{Tables}
-use Rattle.nc_schema.specs.Places.{Part, Place, is_of, is_same_next, place_below}
+use Rattle.nc_schema.specs.Places.{Part, Place, is_of, is_same_next}
 use Rattle.nc_defaults.specs.Within.{rows_between}
 use Rattle.nc_defaults.proofs.Runs.{get_between, same_next}
 
@@ -35,20 +35,6 @@ any_append p (x ∷ xs) ys = go (p x) (any_append p xs ys)
     go : (b : Bool) → list_any p (xs ++ ys) ≡ (list_any p xs || list_any p ys) → (b || list_any p (xs ++ ys)) ≡ ((b || list_any p xs) || list_any p ys)
     go true e = refl
     go false e = e
-
-any_true : {X : Type 0} (p : X → Bool) (xs ys : List X) → list_any p xs ≡ true → list_any p (xs ++ ys) ≡ true
-any_true p xs ys passes = any_append p xs ys ∙ ap (λ b. b || list_any p ys) passes
-
-any_false : {X : Type 0} (p : X → Bool) (xs ys : List X) → list_any p xs ≡ false → list_any p (xs ++ ys) ≡ list_any p ys
-any_false p xs ys fails = any_append p xs ys ∙ ap (λ b. b || list_any p ys) fails
-
-pub any_here : {X : Type 0} (p : X → Bool) (f : Part → List X) (part : Part) (all rest : List Part) → all ≡ part ∷ rest → list_any p (f part) ≡ true →
-    list_any p (flat_map f all) ≡ true
-any_here p f part all rest split passes = ap (λ ps. list_any p (flat_map f ps)) split ∙ any_true p (f part) (flat_map f rest) passes
-
-pub any_later : {X : Type 0} (p : X → Bool) (f : Part → List X) (part : Part) (all rest : List Part) → all ≡ part ∷ rest → list_any p (f part) ≡ false →
-    list_any p (flat_map f all) ≡ list_any p (flat_map f rest)
-any_later p f part all rest split fails = ap (λ ps. list_any p (flat_map f ps)) split ∙ any_false p (f part) (flat_map f rest) fails
 
 -- ---- the first part that passes a second test
 pub find_later : (p t : Part → Bool) (part : Part) (all rest : List Part) → all ≡ part ∷ rest → t part ≡ false →
@@ -172,24 +158,6 @@ pub last_step : (tables : Tables) (place : Place) (steps : List Step) (index : �
     value_from tables place (drop index steps) ≡ answer → named_value step (values_in_use tables place step.node) ≡ answer
 last_step tables place steps index step answer within item end so_far =
     sym (ap (value_from tables place) (cut steps index step within item ∙ ap (λ rest. step ∷ rest) (none_after steps (index + 1) (omega (arith, end))))) ∙ so_far
-
-more_from : (tables : Tables) (place : Place) (step : Step) (rest : List Step) → rest ≢ [] →
-    value_from tables place (step ∷ rest) ≡ option_and_then (λ below. value_from tables below rest) (place_below tables place step)
-more_from tables place step [] some = absurd (some refl)
-more_from tables place step (next ∷ rest) some = refl
-
-some_after : (steps : List Step) (n : ℕ) → n < length steps → drop n steps ≢ []
-some_after [] n less = absurd (omega (arith, less))
-some_after (x ∷ steps) zero less = λ e. cc
-some_after (x ∷ steps) (suc n) less = some_after steps n (omega (arith, less))
-
-pub more_steps : (tables : Tables) (place below : Place) (steps : List Step) (index : ℕ) (step : Step) (answer : Option (List ℕ)) →
-    index < length steps → step ≡ get_or steps index step → index + 1 ≢ length steps → Some below ≡ place_below tables place step →
-    value_from tables place (drop index steps) ≡ answer → value_from tables below (drop (index + 1) steps) ≡ answer
-more_steps tables place below steps index step answer within item more leads so_far =
-    ap (λ found. option_and_then (λ b. value_from tables b (drop (index + 1) steps)) found) leads
-    ∙ sym (ap (value_from tables place) (cut steps index step within item) ∙ more_from tables place step (drop (index + 1) steps) (some_after steps (index + 1) (omega (arith, within, more))))
-    ∙ so_far
 
 -- ---- the values of the parts that are left
 pub values_skip : (number : ℕ) (part : Part) (all rest : List Part) → all ≡ part ∷ rest → is_of number part ≡ false →

@@ -14,9 +14,6 @@ use Rattle.nc_schema.specs.Blocks.{above_last}
 use Rattle.nc_filter.specs.inner.Levels.{children}
 use Rattle.nc_filter.specs.inner.Tables.{IsIndex, in_table, order, without}
 
-pub nothing_indexed : (table : BTreeMap (Bor (List Step)) (List (Bor Row))) → ((key : Bor (List Step)) → get order table key ≡ None) → IsIndex table []
-nothing_indexed table none key = ap (λ o. map (λ row. row.now) (option_map_or (λ inside. inside) o [])) (none key)
-
 map_push : (rows : List (Bor Row)) (row : Bor Row) → map (λ row. row.now) (rows ++ row ∷ []) ≡ map (λ row. row.now) rows ++ row.now ∷ []
 map_push [] row = refl
 map_push (one ∷ rows) row = ap (λ more. one.now ∷ more) (map_push rows row)

@@ -74,9 +74,6 @@ run_marked tables all upper before now whole number run within is table marks wa
     marks wanted n ∙ ap (λ b. b || (has_key tables all upper run wanted && (number == n))) (table wanted n)
     ∙ sym (at_more whole run (λ run. has_key tables all upper run wanted) number n within is)
 
-pub nothing_marked : (tables : Tables) (all : List Row) (upper : Option ℕ) (items : Keyed) → ((other : List ℕ) → get (slice_cmp nat_cmp) items other ≡ None) → IsTable tables all upper items []
-nothing_marked tables all upper items none wanted n = ap (λ (o : Option Members). option_map_or (λ members. has members n) o false) (none wanted)
-
 pub all_marked : (tables : Tables) (all : List Row) (upper : Option ℕ) (items : Keyed) (whole : List Run) (i : ℕ) → length whole ≤ i → IsTable tables all upper items (take i whole) → IsTable tables all upper items whole
 all_marked tables all upper items whole i past table wanted n = table wanted n ∙ ap (λ (runs : List Run). at_number runs (λ run. has_key tables all upper run wanted) n) (taken_all whole i past)
 

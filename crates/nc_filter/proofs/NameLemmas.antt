@@ -3,9 +3,6 @@ use Rattle.std.proofs.Common.{◌≡◌, ◌&&◌, ◌||◌, ◌+◌, ◌<◌, �
 use Rattle.std.specs.Prelude.{Option, map, slice_get}
 use Rattle.std.specs.List.{list_any}
 use Rattle.std.specs.Option.{option_map_or}
-use Rattle.std.specs.BTreeMap.{get}
-use Rattle.std.specs.Cmp.Lexicographic.{slice_cmp}
-use Rattle.std.specs.Ordering.{nat_cmp}
 use Rattle.std.proofs.lemmas.List.Folds.{list_any-append, list_any_more}
 use Rattle.std.proofs.lemmas.Option.{slice_get-get_or}
 use Rattle.nc_names.specs.Same.{is_same_text}
@@ -21,9 +18,6 @@ use Rattle.nc_filter.proofs.ClassLemmas.{map_join}
 use Rattle.nc_filter.proofs.KeyLemmas.{name_keys}
 use Rattle.nc_filter.proofs.TableLemmas.{map_taken, none_at}
 use Rattle.nc_filter.proofs.Unions.{any_nothing, any_or, any_same, or_assoc, or_false}
-
-pub no_names : (items : Slots) (level : List (Bor Elem)) → ((other : List ℕ) → get (slice_cmp nat_cmp) items other ≡ None) → AreNames items level []
-no_names items level none wanted test = ap (λ o. list_any (at_elem level test) (option_map_or (λ numbers. numbers) o [])) (none wanted)
 
 pub name_put : (level : List (Bor Elem)) (before now : Slots) (i : ℕ) (elem : Bor Elem) → i < length level → elem ≡ get_or level i elem → adds_key before now (name_key elem.now) i →
     AreNames before level (take i level) → AreNames now level (take (i + 1) level)

@@ -1,18 +1,15 @@
 -- Sets of the nodes at or below which rows stand.
 use Rattle.std.proofs.Common.{◌≡◌, ◌||◌, ◌+◌, ◌<◌, ℕ, Bool, true, false, cond, List, [], ◌∷◌, ◌++◌, length, take, get_or, refl, sym, ap, ◌∙◌, Bor}
 use Rattle.std.specs.Prelude.{map}
-use Rattle.std.specs.List.{list_any}
 use Rattle.std.specs.BTreeSet.{BTreeSet, contains}
 use Rattle.std.specs.Ordering.{is_eq}
 use Rattle.std.proofs.lemmas.List.{take_more}
-use Rattle.std.proofs.lemmas.List.Folds.{list_any-append}
 use Rattle.nc_names.proofs.StepOrder.{order_ties}
 use Rattle.nc_names.specs.Same.{is_at_or_below, is_same_path}
 use Rattle.nc_names.specs.declared.path.Row.{Row}
 use Rattle.nc_names.specs.declared.path.Step.{Step}
-use Rattle.nc_filter.specs.inner.Tables.{AddsPlace, AddsPlaces, ArePlaces, order}
-use Rattle.nc_filter.proofs.StepLemmas.{below_push, below_root}
-use Rattle.nc_filter.proofs.Unions.{or_swap}
+use Rattle.nc_filter.specs.inner.Tables.{AddsPlace, AddsPlaces, order}
+use Rattle.nc_filter.proofs.StepLemmas.{below_push}
 
 pub place_added : (before now : BTreeSet (Bor (List Step))) (steps : Bor (List Step)) →
     ((key : Bor (List Step)) → contains order now key ≡ cond (is_eq (order steps key)) true (contains order before key)) → AddsPlace before now steps.now
@@ -29,10 +26,6 @@ turned true false false = refl
 turned false true b = refl
 turned false false true = refl
 turned false false false = refl
-
-pub root_added : (before now : BTreeSet (Bor (List Step))) → AddsPlace before now [] → AddsPlaces before now []
-root_added before now added key =
-    added key ∙ or_swap (is_same_path [] key.now) (contains order before key) ∙ ap (λ b. contains order before key || b) (sym (below_root key.now))
 
 pub step_added : (first before now : BTreeSet (Bor (List Step))) (steps : List Step) (at : ℕ) (step : Step) → at < length steps → AddsPlaces first before (take at steps) →
     AddsPlace before now (take (at + 1) steps) → AddsPlaces first now (take (at + 1) steps)
@@ -53,11 +46,3 @@ map_push (one ∷ rows) row = ap (λ more. one.now ∷ more) (map_push rows row)
 or_false : (b : Bool) → (b || false) ≡ b
 or_false true = refl
 or_false false = refl
-
-pub row_added : (before now : BTreeSet (Bor (List Step))) (rows : List (Bor Row)) (row : Bor Row) → ArePlaces before (map (λ row. row.now) rows) →
-    AddsPlaces before now row.now.path.steps → ArePlaces now (map (λ row. row.now) (rows ++ row ∷ []))
-row_added before now rows row so_far added key =
-    added key ∙ ap (λ b. b || is_at_or_below key.now row.now.path) (so_far key)
-    ∙ ap (λ b. list_any (λ (other : Row). is_at_or_below key.now other.path) (map (λ row. row.now) rows) || b) (sym (or_false (is_at_or_below key.now row.now.path)))
-    ∙ sym (list_any-append (λ (other : Row). is_at_or_below key.now other.path) (map (λ row. row.now) rows) (row.now ∷ []))
-    ∙ ap (list_any (λ (other : Row). is_at_or_below key.now other.path)) (sym (map_push rows row))

@@ -1,11 +1,8 @@
 -- Rows and groups by their labels.
-use Rattle.std.proofs.Common.{◌≡◌, ◌&&◌, ◌||◌, ◌+◌, ◌<◌, ◌≤◌, ℕ, Bool, true, false, List, [], ◌∷◌, ◌++◌, None, Some, length, take, get_or, refl, sym, ap, ◌∙◌, if◌then◌else◌, Bor}
+use Rattle.std.proofs.Common.{◌≡◌, ◌&&◌, ◌||◌, ◌+◌, ◌<◌, ◌≤◌, ℕ, Bool, true, false, List, [], ◌∷◌, ◌++◌, Some, length, take, get_or, refl, sym, ap, ◌∙◌, if◌then◌else◌, Bor}
 use Rattle.std.specs.Prelude.{Option, map, slice_get}
 use Rattle.std.specs.List.{list_any}
 use Rattle.std.specs.Option.{option_map_or}
-use Rattle.std.specs.BTreeMap.{get}
-use Rattle.std.specs.Cmp.Lexicographic.{slice_cmp}
-use Rattle.std.specs.Ordering.{nat_cmp}
 use Rattle.std.proofs.lemmas.List.{take_more}
 use Rattle.std.proofs.lemmas.List.Folds.{list_any-append, list_any_more}
 use Rattle.nc_names.specs.declared.path.Row.{Row}
@@ -39,9 +36,6 @@ slots_put {X} has before now whole number x within is table puts wanted test =
 
     there : slice_get whole number ≡ Some x
     there = get_at whole number x within ∙ ap Some (sym is)
-
-pub no_slots : {X : Type 0} (has : X → List ℕ → Bool) (items : Slots) (whole : List X) → ((other : List ℕ) → get (slice_cmp nat_cmp) items other ≡ None) → AreSlots has items whole []
-no_slots has items whole none wanted test = ap (λ o. list_any (at whole test) (option_map_or (λ numbers. numbers) o [])) (none wanted)
 
 pub slots_done : {X : Type 0} (has : X → List ℕ → Bool) (items : Slots) (whole : List X) (i : ℕ) → length whole ≤ i → AreSlots has items whole (take i whole) → AreSlots has items whole whole
 slots_done has items whole i past are wanted test = are wanted test ∙ ap (list_any (λ x. has x wanted && test x)) (taken_all whole i past)

@@ -170,21 +170,11 @@ puts_then before mid now p q number first second other test =
     ∙ or_assoc (list_any test (in_slot before other)) (p other && test number) (q other && test number)
     ∙ ap (λ b. list_any test (in_slot before other) || b) (sym (or_and (p other) (q other) (test number)))
 
-pub puts_none : (items : Slots) (p : List ℕ → Bool) (number : ℕ) → ((other : List ℕ) → p other ≡ false) → Puts items items p number
-puts_none items p number none other test =
-    sym (ap (λ b. list_any test (in_slot items other) || (b && test number)) (none other) ∙ or_false (list_any test (in_slot items other)))
-
 pub puts_same : (before now : Slots) (p q : List ℕ → Bool) (number : ℕ) → ((other : List ℕ) → p other ≡ q other) → Puts before now p number → Puts before now q number
 puts_same before now p q number same puts other test =
     puts other test ∙ ap (λ b. list_any test (in_slot before other) || (b && test number)) (same other)
 
 -- ---- the keys of an instance
-pub key_added : (keys : List (List ℕ)) (i : ℕ) (key : List ℕ) (before now : BTreeSet (List ℕ)) → i < length keys → key ≡ get_or keys i key → adds_text before now key →
-    ((wanted : List ℕ) → has_text before wanted ≡ among (take i keys) wanted) → (wanted : List ℕ) → has_text now wanted ≡ among (take (i + 1) keys) wanted
-key_added keys i key before now within is adds so_far wanted =
-    adds wanted ∙ or_swap (is_same_text key wanted) (has_text before wanted)
-    ∙ (λ k. so_far wanted k || is_same_text (is k) wanted)
-    ∙ sym (list_any_more (λ one. is_same_text one wanted) keys i key within)
 
 pub keys_put : (keys : List (List ℕ)) (i : ℕ) (key : List ℕ) (before mid now : Slots) (number : ℕ) → i < length keys → key ≡ get_or keys i key →
     Puts before mid (among (take i keys)) number → Puts mid now (is_same_text key) number → Puts before now (among (take (i + 1) keys)) number

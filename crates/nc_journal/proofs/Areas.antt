@@ -1,9 +1,7 @@
 -- The live area of a file.
-use Rattle.std.proofs.Common.{◌≡◌, ◌≢◌, ℕ, ◌+◌, ◌<◌, ◌≤◌, Bool, true, false, List, [], ◌∷◌, ◌++◌, length, Option, Some, None, refl, sym, ◌∙◌, ap, subst, arith, length-append}
-use Rattle.std.specs.List.{flat_map}
-use Rattle.nc_journal.specs.Format.{recorded, area, gate_place}
-use Rattle.nc_journal.specs.Files.{At, HasArea, HoldsAt, closed_gate, torn_gate, torn_chooser}
-use Rattle.nc_journal.proofs.Segments.{at_front, at_within}
+use Rattle.std.proofs.Common.{◌≡◌, ◌≢◌, ℕ, ◌≤◌, Bool, true, false, List, [], ◌++◌, Option, Some, None, refl, sym, ◌∙◌, ap, subst, arith}
+use Rattle.nc_journal.specs.Format.{area}
+use Rattle.nc_journal.specs.Files.{HasArea, HoldsAt, closed_gate, torn_gate, torn_chooser}
 use Rattle.nc_journal.specs.Opening.{IsArea}
 
 pub area_of : (header : List ℕ) (second : Bool) (place : ℕ) (bodies : List (List ℕ)) (doubt : Option (List (List ℕ))) (file : List ℕ) → HoldsAt header second place bodies doubt file
@@ -14,8 +12,4 @@ area_of header second place bodies doubt file (torn_gate gate body chosen names 
 area_of header second place bodies doubt file (torn_chooser one other others second_is at not_zero not_one first first_closed last last_closed doubt_is) =
     (0, record { area = first.area; end = first_closed; not_open = omega arith; small = first.small })
 
-pub header_stands : (header : List ℕ) (place : ℕ) (bodies : List (List ℕ)) (gate : ℕ) (file : List ℕ) → IsArea header place bodies gate file → At place header file × (place + length header < length file)
-header_stands header place bodies gate file is = (
-  at_front place header (flat_map recorded bodies) file is.area,
-  omega (arith, at_within (gate_place header bodies place) (gate ∷ []) file is.end (omega arith), length-append header (flat_map recorded bodies)),
 )

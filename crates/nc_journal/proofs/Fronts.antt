@@ -1,5 +1,5 @@
 -- The front of a file.
-use Rattle.std.proofs.Common.{◌≡◌, ◌≢◌, ◌⊎◌, inl, inr, ℕ, ◌+◌, ◌-◌, ◌<◌, ◌≤◌, ◌^◌, Bool, true, false, nat_eq, List, [], ◌∷◌, ◌++◌, length, take, drop, get_or, slice_get, Option, Some, None, refl, sym, ◌∙◌, ap, subst, arith}
+use Rattle.std.proofs.Common.{◌≡◌, ◌≢◌, ◌⊎◌, inl, inr, ℕ, ◌+◌, ◌-◌, ◌<◌, ◌≤◌, ◌^◌, Bool, true, false, nat_eq, List, [], ◌∷◌, ◌++◌, length, take, drop, get_or, slice_get, Option, Some, refl, sym, ◌∙◌, ap, subst, arith}
 use Rattle.std.proofs.lemmas.Bool.Decides.{nat_tests}
 use Rattle.std.proofs.lemmas.Option.{slice_get-get_or, slice_get_cases}
 use Rattle.std.proofs.lemmas.List.{take_all, drop_more}
@@ -91,10 +91,6 @@ torn_is_new header (f ∷ rest) first read not_zero not_one long at =
 pub zero_is_new : (header file : List ℕ) → slice_get file 0 ≡ Some 0 → IsNew header file
 zero_is_new header [] read = absurd (cc)
 zero_is_new header (f ∷ rest) read = let same : f ≡ 0 = let e : Some f ≡ Some 0 = read in cc in unset (record { is = ap (λ b. b ∷ []) same })
-
-pub none_is_short : (file : List ℕ) → slice_get file 0 ≡ None → length file ≡ 0
-none_is_short [] read = refl
-none_is_short (f ∷ rest) read = absurd (cc)
 
 pub some_byte : (file : List ℕ) → 0 < length file → (byte : ℕ) × (slice_get file 0 ≡ Some byte)
 some_byte [] some = absurd (omega arith)

@@ -1,8 +1,8 @@
 -- Stretches of calls that only look.
-use Rattle.std.proofs.Common.{◌≡◌, ◌⊎◌, inl, inr, ⊎_elim, ℕ, ◌+◌, ◌-◌, ◌<◌, ◌≤◌, ◌^◌, List, [], ◌∷◌, ◌++◌, length, take, drop, slice_get, Option, Some, None, Result, Ok, Err, IfOk, refl, sym, ◌∙◌, ap, subst, arith, length-append, length-drop, get_or, IfSome}
+use Rattle.std.proofs.Common.{◌≡◌, ◌⊎◌, inl, inr, ⊎_elim, ℕ, ◌+◌, ◌-◌, ◌<◌, ◌≤◌, List, [], ◌∷◌, ◌++◌, length, take, drop, slice_get, Option, Some, None, Result, Ok, Err, IfOk, refl, sym, ◌∙◌, ap, subst, arith, length-append, length-drop, get_or, IfSome}
 use Rattle.std.proofs.lemmas.Bool.{cases_eq}
-use Rattle.std.specs.Int.{from_be_bytes, to_be_bytes, w64}
-use Rattle.std.proofs.lemmas.Nat.{from_be_bytes-to_be_bytes_8, be_bytes_8}
+use Rattle.std.specs.Int.{from_be_bytes, w64}
+use Rattle.std.proofs.lemmas.Nat.{be_bytes_8}
 use Rattle.std.proofs.lemmas.Option.{slice_get_cases, slice_get_within}
 use Rattle.nc_journal.specs.Format.{number, recorded}
 use Rattle.nc_journal.proofs.Numbers.{length-number, length-recorded}
@@ -66,11 +66,6 @@ number_within at n file stands = omega (arith, length-number n, at_within at (nu
 
 pub at_same : (at : ℕ) (xs ys file : List ℕ) → length xs ≡ length ys → At at xs file → At at ys file → xs ≡ ys
 at_same at xs ys file long one two = sym one.is ∙ ap (λ n. take n (drop at file)) long ∙ two.is
-
-pub number_read : (at n : ℕ) (bytes file : List ℕ) → n < 2 ^ 64 → At at (number n) file → At at bytes file → length bytes ≡ 8 → from_be_bytes w64 bytes ≡ n
-unfolding number
-number_read at n bytes file fits stands read long =
-    ap (from_be_bytes w64) (at_same at bytes (to_be_bytes w64 n) file (long ∙ sym (length-number n)) read stands) ∙ from_be_bytes-to_be_bytes_8 n fits
 
 -- a part of bytes that stand somewhere
 pub part_at : (at from count : ℕ) (bytes file : List ℕ) → from + count ≤ length bytes → At at bytes file → At (at + from) (take count (drop from bytes)) file

@@ -3,7 +3,7 @@ use Rattle.std.proofs.Common.{◌≡◌, ◌≢◌, ◌⊎◌, inl, inr, ⊎_eli
 use Rattle.std.proofs.lemmas.Bool.{cases_eq}
 use Rattle.std.proofs.lemmas.List.{append-nil, take_all, drop_all}
 use Rattle.nc_outside.specs.Disks.{Told, Torn, CutTo, After, LeavesOnly, Passes, IsSettled, written_at}
-use Rattle.nc_outside.proofs.Passing.{cut_reflexive, passes_as, passes_step}
+use Rattle.nc_outside.proofs.Passing.{passes_as, passes_step}
 use Rattle.nc_journal.specs.Format.{mark, number, blank, area, gate_place}
 use Rattle.nc_journal.specs.Files.{At, HasArea, Holds, IsNew, short, unset, torn}
 use Rattle.nc_journal.specs.Images.{IsClean}
@@ -73,13 +73,6 @@ pub settled_moments : {D : Type 0} (seen : D → Option (List ℕ)) (may_leave :
     → ((c : List ℕ) → step file c → P c) → LeavesOnly moment left_since old new P
 settled_moments seen may_leave moment left_since old new file step P settled passes also =
     only_as moment left_since old new (After step (may_leave old)) P (λ c after. also c (subst (λ f. step f c) (settled.durable after.from after.was) after.did)) passes.moments
-
--- and what a crash leaves after it
-pub settled_images : {D : Type 0} (seen : D → Option (List ℕ)) (may_leave : D → List ℕ → Type 0) (moment : D → ℕ) (left_since : D → ℕ → List ℕ → Type 0)
-    (old new : D) (file : List ℕ) (step : List ℕ → List ℕ → Type 0) → IsSettled seen may_leave old file → Passes may_leave moment left_since step old new
-    → (c : List ℕ) → may_leave new c → step file c
-settled_images seen may_leave moment left_since old new file step settled passes c left =
-    let after = passes.outcomes c left in subst (λ f. step f c) (settled.durable after.from after.was) after.did
 
 pub on_ok_also : {T E : Type 0} (result : Result T E) (P Q : Type 0) → OnOk result P → (P → Q) → OnOk result Q
 on_ok_also (Ok x) P Q p also = also p

@@ -152,10 +152,3 @@ holds_is_read header bodies doubt file holds =
       };
       live = live.1;
     }
-
--- the slot of a file that has a reading, by the chooser as it was read
-pub place_read : (header : List ℕ) (bodies : List (List ℕ)) (file : List ℕ) (byte : ℕ) → slice_get file 9 ≡ Some byte → (read : IsRead header bodies file) → At (slot_place (nat_eq byte 1)) (number read.place) file
-place_read header bodies file byte is read =
-    let e : Some read.byte ≡ Some byte = sym read.front.byte_is ∙ is in
-    let same : read.byte ≡ byte = cc in
-    subst (λ b. At (slot_place (nat_eq b 1)) (number read.place) file) same read.front.slot

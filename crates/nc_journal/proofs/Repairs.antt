@@ -11,7 +11,7 @@ use Rattle.nc_journal.specs.Journal.{allowed}
 use Rattle.nc_journal.proofs.Segments.{at_within, at_written}
 use Rattle.nc_journal.proofs.Images.{open_gate, open_within, closes, clean_among, open_among, chooser_among, chooser_torn, chooser_stays, chooser_within}
 use Rattle.nc_journal.proofs.Standing.{among_first, among_doubt, only_as}
-use Rattle.nc_journal.proofs.NewFiles.{settled_moments, settled_images}
+use Rattle.nc_journal.proofs.NewFiles.{settled_moments}
 
 -- a byte that stands at a place is the one that is read there
 pub at_get : (place byte : ℕ) (file : List ℕ) → At place (byte ∷ []) file → slice_get file place ≡ Some byte

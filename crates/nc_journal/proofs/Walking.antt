@@ -1,12 +1,12 @@
 -- The records of an area, one after another.
-use Rattle.std.proofs.Common.{◌≡◌, ◌≢◌, ◌⊎◌, inl, inr, ℕ, ◌+◌, ◌-◌, ◌<◌, ◌≤◌, ◌^◌, List, [], ◌∷◌, ◌++◌, length, take, drop, get_or, slice_get, map, All, Option, Some, None, refl, sym, ◌∙◌, ap, subst, arith, length-append, append_assoc}
+use Rattle.std.proofs.Common.{◌≡◌, ◌≢◌, ◌⊎◌, inl, inr, ℕ, ◌+◌, ◌-◌, ◌≤◌, ◌^◌, List, [], ◌∷◌, ◌++◌, length, take, drop, get_or, slice_get, map, All, Option, Some, None, refl, sym, ◌∙◌, ap, subst, arith, length-append, append_assoc}
 use Rattle.std.proofs.lemmas.List.{append-nil, get_or_at, map-append}
 use Rattle.std.specs.List.{flat_map}
 use Rattle.nc_journal.specs.Format.{number, recorded, area, gate_place}
 use Rattle.nc_names.specs.Limits.{body_limit}
 use Rattle.nc_journal.specs.Files.{At}
-use Rattle.nc_journal.proofs.Numbers.{length-recorded, area-push, gate-push}
-use Rattle.nc_journal.proofs.Segments.{at_front, at_back, at_join, at_within}
+use Rattle.nc_journal.proofs.Numbers.{area-push, gate-push}
+use Rattle.nc_journal.proofs.Segments.{at_front, at_back, at_join}
 use Rattle.nc_journal.specs.Opening.{IsArea, IsSoFar}
 use Rattle.nc_journal.specs.inner.Reading.{HasWalked}
 use Rattle.nc_journal.proofs.Repairs.{at_get}
@@ -24,10 +24,6 @@ area-split header done body rest =
 
 pub walked_start : (header : List ℕ) (place : ℕ) (bodies : List (List ℕ)) (file : List ℕ) (start byte : ℕ) → start ≡ place + length header → slice_get file start ≡ Some byte → HasWalked header place bodies file [] start byte
 walked_start header place bodies file start byte is read = record { rest = bodies; whole = refl; there = is ∙ ap (λ (l : List ℕ). place + length l) (sym (append-nil header)); byte_is = read }
-
-pub start_within : (header : List ℕ) (place : ℕ) (bodies : List (List ℕ)) (gate : ℕ) (file : List ℕ) (start : ℕ) → IsArea header place bodies gate file → start ≡ place + length header → start < length file
-start_within header place bodies gate file start area is =
-    omega (arith, at_within (gate_place header bodies place) (gate ∷ []) file area.end (omega arith), length-append header (flat_map recorded bodies))
 
 -- the next record, where the byte after those that were read opens it
 pub record NextRecord (header : List ℕ) (place : ℕ) (bodies : List (List ℕ)) (file : List ℕ) (done : List (List ℕ)) (at : ℕ) : Type 0 where
@@ -80,14 +76,6 @@ walked_end header place bodies gate file done at byte is walked not_one =
           let one : byte ≡ 1 = cc in
           absurd (not_one one)
     ] walked.whole
-
-pub next_within : (header : List ℕ) (place : ℕ) (bodies : List (List ℕ)) (gate : ℕ) (file : List ℕ) (done : List (List ℕ)) (at : ℕ) → IsArea header place bodies gate file
-    → at ≡ gate_place header done place → (next : NextRecord header place bodies file done at) → at + (9 + length next.body) < length file
-next_within header place bodies gate file done at is there next =
-    let end = at_within (gate_place header bodies place) (gate ∷ []) file is.end (omega arith) in
-    let long : gate_place header bodies place ≡ place + (length (area header done) + (9 + length next.body + length (flat_map recorded next.rest))) =
-    omega (arith, ap length (ap (area header) next.whole ∙ area-split header done next.body next.rest), length-append (area header done) (recorded next.body ++ flat_map recorded next.rest), length-append (recorded next.body) (flat_map recorded next.rest), length-recorded next.body) in
-    omega arith
 
 pub walked_more : (header : List ℕ) (place : ℕ) (bodies : List (List ℕ)) (file : List ℕ) (done : List (List ℕ)) (at later byte : ℕ) (read : List ℕ) → at ≡ gate_place header done place
     → (next : NextRecord header place bodies file done at) → read ≡ next.body → later ≡ at + 9 + length read → slice_get file later ≡ Some byte

@@ -7,22 +7,20 @@ use Rattle.nc_schema.specs.Record.{record_size}
 use Rattle.nc_names.specs.Limits.{body_limit}
 use Rattle.nc_schema.specs.Tables.{Tables}
 use Rattle.nc_schema.specs.Violations.{IsValid}
-use Rattle.nc_model.specs.declared.event.Event.{Event}
 use Rattle.nc_model.specs.declared.event.Event.TheVariants.{Request as Requested}
-use Rattle.nc_model.specs.ProperEvents.{IsProperEvent}
 use Rattle.nc_model.specs.declared.event.Outcome.{Outcome}
 use Rattle.nc_model.specs.declared.event.Outcome.TheVariants.{NotLive}
 use Rattle.nc_protocol.specs.declared.request.Request.{Request}
 use Rattle.nc_protocol.specs.declared.verdict.Verdict.{Verdict}
 use Rattle.nc_protocol.specs.Proper.{IsProper}
 use Rattle.nc_model.specs.State.{State, base_of, candidate_in_force, expired, is_live}
-use Rattle.nc_model.specs.Step.{CountsFaults, answer_to, appends_record, changed, has_failed, is_done, outcome_of, reaches_disk}
+use Rattle.nc_model.specs.Step.{CountsFaults, answer_to, appends_record, has_failed, is_done, outcome_of, reaches_disk}
 use Rattle.nc_model.specs.Verdict.{verdict}
 use Rattle.nc_machine.specs.declared.course.Change.{Change}
 use Rattle.nc_machine.specs.declared.course.Course.TheVariants.{Answer, Commit}
 use Rattle.nc_machine.specs.Lasting.{Lasting, LeavesStanding}
 use Rattle.nc_machine.specs.inner.Courses.{course, made}
-use Rattle.nc_machine.specs.inner.Turns.{Answers, Commits, Enters, IsKeeping, IsKept, IsNotKept, LeavesKept, answered_by}
+use Rattle.nc_machine.specs.inner.Turns.{Answers, Commits, Enters, IsKeeping, IsKept, IsNotKept, answered_by}
 use Rattle.nc_machine.proofs.Courses.{IsAnswer, IsCommit, answers, commits}
 use Rattle.nc_machine.proofs.Keeping.{by_schema, keeping_stays, made_keeps, read_keeps}
 
@@ -182,33 +180,6 @@ commit_wanted s new before after session request (Ok outcome) commits same = tt
 commit_wanted s new before after session request (Err memory) commits same = (commits, same)
 
 -- ---- the entry of an event
-
--- of one that does not reach the disk
-pub plain_enters : (old read new : State) (number : ℕ) (event : Event) (at : ℕ) (outcome : Outcome) (faults : ℕ) →
-    IsProperEvent event → reaches_disk read event ≡ false → read ≡ expired old at → faults ≡ read.faults →
-    outcome ≡ outcome_of read event (has_failed outcome) → new ≡ changed read event outcome → LeavesKept read new →
-    Enters old new number event at (record {
-      number = number;
-      at = at;
-      event = event;
-      outcome = outcome;
-      faults_before = faults;
-      faults_after = faults;
-    })
-plain_enters old read new number event at outcome faults proper unreached is count told new_is keeps = record {
-  event_is = refl;
-  at_is = refl;
-  number_is = refl;
-  fits = record {
-    proper = proper;
-    outcome = subst (λ (s : State). outcome ≡ outcome_of s event (has_failed outcome)) is told;
-    before = count ∙ (ap (λ (s : State). s.faults) is ∙ (read_keeps old at).faults_is);
-    faults = subst (λ (s : State). CountsFaults (reaches_disk s event) (has_failed outcome) faults faults) is
-        (subst (λ (b : Bool). CountsFaults b (has_failed outcome) faults faults) (sym unreached) refl);
-  };
-  state_is = ap (λ (n : ℕ). record new { faults = n }) (keeps.faults_is ∙ sym count)
-      ∙ ap (λ (s : State). record s { faults = faults }) (new_is ∙ ap (λ (s : State). changed s event outcome) is);
-}
 
 request_enters : (old new : State) (number session : ℕ) (request : Request) (at : ℕ) (outcome : Outcome) →
     IsProper request → Answers (expired old at) new session request outcome →

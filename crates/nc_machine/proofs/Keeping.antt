@@ -5,12 +5,8 @@ use Rattle.nc_names.specs.Same.{is_same_rows}
 use Rattle.nc_names.specs.declared.path.Path.{Path}
 use Rattle.nc_names.specs.declared.path.Row.{Row}
 use Rattle.nc_schema.specs.Tables.{Tables}
-use Rattle.nc_protocol.specs.declared.peer.Peer.{Peer}
-use Rattle.nc_model.specs.declared.event.Event.TheVariants.{Start, End}
-use Rattle.nc_model.specs.declared.event.Outcome.{Outcome}
-use Rattle.nc_model.specs.declared.event.Outcome.TheVariants.{Started, Full, Answered, NotLive, Ended, Noted}
 use Rattle.nc_model.specs.State.{Pending, State, candidate_in_force, expired, is_due, left_by_end, read_at, reverted, session_ended}
-use Rattle.nc_model.specs.Step.{changed, milliseconds, without_partial}
+use Rattle.nc_model.specs.Step.{milliseconds, without_partial}
 use Rattle.nc_model.specs.Verdict.{has_lock}
 use Rattle.nc_model.proofs.RunningLemmas.{candidate_base, ended_base}
 use Rattle.nc_machine.specs.declared.course.Change.{Change}
@@ -24,13 +20,6 @@ use Rattle.nc_machine.proofs.Confirmed.{confirming_base}
 
 pub all_kept : (s : State) → LeavesKept s s
 all_kept s = record { schema_is = refl; base_is = refl; faults_is = refl }
-
-pub kept_further : (one two three : State) → LeavesKept one two → LeavesKept two three → LeavesKept one three
-kept_further one two three first second = record {
-  schema_is = second.schema_is ∙ first.schema_is;
-  base_is = second.base_is ∙ first.base_is;
-  faults_is = second.faults_is ∙ first.faults_is;
-}
 
 -- ---- the clock
 pub read_keeps : (s : State) (at : ℕ) → LeavesKept s (expired s at)
@@ -107,21 +96,6 @@ made_keeps s session (GrantNodes nodes) = given_keeps s session nodes (lock_give
 made_keeps s session (ReleaseNodes lock) = released_keeps s lock (has_lock s session lock)
 
 -- ---- sessions
-pub start_keeps : (s : State) (peer : Peer) (outcome : Outcome) → LeavesKept s (changed s (Start peer) outcome)
-start_keeps s peer (Started number) = record { schema_is = refl; base_is = refl; faults_is = refl }
-start_keeps s peer (Full live last) = all_kept s
-start_keeps s peer (Answered verdict reply) = all_kept s
-start_keeps s peer NotLive = all_kept s
-start_keeps s peer Ended = all_kept s
-start_keeps s peer Noted = all_kept s
-
-pub over_keeps : (s : State) (session : ℕ) (outcome : Outcome) → LeavesKept s (changed s (End session) outcome)
-over_keeps s session (Started number) = all_kept s
-over_keeps s session (Full live last) = all_kept s
-over_keeps s session (Answered verdict reply) = all_kept s
-over_keeps s session NotLive = all_kept s
-over_keeps s session Ended = end_keeps s session
-over_keeps s session Noted = all_kept s
 
 -- ---- the keeper
 pub by_schema : (found : Option Tables) (one other : Tables) → other ≡ one → IfSome found (λ tables. tables ≡ one) →

@@ -276,11 +276,6 @@ grants s session nodes after (Err (IdsSpent last)) told granted same memory =
     ap (λ (g : Granted). record s { partial = g.locks; last_lock = g.last }) same ∙ ap (with_given s session nodes) told
 grants s session nodes after (Err NoMemory) told granted same memory = cc
 
-pub grants_none : (s : State) (after : Granted) (told : Result ℕ PartialFault) → OnErr told (after ≡ granted_of s) →
-    wants_memory told ≡ true → record s { partial = after.locks; last_lock = after.last } ≡ s
-grants_none s after (Ok id) same memory = cc
-grants_none s after (Err fault) same memory = ap (λ (g : Granted). record s { partial = g.locks; last_lock = g.last }) same
-
 -- ---- partial-unlock
 pub is_held : (s : State) (session lock : ℕ) → true ≡ has_lock s session lock → None ≡ partial_unlock_refusal s session lock
 is_held s session lock has = ap (λ (b : Bool). cause_where (not b) (plain_cause BadParameter (lock_id_word ∷ []))) has

@@ -59,14 +59,6 @@ elapses_push first old new call is = record {
     shorter : (k : ℕ) → k ≤ length old → take k new ≡ take k old
     shorter k early = ap (take k) is ∙ take-append-le k old (call ∷ []) early
 
-pub elapses_same : (first : List ℕ) (log : List DoneCall)
-    → Elapses (length log) (length log) (ImageSince first log) (ImageSince first log) (IsImage first log)
-elapses_same first log = record {
-  later = omega arith;
-  nothing_else = λ t c le left. inl left;
-  keeps = λ t c le left. left;
-}
-
 -- A call that was noted, of a disk of these first bytes.
 module _ (first : List ℕ) (old : List DoneCall) where
   pub write_follows : (at : ℕ) (bytes : List ℕ) → at ≤ length (seen_after first old)

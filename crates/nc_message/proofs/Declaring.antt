@@ -139,13 +139,6 @@ declares_more {a} {b} {c} {first} {mid} {last} us vs one two = record {
   grown = extends_twice one.grown two.grown;
 }
 
-pub declares_none : (set : BTreeSet (List ℕ)) (out : List ℕ) → Declares set set out out []
-declares_none set out = record {
-  seen = λ seen are. let P : List (List ℕ) → Type 0 = λ xs. AreSeen set xs in subst P (sym (append-nil seen)) are;
-  output = λ seen are. sym (append-nil out);
-  grown = extends_self out out refl;
-}
-
 -- the next attribute's use
 pub attr_step : (xs : List Attr) (k : ℕ) (a : Attr) {x y z : BTreeSet (List ℕ)} {first mid last : List ℕ}
     → k < length xs → a ≡ get_or xs k a → Declares x y first mid (map use_of (take k xs)) →

@@ -1,16 +1,13 @@
 -- A prefix is found among the bindings in force.
-use Rattle.std.proofs.Common.{◌≡◌, ℕ, suc, ◌<◌, Bool, true, false, cond, not, ◌||◌, List, [], ◌∷◌, ◌++◌, filter, take, length, get_or, Option, None, Some, option_map, refl, sym, ap, ◌∙◌, append-nil}
+use Rattle.std.proofs.Common.{◌≡◌, ℕ, Bool, true, false, cond, not, ◌||◌, List, [], ◌∷◌, ◌++◌, filter, Option, None, Some, option_map, refl, sym, ap, ◌∙◌, append-nil}
 use Rattle.std.specs.Prelude.{Result, Ok, Err, IfOk}
 use Rattle.std.specs.Prelude.{IsSome, is_some, ◌&&◌}
 use Rattle.std.specs.List.{list_any}
 use Rattle.std.specs.Cmp.Lexicographic.{bytes_decides}
-use Rattle.std.proofs.Math.Seq.{take-suc}
-use Rattle.std.proofs.lemmas.List.Sums.{fold-append}
 use Rattle.nc_names.specs.Same.{is_same_text}
 use Rattle.nc_names.specs.declared.name.Bound.{Bound}
 use Rattle.nc_names.specs.Bindings.{space_of}
 use Rattle.nc_message.specs.Bindings.{Declared, declares, inside, is_empty}
-use Rattle.nc_message.specs.inner.Levels.{in_force}
 
 same_to : (a b : List ℕ) → is_same_text a b ≡ true → a ≡ b
 same_to a b e = (bytes_decides a b).0 e
@@ -113,13 +110,6 @@ left_alone prefix d e h outer =
     ap (λ b. b || (d.undeclares && is_empty prefix)) (among prefix d.own None e) ∙ h in
     inner_at prefix outer d false here ∙ ap (or_else (space_of prefix outer)) e ∙ or_none (space_of prefix outer)
 
--- one tag more
-pub one_in : (tags : List Declared) (i : ℕ) (d : Declared) → i < length tags → d ≡ get_or tags i d
-    → in_force (take (suc i) tags) ≡ inside (in_force (take i tags)) d
-one_in tags i d less e =
-    ap in_force (take-suc tags i d less ∙ ap (λ x. take i tags ++ (x ∷ [])) (sym e))
-    ∙ fold-append inside [] (take i tags) (d ∷ [])
-
 -- one binding more: a prefix that was bound keeps its namespace
 pub bound_before : (prefix space : List ℕ) (bounds : List Bound) (found : Option (List ℕ)) →
     space_of prefix bounds ≡ found → is_some found ≡ true
@@ -193,14 +183,6 @@ pub spoken : (prefix : List ℕ) (d : Declared) (found : Option (List ℕ)) → 
     → declares d prefix ≡ (is_some found || (d.undeclares && is_empty prefix))
 spoken prefix d None e = ap (λ b. b || (d.undeclares && is_empty prefix)) (among prefix d.own None (sym e))
 spoken prefix d (Some s) e = ap (λ b. b || (d.undeclares && is_empty prefix)) (among prefix d.own (Some s) (sym e))
-
-unspoken_at : (prefix : List ℕ) (d : Declared) (o : Option (List ℕ)) → space_of prefix d.own ≡ o →
-    declares d prefix ≡ false → o ≡ None
-unspoken_at prefix d None e h = refl
-unspoken_at prefix d (Some s) e h = absurd (cc (h, among prefix d.own (Some s) e))
-
-pub unspoken : (prefix : List ℕ) (d : Declared) → declares d prefix ≡ false → space_of prefix d.own ≡ None
-unspoken prefix d h = unspoken_at prefix d (space_of prefix d.own) refl h
 
 pub or_false : (a b : Bool) → (a || b) ≡ false → a ≡ false
 or_false true b e = absurd (cc e)

@@ -13,16 +13,9 @@ pub record Goes {X : Type 0} (read : ℕ → List ℕ → Option (List X × List
   pub enough : length text < fuel
   pub same : read most begin ≡ prepend items (read fuel text)
 
-pub prepend_nil : {X : Type 0} (o : Option (List X × List ℕ)) → prepend [] o ≡ o
-prepend_nil None = refl
-prepend_nil (Some p) = refl
-
 pub prepend_twice : {X : Type 0} (xs ys : List X) (o : Option (List X × List ℕ)) → prepend xs (prepend ys o) ≡ prepend (xs ++ ys) o
 prepend_twice xs ys None = refl
 prepend_twice xs ys (Some p) = ap (λ l. Some (l, p.1)) (sym (append_assoc xs ys p.0))
-
-pub goes_begin : {X : Type 0} (read : ℕ → List ℕ → Option (List X × List ℕ)) (most : ℕ) (begin : List ℕ) → length begin < most → Goes read most begin [] begin
-goes_begin read most begin less = record { fuel = most; enough = less; same = sym (prepend_nil (read most begin)) }
 
 more_at : {X : Type 0} (read : ℕ → List ℕ → Option (List X × List ℕ)) (most : ℕ) (begin : List ℕ) (items more : List X) (text next : List ℕ) (fuel : ℕ)
     → length text < fuel → read most begin ≡ prepend items (read fuel text)
@@ -36,18 +29,6 @@ more_at read most begin items more text next (suc n) enough same step less =
 pub goes_more : {X : Type 0} (read : ℕ → List ℕ → Option (List X × List ℕ)) (most : ℕ) (begin : List ℕ) (items more : List X) (text next : List ℕ)
     → Goes read most begin items text → ((n : ℕ) → length text ≤ n → read (suc n) text ≡ prepend more (read n next)) → length next < length text → Goes read most begin (items ++ more) next
 goes_more read most begin items more text next g step less = more_at read most begin items more text next g.fuel g.enough g.same step less
-
-last_at : {X : Type 0} (read : ℕ → List ℕ → Option (List X × List ℕ)) (most : ℕ) (begin : List ℕ) (items : List X) (text : List ℕ) (o : Option (List X × List ℕ)) (fuel : ℕ)
-    → length text < fuel → read most begin ≡ prepend items (read fuel text)
-    → ((n : ℕ) → length text ≤ n → read (suc n) text ≡ o) → read most begin ≡ prepend items o
-last_at read most begin items text o zero enough same step = absurd (omega (arith, enough))
-last_at read most begin items text o (suc n) enough same step =
-    let fits : length text ≤ n = omega (arith, enough) in
-    same ∙ ap (prepend items) (step n fits)
-
-pub goes_last : {X : Type 0} (read : ℕ → List ℕ → Option (List X × List ℕ)) (most : ℕ) (begin : List ℕ) (items : List X) (text : List ℕ) (o : Option (List X × List ℕ))
-    → Goes read most begin items text → ((n : ℕ) → length text ≤ n → read (suc n) text ≡ o) → read most begin ≡ prepend items o
-goes_last read most begin items text o g step = last_at read most begin items text o g.fuel g.enough g.same step
 
 -- one more attribute
 pub attributes_more : (text left next : List ℕ) (a : Attribute) → left ≡ after_white text → first_passes begins_name left ≡ true → first_passes is_white text ≡ true

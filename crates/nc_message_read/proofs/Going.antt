@@ -7,9 +7,6 @@ use Rattle.nc_message.specs.Faults.{IsCut}
 use Rattle.nc_message_read.specs.inner.Turn.{Takes, Went}
 use Rattle.nc_message_read.proofs.Spelled.{go_append, go_one}
 
-pub went_begin : (s : State) (bytes : List ℕ) → Went s bytes s bytes
-went_begin s bytes = record { tokens = []; cut = refl; leads = refl }
-
 -- one token more at the end of a cut
 pub cut_more : (bytes : List ℕ) (ts : List Token) (text next : List ℕ) (k : Token) → IsCut bytes ts text → 0 < length text → token text ≡ Some (k, next) → IsCut bytes (ts ++ k ∷ []) next
 cut_more bytes [] text next k cut some e = (next, subst (λ l. 0 < length l) (sym cut) some, ap token cut ∙ e, refl)

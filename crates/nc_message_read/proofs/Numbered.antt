@@ -1,10 +1,8 @@
 -- Numbers up to one past the last code of a character.
-use Rattle.std.proofs.Common.{◌≡◌, ℕ, ◌+◌, ◌*◌, ◌<◌, suc, List, [], ◌∷◌, length, drop, get_or, drop-cons, sym, ap, ◌∙◌, arith, inl, inr, Some, None}
-use Rattle.std.specs.Prelude.{if◌then◌else◌}
+use Rattle.std.proofs.Common.{◌≡◌, ℕ, ◌+◌, ◌*◌, ◌<◌, suc, List, [], ◌∷◌, length, drop, get_or, drop-cons, sym, ap, ◌∙◌, arith, inl, inr}
 use Rattle.std.proofs.lemmas.Bool.Decides.{nat_tests}
 use Rattle.std.specs.Char.{digit_value}
 use Rattle.std.specs.Str.Parse.{digits_value_after}
-use Rattle.nc_message.specs.Texts.{is_char}
 use Rattle.nc_message_read.specs.inner.Numbers.{IsRadix, capped}
 
 ten : (n d : ℕ) → capped (n * 10 + d) ≡ capped (capped n * 10 + d)
@@ -26,10 +24,6 @@ capped_after radix is n (d ∷ ds) =
     capped_after radix is (n * radix + digit_value d) ds
     ∙ ap (λ x. capped (digits_value_after radix x ds)) (one_digit radix n (digit_value d) is)
     ∙ sym (capped_after radix is (capped n * radix + digit_value d) ds)
-
--- what is capped is no character, and another is itself
-pub capped_sign : (n : ℕ) → (if is_char (capped n) then Some (capped n) else None) ≡ (if is_char n then Some n else None)
-capped_sign n = grind (arith, nat_tests)
 
 -- one digit more
 pub next_digit : (radix : ℕ) → IsRadix radix → (number next : ℕ) (digits : List ℕ) (i : ℕ) → i < length digits

@@ -35,10 +35,6 @@ pub passed : (b : Bool) (why : Why) (r : Result State Why) (t : State) → cond 
 passed true why r t e = absurd (cc e)
 passed false why r t e = (refl, e)
 
-fits_ok : (o : Option State) (t : State) → fits o ≡ Ok t → o ≡ Some t
-fits_ok None t e = absurd (cc e)
-fits_ok (Some s) t e = cc e
-
 pub held : (b : Bool) (s t : State) → fits (cond b (Some s) None) ≡ Ok t → (b ≡ true) × (t ≡ s)
 held true s t e = (refl, cc e)
 held false s t e = absurd (cc e)
@@ -47,10 +43,6 @@ pub text_ok : (o : Open) (above : List Open) (text : Option (List ℕ)) (t : Sta
     → (x : List ℕ) × (text ≡ Some x) × (t ≡ state (with_text o x ∷ above) None)
 text_ok o above None t e = absurd (cc e)
 text_ok o above (Some x) t e = (x, refl, cc e)
-
-words_ok : (o : Open) (above : List Open) (k : Token) (t : State) → ((text : Option (List ℕ)) × (step (state (o ∷ above) None) k ≡ fits (add_text (o ∷ above) text)) × ((x : List ℕ) → text ≡ Some x → IsWords x k))
-    → step (state (o ∷ above) None) k ≡ Ok t → (x : List ℕ) × IsWords x k × (t ≡ state (with_text o x ∷ above) None)
-words_ok o above k t h e = let w = text_ok o above h.0 t (sym h.1 ∙ e) in (w.0, h.2 w.0 w.1, w.2)
 
 -- a start tag
 pub opened_ok : (above : List Open) (tag : Tag) (o : Option Head) (t : State) → start_fits above tag (option_map open_of o) ≡ Ok t → (first : Head) × (o ≡ Some first) × (t ≡ entered (open_of first) tag.alone above)

@@ -41,9 +41,6 @@ enough (a ∷ more) text =
 abbrev pub tag_of : List ℕ → List Attribute → (alone : Bool) → Tag
 tag_of local found alone = record { name = record { prefix = []; local = local }; attributes = found; alone = alone }
 
-abbrev pub start_text : List ℕ → List Attribute → (alone : Bool) → List ℕ
-start_text local found alone = local ++ (attributes_text found ++ tag_end alone)
-
 start_is : (local : List ℕ) (found : List Attribute) (alone : Bool) (rest : List ℕ) → is_name local ≡ true → AreFree found
     → start (60 ∷ (local ++ (attributes_text found ++ (tag_end alone ++ rest)))) ≡ Some (tag_of local found alone, rest)
 unfolding start

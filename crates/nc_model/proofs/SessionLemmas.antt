@@ -30,10 +30,6 @@ pub more_among : (sessions more : List Session) (n : ℕ) → is_among sessions 
 more_among sessions more n live =
     list_any-append (λ (x : Session). x.number == n) sessions more ∙ ap (λ b. b || list_any (λ (x : Session). x.number == n) more) live
 
--- a number is that one, or another
-pub same_or_not : (a b : ℕ) → (((a == b) ≡ true) × (a ≡ b)) ⊎ (((a == b) ≡ false) × (a ≢ b))
-same_or_not a b = eqb_tells a b
-
 pub not_same : (a b : ℕ) → a ≢ b → not (a == b) ≡ true
 not_same a b differs = by (eqb_tells a b)
   where
@@ -44,10 +40,6 @@ not_same a b differs = by (eqb_tells a b)
 pub is_false_not : (b : Bool) → not b ≡ false → b ≡ true
 is_false_not true e = refl
 is_false_not false e = cc
-
-pub clashing : {X : Type 0} (b : Bool) → b ≡ true → b ≡ false → X
-clashing true holds fails = cc
-clashing false holds fails = cc
 
 -- ---- checks
 

@@ -1,5 +1,5 @@
 -- The set of a user's groups, with one name more.
-use Rattle.std.proofs.Common.{◌≡◌, ◌+◌, ◌<◌, ◌||◌, ℕ, Bool, true, false, cond, List, [], ◌∷◌, ◌++◌, length, take, get_or, refl, sym, ap, ◌∙◌}
+use Rattle.std.proofs.Common.{◌≡◌, ◌+◌, ◌<◌, ◌||◌, ℕ, Bool, true, false, List, [], ◌∷◌, ◌++◌, length, take, get_or, refl, sym, ap, ◌∙◌}
 use Rattle.std.proofs.lemmas.List.{take_more}
 use Rattle.std.proofs.lemmas.Map.Text.{is_eq-slice_cmp}
 use Rattle.std.proofs.lemmas.List.Folds.{list_any-append}
@@ -16,16 +16,6 @@ use Rattle.nc_nacm.specs.inner.Own.{HasOwn, has}
 
 pub text_ties : (a b : List ℕ) → is_eq (slice_cmp nat_cmp a b) ≡ is_same_text a b
 text_ties a b = is_eq-slice_cmp a b
-
-cond_or : (a b : Bool) → cond a true b ≡ (b || a)
-cond_or true true = refl
-cond_or true false = refl
-cond_or false true = refl
-cond_or false false = refl
-
--- what is found at a text once a name was put into a set
-pub put_name : (name other : List ℕ) (was now : Bool) → now ≡ cond (is_eq (slice_cmp nat_cmp name other)) true was → now ≡ (was || is_same_text name other)
-put_name name other was now is = is ∙ ap (λ b. cond b true was) (text_ties name other) ∙ cond_or (is_same_text name other) was
 
 or_again : (a b : Bool) → (a || (b || false)) ≡ (a || b)
 or_again a true = refl

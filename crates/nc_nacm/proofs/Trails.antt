@@ -26,10 +26,6 @@ take_beginnings (suc n) (step ∷ rest) =
     ap (λ more. (step ∷ []) ∷ map (λ above. step ∷ above) more) (take_beginnings n rest)
     ∙ ap (λ more. (step ∷ []) ∷ more) (sym (take_map (λ above. step ∷ above) n (beginnings rest)))
 
-and_left : (a b : Bool) → (a && b) ≡ true → a ≡ true
-and_left true b e = refl
-and_left false b e = e
-
 and_both : (a b c : Bool) → (b ≡ true → c ≡ true) → (a && b) ≡ true → (a && c) ≡ true
 and_both true b c go e = go e
 and_both false b c go e = e

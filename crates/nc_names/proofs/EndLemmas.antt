@@ -84,10 +84,6 @@ kept p text (suc k) within e =
     let whole : take (suc k) text ≡ take k text ++ (get_or text k 0 ∷ []) = take-suc text k 0 (omega (arith, within)) in
     ap (without_last p) whole ∙ keeps_last p (take k text) (get_or text k 0) e ∙ sym whole
 
-pub not_first : (p : ℕ → Bool) (text : List ℕ) (end : ℕ) → last_passes p text end ≡ true → 0 < end
-not_first p text zero e = cc
-not_first p text (suc k) e = omega arith
-
 -- a text is cut before ASCII
 pub cut_before : (p : ℕ → Bool) (text : List ℕ) (end : ℕ) → ((c : ℕ) → p c ≡ true → c < 128) → end ≤ length text →
     last_passes p text end ≡ true → IsCharBoundary text (end - 1)

@@ -1,6 +1,6 @@
 -- Known bytes that grow at their end, or are taken from their front, several times.
-use Rattle.std.proofs.Common.{◌≡◌, ℕ, List, [], ◌++◌, Option, None, Some, IfSome, refl, sym, ap, subst, ◌∙◌, append_assoc, append-nil}
-use Rattle.std.specs.Io.KnownBytes.{append_known, prepend_known, IsAtEnd}
+use Rattle.std.proofs.Common.{◌≡◌, ℕ, List, [], ◌++◌, Option, None, Some, refl, sym, ap, subst, ◌∙◌, append_assoc, append-nil}
+use Rattle.std.specs.Io.KnownBytes.{append_known, prepend_known}
 use Rattle.nc_outside.specs.Causes.{TookPart}
 
 pub append_twice : (known : Option (List ℕ)) (xs ys : List ℕ) → append_known (append_known known xs) ys ≡ append_known known (xs ++ ys)
@@ -18,12 +18,6 @@ prepend_twice (Some known) xs ys = ap Some (sym (append_assoc xs ys known))
 pub prepend_nothing : (known : Option (List ℕ)) → prepend_known [] known ≡ known
 prepend_nothing None = refl
 prepend_nothing (Some known) = refl
-
--- what was given until the end is all that was left
-pub given_whole : (before now : Option (List ℕ)) (xs : List ℕ) → before ≡ prepend_known xs now → IsAtEnd now → IfSome before (λ all. all ≡ xs)
-given_whole before None xs given end = subst (λ b. IfSome b (λ all. all ≡ xs)) (sym given) tt
-given_whole before (Some rest) xs given end =
-    subst (λ b. IfSome b (λ all. all ≡ xs)) (sym given) (ap (λ l. xs ++ l) end ∙ append-nil xs)
 
 -- nothing was taken
 pub took_nothing : (before : Option (List ℕ)) (bytes : List ℕ) → TookPart before before bytes

@@ -1,6 +1,6 @@
 -- How stretches of calls of a disk go on.
 use Rattle.std.proofs.Common.{◌≡◌, ◌⊎◌, inl, inr, ⊎_elim, ℕ, ◌+◌, ◌≤◌, max, List, length, take, drop, refl, sym, subst, arith}
-use Rattle.nc_outside.specs.Disks.{Torn, CutTo, Same, Then, After, Follows, Within, Elapses, LeavesOnly, Passes}
+use Rattle.nc_outside.specs.Disks.{Torn, Same, Then, After, Follows, Within, Elapses, LeavesOnly, Passes}
 
 -- a step that may as well do nothing
 abbrev pub IsReflexive : (List ℕ → List ℕ → Type 0) → Type 0
@@ -8,9 +8,6 @@ IsReflexive step = (c : List ℕ) → step c c
 
 pub torn_reflexive : (place n : ℕ) → IsReflexive (Torn place n)
 torn_reflexive place n c = record { before = refl; after = refl; no_shorter = omega arith; no_longer = omega arith }
-
-pub cut_reflexive : (size : ℕ) → IsReflexive (CutTo size)
-cut_reflexive size c = inl refl
 
 module _ {D : Type 0} (may_leave : D → List ℕ → Type 0) (moment : D → ℕ) (left_since : D → ℕ → List ℕ → Type 0)
     (only_now : (disk : D) (c : List ℕ) → left_since disk (moment disk) c → may_leave disk c) where

@@ -1,5 +1,5 @@
 -- What a session is told that asks for nodes.
-use Rattle.std.proofs.Common.{◌≡◌, ◌==◌, ◌+◌, ◌<◌, ℕ, Bool, true, false, List, length, refl, sym, ap, ◌∙◌, arith, eq-eqb, eqb-true, Option, None, Some}
+use Rattle.std.proofs.Common.{◌≡◌, ◌==◌, ◌+◌, ℕ, Bool, true, false, List, length, refl, sym, ap, ◌∙◌, eq-eqb, eqb-true, Option, None, Some}
 use Rattle.std.specs.Prelude.{Ok, Err, option_map}
 use Rattle.nc_names.specs.declared.path.Path.{Path}
 use Rattle.nc_model.specs.State.{NodeLock, last_lock_id, locks_of, locks_some, most_locks}
@@ -19,13 +19,6 @@ not_equal a b differ = by (a == b) refl
     by : (c : Bool) → (a == b) ≡ c → (a == b) ≡ false
     by true e = absurd (differ (eqb-true a b e))
     by false e = e
-
--- the lock-id that is told is higher than the last
-pub told_above : (found : Option NodeLock) (many spent : Bool) (last id : ℕ) → Ok id ≡ told_of found many spent last → last < id
-told_above (Some lock) many spent last id e = absurd (cc)
-told_above None true spent last id e = absurd (cc)
-told_above None false true last id e = absurd (cc)
-told_above None false false last id e = let is : id ≡ last + 1 = cc in omega (arith, is)
 
 taken : (found : Option NodeLock) (covered : Covered) (many spent : Bool) (last : ℕ) → Some covered ≡ option_map covered_of found → Err (Taken covered) ≡ told_of found many spent last
 taken None covered many spent last e = absurd (cc)

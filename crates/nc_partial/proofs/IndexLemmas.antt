@@ -7,10 +7,9 @@ use Rattle.std.specs.declared.cmp.Ordering.{Ordering}
 use Rattle.std.specs.declared.cmp.Ordering.TheVariants.{Less, Equal, Greater}
 use Rattle.std.proofs.lemmas.Bool.{cases_order}
 use Rattle.std.proofs.lemmas.List.Edits.{get_or-insert_above, get_or-insert_at, get_or-insert_below, length-insert}
-use Rattle.std.proofs.lemmas.List.Elements.{All-filter, All-push, All-weaker}
+use Rattle.std.proofs.lemmas.List.Elements.{All-filter}
 use Rattle.std.proofs.lemmas.List.Folds.{list_any-append}
 use Rattle.std.proofs.lemmas.List.Kept.{AllPairs-filter, IsSortedBy-filter}
-use Rattle.std.proofs.lemmas.List.Quantifiers.{all_pairs_push}
 use Rattle.std.proofs.lemmas.List.Sorted.{IsPermutation-insert, list_any-IsPermutation, ranks_by}
 use Rattle.nc_names.specs.declared.path.Path.{Path}
 use Rattle.nc_model.specs.State.{NodeLock}
@@ -22,13 +21,6 @@ use Rattle.nc_partial.proofs.FoundLemmas.{any_flat, any_map}
 use Rattle.nc_partial.proofs.OrderLemmas.{steps_total}
 
 -- ---- none
-pub none_indexed : IsIndexed [] 0 []
-none_indexed = record {
-  rise = λ i j d less within. absurd (omega (arith, within));
-  given = λ k d within. absurd (omega (arith, within));
-  order = λ k d low within. absurd (omega (arith, within));
-  holds = λ test. refl;
-}
 
 -- ---- a lock more
 -- what is sorted by steps, lock-id and session is sorted by steps
@@ -122,17 +114,6 @@ one_more test locks lock =
     (λ i. any_flat test entries_of locks i || sym (or_false (list_any test (entries_of lock))) i)
     ∙ sym (list_any-append (λ one. list_any test (entries_of one)) locks (lock ∷ []))
     ∙ sym (any_flat test entries_of (locks ++ lock ∷ []))
-
-pub added_indexed : (locks : List NodeLock) (last : ℕ) (index new : List Entry) (lock : NodeLock) → IsIndexed locks last index → last < lock.id →
-    IsAscending new → Adds (entries_of lock) index new → IsIndexed (locks ++ lock ∷ []) lock.id new
-added_indexed locks last index new lock indexed above order adds = record {
-  rise = all_pairs_push (λ one later. one.id < later.id) locks lock indexed.rise
-      (λ k d within. let low : (get_or locks k d).id ≤ last = indexed.given k d within in omega (arith, low, above));
-  given = All-push (λ one. one.id ≤ lock.id) locks lock
-      (All-weaker (λ one. one.id ≤ last) (λ one. one.id ≤ lock.id) (λ one low. omega (arith, low, above)) locks indexed.given) (omega arith);
-  order = order;
-  holds = λ test. adds test ∙ ap (λ b. b || list_any test (entries_of lock)) (indexed.holds test) ∙ one_more test locks lock;
-}
 
 -- ---- without some
 any_filter : {X : Type 0} (test keep : X → Bool) (xs : List X) → list_any test (filter keep xs) ≡ list_any (λ x. keep x && test x) xs

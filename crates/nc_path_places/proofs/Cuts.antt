@@ -33,9 +33,6 @@ halts_on L M text mid left one two = record {
       (subst L (append_assoc one.chunk two.front (c ∷ next)) holds));
 }
 
-pub leads_none : (L : List ℕ → Type 0) (text : List ℕ) → Leads L L text text
-leads_none L text = record { chunk = []; is = refl; into = λ next holds. holds; back = λ next e holds. holds }
-
 -- at the text itself
 pub halts_here : (L : List ℕ → Type 0) (text more : List ℕ) → L more → ((c : ℕ) (cs next : List ℕ) → text ≡ c ∷ cs → L (c ∷ next) → ⊥) → Halts L text (length text)
 halts_here L text more holds none = record { front = []; rest = text; is = refl; long = refl; more = more; before = holds; there = none }
@@ -51,9 +48,6 @@ sign_is wanted (c ∷ cs) rest e = by (eqb c wanted) refl e
 
 pub sign_of : (wanted : ℕ) (rest : List ℕ) → sign wanted (wanted ∷ rest) ≡ Some rest
 sign_of wanted rest = rw ((Decides-eqb wanted wanted).1 refl) refl
-
-pub sign_again : (wanted : ℕ) (rest after : List ℕ) → sign wanted (wanted ∷ rest) ≡ Some after → rest ≡ after
-sign_again wanted rest after e = let both = sym (sign_of wanted rest) ∙ e in cc
 
 -- ---- white space
 lead_step : (b : Bool) (c : ℕ) (cs front rest : List ℕ) → front ++ rest ≡ cs → cond b (c ∷ front) [] ++ cond b rest (c ∷ cs) ≡ c ∷ cs

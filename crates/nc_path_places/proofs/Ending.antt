@@ -31,10 +31,6 @@ not_empty : (front more : List ℕ) → 0 < length front → front ++ more ≢ [
 not_empty [] more less e = omega (arith, less)
 not_empty (c ∷ front) more less e = cc
 
-not_empty_there : (front : List ℕ) (c : ℕ) (more : List ℕ) → front ++ c ∷ more ≢ []
-not_empty_there [] c more e = cc
-not_empty_there (d ∷ front) c more e = cc
-
 -- ---- a text that passes is one that goes on so
 module _ (passes : List ℕ → Bool) (L : List ℕ → Type 0) (text : List ℕ) (left : ℕ) (halts : Halts L text left)
     (of : (t : List ℕ) → t ≢ [] → L t → passes t ≡ true)

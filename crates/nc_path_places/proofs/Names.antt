@@ -141,11 +141,6 @@ abbrev pub In : {X : Type 0} → X → List X → Type 0
 In x [] = ⊥
 In x (y ∷ ys) = (y ≡ x) ⊎ In x ys
 
-pub all_in : {X : Type 0} (p : X → Bool) (xs : List X) (x : X) → list_all p xs ≡ true → In x xs → p x ≡ true
-all_in p [] x e at = absurd at
-all_in p (y ∷ ys) x e (inl same) = ap p (sym same) ∙ first_true (p y) (list_all p ys) e
-all_in p (y ∷ ys) x e (inr at) = all_in p ys x (second_true (p y) (list_all p ys) e) at
-
 any_step : {X : Type 0} (p : X → Bool) (y : X) (ys : List X) (b : Bool) → p y ≡ b → (list_any p ys ≡ true → (x : X) × In x ys × (p x ≡ true)) → (b || list_any p ys) ≡ true → (x : X) × In x (y ∷ ys) × (p x ≡ true)
 any_step p y ys true here further e = (y, inl refl, here)
 any_step p y ys false here further e = let found = further e in (found.0, inr found.1, found.2)

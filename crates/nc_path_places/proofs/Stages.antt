@@ -13,7 +13,7 @@ use Rattle.nc_schema.specs.declared.written.WrittenName.{WrittenName}
 use Rattle.nc_path_places.specs.inner.Halting.{Leads, Halts, first_sign}
 use Rattle.nc_path_places.specs.inner.Going.{Reading, Signed, Valued, Keyed, key_named, without}
 use Rattle.nc_path_places.specs.inner.Candidates.{is_giveable, is_nameable, is_named, farthest, key_first, is_marked, value_left}
-use Rattle.nc_path_places.proofs.Cuts.{Stops, past_more, past_none, past_stops, same_stops, same_first, sign_is, sign_of, sign_again, white_first}
+use Rattle.nc_path_places.proofs.Cuts.{Stops, past_more, past_none, past_stops, same_stops, same_first, sign_is, white_first}
 use Rattle.nc_path_places.proofs.Names.{In, Ends, map_some, wording, name_reads, name_cut, any_in}
 use Rattle.nc_path_places.proofs.Naming.{find_passes, CanBeWritten, StopsName, stops_name, nameable_is_written}
 
@@ -62,14 +62,6 @@ first_clash s number left text found key reads named missing =
 -- ---- a sign that stands first
 abbrev pub Plain : ℕ → (List ℕ → Type 0) → List ℕ → Type 0
 Plain wanted K text = (after : List ℕ) × (sign wanted text ≡ Some after) × K after
-
-pub plain_leads : (wanted : ℕ) (K : List ℕ → Type 0) (text rest : List ℕ) → sign wanted text ≡ Some rest → Leads (Plain wanted K) K text rest
-plain_leads wanted K text rest e = record {
-  chunk = wanted ∷ [];
-  is = sign_is wanted text rest e;
-  into = λ next holds. (next, sign_of wanted next, holds);
-  back = λ next f holds. subst K (sym (sign_again wanted next holds.0 holds.1)) holds.2;
-}
 
 -- ---- values
 abbrev PutFirst : ℕ → Option (List ℕ × List ℕ) → Option (List ℕ × List ℕ)

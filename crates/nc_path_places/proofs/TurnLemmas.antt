@@ -18,10 +18,6 @@ use Rattle.nc_path_places.proofs.Naming.{same_text}
 abbrev dots : List ℕ
 dots = dot ∷ dot ∷ []
 
-bool_is : (b : Bool) → (b ≡ true) ⊎ (b ≡ false)
-bool_is true = inl refl
-bool_is false = inr refl
-
 module _ (s : Reading) (own : List ℕ) where
   -- `..` is no name
   no_name : leafref_name s.tables own s.bounds dots ≡ None

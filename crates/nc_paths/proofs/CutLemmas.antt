@@ -6,7 +6,7 @@ use Rattle.std.proofs.lemmas.Bool.Decides.{nat_tests}
 use Rattle.std.proofs.lemmas.Str.{IsCharBoundary-after_ascii}
 use Rattle.nc_names.specs.Ends.{past}
 use Rattle.nc_names.specs.Signs.{is_in_identifier}
-use Rattle.nc_schema.specs.PathWords.{leading, up_to, begins_name, begins_with, identifier, sign}
+use Rattle.nc_schema.specs.PathWords.{leading, up_to, begins_name, begins_with, identifier}
 
 pub name_low : (c : ℕ) → is_in_identifier c ≡ true → c < 128
 name_low c h = grind (arith, nat_tests)
@@ -31,14 +31,6 @@ pub cut_first : (byte : ℕ) (text bytes : List ℕ) → byte < 128 → begins_w
 cut_first byte [] bytes low first same utf = cc
 cut_first byte (c ∷ cs) bytes low first same utf =
     IsCharBoundary-after_ascii (c ∷ cs) 0 (subst IsUtf8 same utf) (omega arith) (grind (arith, nat_tests))
-
-pub sign_there : (byte : ℕ) (text rest : List ℕ) → begins_with byte text ≡ true → rest ≡ drop 1 text → sign byte text ≡ Some rest
-sign_there byte [] rest first cut = cc
-sign_there byte (c ∷ cs) rest first cut = rw first (ap Some (sym cut))
-
-pub sign_missing : (byte : ℕ) (text : List ℕ) → begins_with byte text ≡ false → sign byte text ≡ None
-sign_missing byte [] first = refl
-sign_missing byte (c ∷ cs) first = rw first refl
 
 -- ---- up to a mark
 abbrev put_first : ℕ → Option (List ℕ × List ℕ) → Option (List ℕ × List ℕ)

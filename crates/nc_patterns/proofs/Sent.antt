@@ -22,9 +22,6 @@ use Rattle.regex_literal.proofs.prefilter.Prefilter.TheSendSync as Prefilter_
 pub plan_send : IsSend Plan.the_row
 plan_send = search (send-Hir, Prefilter_.the_send, Frame_.the_send, sendable, crosses) depth 100 fits 5000
 
-pub plans_send : IsSend Plans.the_row
-plans_send = search (plan_send, sendable, crosses) depth 100 fits 8000
-
 pub signs_send : IsSend Signs.the_row
 signs_send = search (send-Hir, Caseless_.the_send, sendable, crosses) depth 100 fits 8000
 
@@ -49,17 +46,11 @@ pattern_field_send = search (pattern_parts_send, sendable) depth 10
 pub regex_parts_send : AllSend (denote.Struct.Field.rows (Regex.the_type).parts)
 regex_parts_send = (pattern_field_send, tt)
 
-pub regex_send : IsSend Regex.the_row
-regex_send = search (regex_parts_send, sendable) depth 10
-
 pub regex_field_send : IsSend (Regex.the_field).row
 regex_field_send = search (regex_parts_send, sendable) depth 10
 
 pub plan_sync : IsSync Plan.the_row
 plan_sync = search (sync-Hir, Prefilter_.the_sync, Frame_.the_sync, sendable, crosses) depth 100 fits 5000
-
-pub plans_sync : IsSync Plans.the_row
-plans_sync = search (plan_sync, sendable, crosses) depth 100 fits 8000
 
 pub signs_sync : IsSync Signs.the_row
 signs_sync = search (sync-Hir, Caseless_.the_sync, sendable, crosses) depth 100 fits 8000
@@ -84,9 +75,6 @@ pattern_field_sync = search (pattern_parts_sync, sendable) depth 10
 
 pub regex_parts_sync : AllSync (denote.Struct.Field.rows (Regex.the_type).parts)
 regex_parts_sync = (pattern_field_sync, tt)
-
-pub regex_sync : IsSync Regex.the_row
-regex_sync = search (regex_parts_sync, sendable) depth 10
 
 pub regex_field_sync : IsSync (Regex.the_field).row
 regex_field_sync = search (regex_parts_sync, sendable) depth 10

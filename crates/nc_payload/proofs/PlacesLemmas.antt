@@ -222,10 +222,6 @@ element_adds reading above parent elem it steps before mid after is ends there a
     (subst (λ (s : List Step). AddsPlaces before after (s ∷ rest)) (sym found.1)
     (element_added before mid after above found.0 rest there (subst (AddsPlace before mid) found.1 added) more))
 
-pub child_adds : (reading : Reading) (above : List Step) (parent : Option ℕ) (elem : Elem) (before after : Places) → AddsPlaces before after (inside_places reading above parent elem) →
-    AddsPlaces before after (part_places reading above parent (Child elem))
-child_adds reading above parent elem before after added = subst (AddsPlaces before after) (sym (child_is_place reading above parent elem)) added
-
 -- ---- the parts of an element, one after another
 flat_map_push : (f : Part → List (List Step)) (xs : List Part) (x : Part) → flat_map f (xs ++ x ∷ []) ≡ flat_map f xs ++ f x
 flat_map_push f [] x = append-nil (f x)
@@ -244,8 +240,3 @@ ok_more (Ok it) P Q more holds = more it holds
 ok_more (Err fault) P Q more holds = holds
 
 -- ---- the places of a whole payload
-pub no_root_above : (places : Places) → HasAbove places []
-no_root_above places first rest is = absurd (let clash : false ≡ true = is in cc)
-
-pub all_added : (before after : Places) (list : List (List Step)) → ((key : List Step) → has before key ≡ false) → AddsPlaces before after list → (path : Path) → has after path.steps ≡ is_above_any list path.steps
-all_added before after list none added path = added path.steps ∙ ap (λ b. b || is_above_any list path.steps) (none path.steps)

@@ -11,7 +11,7 @@ use Rattle.nc_protocol.specs.declared.position.Position.{Position}
 use Rattle.nc_payload.specs.declared.own.Found.{Found}
 use Rattle.nc_payload.specs.declared.payload.PayloadFault.{PayloadFault}
 use Rattle.nc_payload.specs.declared.payload.PayloadFault.TheVariants.{Bad, Memory}
-use Rattle.nc_protocol.specs.Payload.{part_edits, list_edits, elem_edits, with_more, made}
+use Rattle.nc_protocol.specs.Payload.{part_edits, list_edits, elem_edits, with_more}
 use Rattle.nc_protocol.specs.Faults.{inside}
 use Rattle.nc_payload.specs.inner.Reads.{Answers, Owns}
 use Rattle.nc_protocol.specs.Elements.{Reading, with_step}
@@ -23,12 +23,6 @@ answers_ok (Err cause) it none = absurd none
 pub answers_is : {A : Type 0} (defined : Result A Cause) (it : A) → defined ≡ Ok it → Answers defined (Ok it)
 answers_is defined it same = rw same refl
 
--- an element that is no data node, or has a fault of its own
-pub elem_own : (reading : Reading) (at : Position) (earlier : List Step) (e : Elem) (fault : PayloadFault) →
-    Owns reading at earlier e (Err fault) → Answers (elem_edits reading at earlier e) (Err fault)
-elem_own reading at earlier e (Bad cause) own = rw own refl
-elem_own reading at earlier e Memory own = tt
-
 -- an element among whose children there is a fault
 pub elem_below : (reading : Reading) (at : Position) (earlier : List Step) (e : Elem) (found : Found) (fault : PayloadFault) →
     Owns reading at earlier e (Ok found) → Answers (list_edits reading found.within [] e.parts) (Err fault) → Answers (elem_edits reading at earlier e) (Err fault)
@@ -36,15 +30,6 @@ elem_below reading at earlier e found (Bad cause) is below =
     let same : list_edits reading (inside reading at is.0) [] e.parts ≡ Err cause = subst (λ within. list_edits reading within [] e.parts ≡ Err cause) is.2.within below in
     rw (is.1, is.2.has_no_fault, same) refl
 elem_below reading at earlier e found Memory is below = tt
-
--- an element without a fault
-pub elem_made : (reading : Reading) (at : Position) (earlier : List Step) (e : Elem) (found : Found) (below : List Edit) →
-    Owns reading at earlier e (Ok found) → Answers (list_edits reading found.within [] e.parts) (Ok below) →
-    elem_edits reading at earlier e ≡ Ok (made reading.tables at.under found.operation found.merge found.place below)
-elem_made reading at earlier e found below is answered =
-    let read : list_edits reading found.within [] e.parts ≡ Ok below = answers_ok (list_edits reading found.within [] e.parts) below answered in
-    let same : list_edits reading (inside reading at is.0) [] e.parts ≡ Ok below = subst (λ within. list_edits reading within [] e.parts ≡ Ok below) is.2.within read in
-    rw (is.2.operation, is.2.merge, is.2.place, is.1, is.2.has_no_fault, same) refl
 
 -- one part more
 pub more_edits : (edits piece : List Edit) (part more : Result (List Edit) Cause) → part ≡ Ok piece →

@@ -291,9 +291,6 @@ in_name_joined c e = by (is_in_identifier c) e
     by true f = refl
     by false f = let clash : false ≡ true = f in cc
 
-colon_joined : not (is_apart colon) ≡ true
-colon_joined = refl
-
 prefix_joined : (prefix : List ℕ) → IsPrefix prefix → list_all (λ c. not (is_apart c)) (prefix ++ colon ∷ []) ≡ true
 prefix_joined [] e = refl
 prefix_joined (c ∷ cs) e = (λ i. in_name_joined c (left_true (is_in_identifier c) (list_all is_in_identifier cs) e) i && prefix_joined cs (right_true (is_in_identifier c) (list_all is_in_identifier cs) e) i)

@@ -109,7 +109,3 @@ no_white [] none = refl
 no_white (c ∷ cs) none =
     let first : is_white c ≡ false = not_true (is_white c) (left_true (not (is_white c)) (list_all (λ d. not (is_white d)) cs) none) in
     ap (without_last is_white) (begins_past is_white (c ∷ cs) first) ∙ kept_whole (c ∷ cs) none
-
-pub ends_kept : (c : ℕ) (text : List ℕ) (last : ℕ) → is_white c ≡ false → is_white last ≡ false → IsTrimmed (c ∷ (text ++ last ∷ []))
-ends_kept c text last first ends =
-    ap (without_last is_white) (begins_past is_white (c ∷ (text ++ last ∷ [])) first) ∙ kept_end (c ∷ text) last ends

@@ -3,7 +3,6 @@ use Rattle.std.proofs.Common.{◌≡◌, ◌≢◌, ◌||◌, ◌+◌, ◌-◌, 
 use Rattle.std.specs.Prelude.{Option, Result, slice_get}
 use Rattle.std.specs.List.{flat_map}
 use Rattle.std.specs.Option.{option_map_or}
-use Rattle.std.proofs.Math.Seq.{take-append_seam}
 use Rattle.std.proofs.lemmas.Grind.{flat_map-append}
 use Rattle.std.proofs.lemmas.List.{length-append}
 use Rattle.nc_names.specs.Appending.{Appends, Extends}
@@ -12,7 +11,6 @@ use Rattle.nc_names.specs.declared.name.QName.{QName}
 use Rattle.nc_names.specs.declared.path.Row.{Row}
 use Rattle.nc_names.specs.declared.path.Step.{Step}
 use Rattle.nc_names.proofs.Extending.{extends_more}
-use Rattle.nc_message.specs.Marks.{empty_end}
 use Rattle.nc_message.specs.Written.{end_of, start_tag, use_of, written, written_part}
 use Rattle.nc_message.specs.declared.tree.Part.{Part}
 use Rattle.nc_message.specs.declared.tree.Part.TheVariants.{Child}
@@ -47,50 +45,6 @@ extends_on {start} {out} more grown e = record {
   more = grown.more ++ more;
   is = e ∙ ap (λ x. x ++ more) grown.is ∙ append_assoc start grown.more more;
 }
-
-no_length : (xs : List ℕ) → length xs ≡ 0 → xs ≡ []
-no_length [] e = refl
-no_length (x ∷ xs) e = absurd (omega arith)
-
--- nothing was appended since the start tag was ended, so it is ended as that of an empty element
-pub ended_bare : {T E : Type 0} (result : Result T E) (old new : List ℕ) (name : QName) (inside : ℕ) → length old ≡ inside →
-    Appends result (take (inside - 1) old) new empty_end →
-    (before inner : List ℕ) → old ≡ before ++ greater_than ∷ inner → inside ≡ length before + 1 + 0 →
-    Appends result before new (ending name None inner)
-ended_bare result old new name inside whole is before inner old_is inside_is =
-    let whole_is : length old ≡ length before + suc (length inner) =
-    ap length old_is ∙ length-append before (greater_than ∷ inner) in
-    let none : inner ≡ [] = no_length inner (omega arith) in
-    let at : inside - 1 ≡ length before = omega arith in
-    let taken : take (inside - 1) old ≡ before =
-    ap (λ n. take n old) at ∙ ap (take (length before)) old_is ∙ take-append_seam before (greater_than ∷ inner) in
-    subst (λ i. Appends result before new (ending name None i)) (sym none)
-    (subst (λ b. Appends result b new empty_end) taken is)
-
-bare_not : (inner : List ℕ) → inner ≢ [] → (name : QName) →
-    ending name None inner ≡ (greater_than ∷ inner) ++ end_of name
-bare_not [] some name = absurd (some refl)
-bare_not (c ∷ inner) some name = refl
-
--- something was
-pub ended_whole : {T E : Type 0} (result : Result T E) (old new : List ℕ) (name : QName) (inside : ℕ) → length old ≢ inside →
-    Appends result old new (end_of name) →
-    (before inner : List ℕ) → old ≡ before ++ greater_than ∷ inner → inside ≡ length before + 1 + 0 →
-    Appends result before new (ending name None inner)
-ended_whole result old new name inside whole is before inner old_is inside_is =
-    let whole_is : length old ≡ length before + suc (length inner) =
-    ap length old_is ∙ length-append before (greater_than ∷ inner) in
-    let some : inner ≢ [] = λ e. whole (whole_is ∙ ap (λ i. length before + suc (length i)) e ∙ omega arith) in
-    appends_as result before new ((greater_than ∷ inner) ++ end_of name) (ending name None inner)
-    (sym (bare_not inner some name)) (appends_more result old new before (greater_than ∷ inner) (end_of name) old_is is)
-
--- one with text
-pub ended_text : {T E : Type 0} (result : Result T E) (old new : List ℕ) (name : QName) (text : List ℕ) (inside : ℕ) →
-    Appends result old new (end_of name) →
-    (before inner : List ℕ) → old ≡ before ++ greater_than ∷ (chars_of (Some text) ++ inner) →
-    inside ≡ length before + 1 + length (chars_of (Some text)) → Appends result before new (ending name (Some text) inner)
-ended_text result old new name text inside is before inner old_is inside_is =
-    appends_more result old new before (greater_than ∷ (chars_of (Some text) ++ inner)) (end_of name) old_is is
 
 -- the text of the next run
 pub text_step : (space : List ℕ) (f : List Row → List Part) (goes : Row → Row → Bool) (rows first rest : List Row)

@@ -49,15 +49,6 @@ further_more course base other asked more group rest i = record {
   entries = append_assoc course.entries group rest i;
 }
 
-further_group : (course : Course) (base : Base) (asked : List Request) (group : List Entry)
-    → further course base asked group ≡ further course base asked (group ++ [])
-further_group course base asked group i = record {
-  bytes = course.bytes;
-  base = base;
-  requests = course.requests ++ asked;
-  entries = course.entries ++ sym (append-nil group) i;
-}
-
 are_more : (session : ℕ) (asked more : List Request) (xs ys : List Entry) → AreOf session asked xs → AreOf session more ys
     → AreOf session (asked ++ more) (xs ++ ys)
 are_more session asked more xs ys first second =

@@ -153,13 +153,6 @@ meet_none U V phase base bytes given is gives at =
     let both = gives Marks 0 bytes awaits.1 in
     (subst (λ (p : Phase). IsIn V p base bytes given) (sym is) (awaits.0, both.0), Unmet awaits.0 both.1)
 
-pub meet_memory : (U V : Mode → ℕ → List ℕ → Type 0) (phase : Phase) (base : Base) (bytes : List ℕ) (given : List Request) → phase ≡ Greeting
-    → ((mode : Mode) (first : ℕ) (b : List ℕ) → U mode first b → V mode first b)
-    → IsIn U phase base bytes given → IsIn V phase base bytes given
-meet_memory U V phase base bytes given is keeps at =
-    let awaits = greeting_in U phase base bytes given is at in
-    subst (λ (p : Phase). IsIn V p base bytes given) (sym is) (awaits.0, keeps Marks 0 bytes awaits.1)
-
 pub meet_stop : (U : Mode → ℕ → List ℕ → Type 0) (phase : Phase) (base : Base) (bytes : List ℕ) (given : List Request) (end : SessionEnd) → phase ≡ Greeting
     → (U Marks 0 bytes → StopsAtHello bytes end) → IsIn U phase base bytes given → AsksAll base bytes given (Some end)
 meet_stop U phase base bytes given end is stops at =

@@ -103,9 +103,3 @@ none_last_record tables initial bodies none = by (ends bodies)
     by : Ends bodies → (front : List (List ℕ)) × (body : List ℕ) × (bodies ≡ front ++ body ∷ []) × ((rows : List Row) → ¬ IsValidRecord tables body rows)
     by (inl e) = absurd (none initial (no_record e refl))
     by (inr (front, body, e)) = (front, body, e, λ rows it. none rows (last_record front body e it))
-
--- the configuration that is begun with is valid
-pub base_valid : (tables : Tables) (initial : List Row) (bodies : List (List ℕ)) (rows : List Row) → IsConfiguration tables initial → IsValid tables initial → IsBase tables initial bodies rows
-    → IsConfiguration tables rows × IsValid tables rows
-base_valid tables initial bodies rows configuration valid (no_record none same) = (subst (IsConfiguration tables) (sym same) configuration, subst (IsValid tables) (sym same) valid)
-base_valid tables initial bodies rows configuration valid (last_record earlier body is it) = (it.read.spells.configuration, it.valid)

@@ -52,11 +52,6 @@ pub union_none : (whole : Option (List ℕ)) (gives : List Bound → Gives) (nam
 union_none whole gives names bounds members text i e past =
     e ∙ ap (λ ms. union_text gives names bounds (take i members) ms text) (nothing_left members i past)
 
--- members that do not admit the text
-pub none_at_start : (p : ℕ → Bool) (members : List ℕ) → list_all p (take 0 members) ≡ true
-none_at_start p [] = refl
-none_at_start p (member ∷ members) = refl
-
 all_step : (b r s : Bool) → (r ≡ true → s ≡ true) → (b && r) ≡ true → (b && s) ≡ true
 all_step true r s go e = go e
 all_step false r s go e = e

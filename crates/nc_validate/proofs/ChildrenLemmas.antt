@@ -19,7 +19,6 @@ use Rattle.nc_schema.specs.declared.node.Case.{Case}
 use Rattle.nc_schema.specs.declared.node.Kind.{Kind}
 use Rattle.nc_schema.specs.declared.node.Kind.TheVariants.{Container, Leaf, LeafList, List as ListKind}
 use Rattle.nc_schema.specs.declared.node.Node.{Node}
-use Rattle.nc_schema.specs.declared.violation.Violation.{Violation}
 use Rattle.nc_validate.specs.inner.Children.{begun_choices, begun_violations, choice_lacks, count_fault, count_violations, uniques_of}
 use Rattle.nc_validate.specs.inner.First.{first}
 use Rattle.nc_validate.proofs.FirstLemmas.{first_get, flat_filter}
@@ -70,12 +69,6 @@ pub begun_before : (tables : Tables) (place : Place) (number choice : ℕ) → i
     None ≡ first (begun_violations tables place number choice)
 begun_before tables place number choice before =
     ap (λ b. first (if b then [] else choice_violations tables place choice)) (sym before)
-
-pub begun_lacks : (tables : Tables) (place : Place) (number choice : ℕ) (found : Violation) → choice_lacks tables place choice ≡ true → is_choice_before tables number choice ≡ false →
-    found ≡ record { kind = MandatoryChoice; path = record { steps = place.steps } } → Some found ≡ first (begun_violations tables place number choice)
-begun_lacks tables place number choice found lacks before is =
-    ap (λ v. Some v) is ∙ ap (λ b. first (violated b MandatoryChoice place.steps)) (sym lacks)
-    ∙ ap (λ b. first (if b then [] else choice_violations tables place choice)) (sym before)
 
 -- ---- counts
 pub counted : (tables : Tables) (place : Place) (number count : ℕ) (node : Node) (required : Bool) → count ≡ length (parts_of place number) →

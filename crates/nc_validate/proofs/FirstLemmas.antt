@@ -26,10 +26,6 @@ pub found_first : {X : Type 0} (o : Option X) (xs ys zs : List X) → o ≡ firs
 found_first o xs ys zs is whole some =
     sym (some_next o (first ys) some) ∙ ap (λ p. or_next p (first ys)) is ∙ sym (first_append xs ys) ∙ ap first (sym whole)
 
-pub found_after : {X : Type 0} (o p : Option X) (xs ys zs : List X) → o ≡ first xs → zs ≡ xs ++ ys → is_some o ≡ false → p ≡ first ys → p ≡ first zs
-found_after o p xs ys zs is whole none later =
-    later ∙ sym (none_next o (first ys) none) ∙ ap (λ p. or_next p (first ys)) is ∙ sym (first_append xs ys) ∙ ap first (sym whole)
-
 -- one turn of a walk over pieces
 pub turn_found : {X : Type 0} (o here left whole : Option X) → here ≡ or_next o left → here ≡ whole → is_some o ≡ true → o ≡ whole
 turn_found o here left whole turn so_far some = sym (some_next o left some) ∙ sym turn ∙ so_far
@@ -73,12 +69,6 @@ pub walk_stops : {X Y : Type 0} (f : X → List Y) (xs : List X) (i : ℕ) (x : 
 walk_stops f xs i x o whole within is found some so_far =
     turn_found o (first (flat_map f (drop i xs))) (first (flat_map f (drop (i + 1) xs))) whole
     (next_piece f xs i x within is ∙ ap (λ p. or_next p (first (flat_map f (drop (i + 1) xs)))) (sym found)) so_far (sym some)
-
-pub walk_goes_on : {X Y : Type 0} (f : X → List Y) (xs : List X) (i : ℕ) (x : X) (o whole : Option Y) → i < length xs → x ≡ get_or xs i x →
-    o ≡ first (f x) → false ≡ is_some o → first (flat_map f (drop i xs)) ≡ whole → first (flat_map f (drop (i + 1) xs)) ≡ whole
-walk_goes_on f xs i x o whole within is found none so_far =
-    turn_on o (first (flat_map f (drop i xs))) (first (flat_map f (drop (i + 1) xs))) whole
-    (next_piece f xs i x within is ∙ ap (λ p. or_next p (first (flat_map f (drop (i + 1) xs)))) (sym found)) so_far (sym none)
 
 pub stops_at : {X Y : Type 0} (f : X → List Y) (xs : List X) (i : ℕ) (d : X) (o whole : Option Y) → i < length xs →
     o ≡ first (f (get_or xs i d)) → true ≡ is_some o → first (flat_map f (drop i xs)) ≡ whole → o ≡ whole

@@ -69,9 +69,6 @@ or_more : (a b c : Bool) → ((a || b) || c) ≡ (a || (b || c))
 or_more true b c = refl
 or_more false b c = refl
 
-pub none_added : (set : BTreeSet (List (Bor (List ℕ)))) → AddsTuples set set []
-none_added set key = sym (or_false (contains order set key))
-
 pub one_more_added : (first before now : BTreeSet (List (Bor (List ℕ)))) (tuples : List (List (Bor (List ℕ)))) (tuple : List (Bor (List ℕ))) →
     AddsTuples first before (map texts tuples) → AddsTuple before now (texts tuple) → AddsTuples first now (map texts (tuples ++ tuple ∷ []))
 one_more_added first before now tuples tuple so_far added key =

@@ -81,18 +81,9 @@ top_of texts text l is = by (slice_get texts text) l is
     by (Some s) None is = absurd (cc)
     by (Some s) (Some r) is = let same : r ≡ rooted text s = cc in sym (ap (λ (r : Located). below r.statement) same)
 
--- by a root without statements
-pub nothing_by : (texts : List Statement) (text : ℕ) (reference : List ℕ) (l : Option Located) → l ≡ root texts text → option_map_or (λ (r : Located). below r.statement) l [] ≡ []
-    → None ≡ resolved texts Feature reference (at_top texts text)
-nothing_by texts text reference l is empty = means_nothing texts text reference (top_of texts text l is ∙ empty)
-
 pub none_below : (l : Option Located) → None ≡ option_map (λ (r : Located). r.statement) l → option_map_or (λ (r : Located). below r.statement) l [] ≡ []
 none_below None none = refl
 none_below (Some r) none = absurd (cc)
-
-pub empty_below : (l : Option Located) (s : Statement) → Some s ≡ option_map (λ (r : Located). r.statement) l → below s ≡ [] → option_map_or (λ (r : Located). below r.statement) l [] ≡ []
-empty_below None s is empty = absurd (cc)
-empty_below (Some r) s is empty = let same : s ≡ r.statement = cc in sym (ap below same) ∙ empty
 
 -- a number that is that of a statement says that there is one
 pub some_there : (located : List Located) (number : Option ℕ) (at : Option Located)

@@ -129,10 +129,6 @@ pub is_statement : (located : List Located) (number : ℕ) (o : Option Located) 
 is_statement located number None e = absurd (cc)
 is_statement located number (Some l) e = (l, refl, cc)
 
-pub is_no_statement : (located : List Located) (o : Option Located) → IsNumber located None o → o ≡ None
-is_no_statement located None e = refl
-is_no_statement located (Some l) e = absurd (cc)
-
 module _ (b : Basis) (leaf : ℕ) where
   pub no_value : is_valued b.given leaf ≡ false → ArePaths b leaf []
   no_value e = record {

@@ -1,24 +1,11 @@
 -- The cases of choices by their names.
-use Rattle.std.proofs.Common.{◌≡◌, ◌<◌, ◌≤◌, ◌+◌, ◌&&◌, eqb, ℕ, zero, suc, Bool, true, false, List, [], ◌∷◌, length, drop, get_or, Option, Some, None, option_map, refl, sym, ap, ◌∙◌, arith}
+use Rattle.std.proofs.Common.{◌≡◌, ◌<◌, ◌≤◌, ◌+◌, ◌&&◌, eqb, ℕ, zero, suc, Bool, true, false, List, [], ◌∷◌, length, drop, get_or, Some, None, refl, sym, ap, ◌∙◌, arith}
 use Rattle.std.specs.Prelude.{slice_get}
-use Rattle.std.specs.Option.{option_map_or}
 use Rattle.std.proofs.lemmas.Bool.Decides.{nat_tests}
 use Rattle.std.proofs.lemmas.List.{drop_more}
 use Rattle.std.proofs.lemmas.Option.{get_or_from_slice_get, slice_get_within}
 use Rattle.nc_schema.specs.declared.node.Case.{Case}
-use Rattle.nc_yang_words.specs.declared.statement.Statement.{Statement}
-use Rattle.nc_yang_scopes.specs.Scopes.{Located}
 use Rattle.nc_yang_data.specs.Leafs.{CaseTest, are_named}
-
--- by the statement of a choice
-pub by_statement : (test : Located → Bool) (o : Option Located) (s : Statement) (b : Bool) → Some s ≡ option_map (λ (l : Located). l.statement) o →
-    ((l : Located) → o ≡ Some l → s ≡ l.statement → test l ≡ b) → option_map_or test o false ≡ b
-by_statement test None s b e h = absurd (cc)
-by_statement test (Some l) s b e h = h l refl (cc)
-
-pub no_statement : (test : Located → Bool) (o : Option Located) → None ≡ option_map (λ (l : Located). l.statement) o → option_map_or test o false ≡ false
-no_statement test None e = refl
-no_statement test (Some l) e = absurd (cc)
 
 -- ---- names one after another
 drop_at : {A : Type 0} (xs : List A) (n : ℕ) (x : A) → slice_get xs n ≡ Some x → drop n xs ≡ x ∷ drop (n + 1) xs

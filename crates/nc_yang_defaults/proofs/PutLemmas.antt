@@ -1,6 +1,6 @@
 -- Defaults put into a schema.
 use Rattle.std.proofs.Common.{inl, inr, ◌≡◌, ◌≢◌, ◌<◌, ◌≤◌, ◌+◌, ◌⊎◌, ℕ, List, [], ◌∷◌, ◌++◌, length, refl, sym, ap, ◌∙◌, subst, arith, append_assoc}
-use Rattle.std.specs.Prelude.{Some, None, IfSome, slice_get, slice_set}
+use Rattle.std.specs.Prelude.{Some, IfSome, slice_get, slice_set}
 use Rattle.std.proofs.lemmas.Bool.{cases_eq}
 use Rattle.std.proofs.lemmas.List.{append-nil, length-append}
 use Rattle.nc_schema.specs.Children.{HasLowerParents, IsAbove}
@@ -20,21 +20,6 @@ with_values node values = record node { defaults = values }
 
 keeps_itself : (tables : Tables) → KeepsRest tables tables
 keeps_itself tables = record { counted = refl; choices = refl; types = refl; modules = refl; patterns = refl }
-
--- without defaults nothing changes
-pub put_nothing : (tables new : Tables) (number : ℕ) (values : List (List ℕ)) → values ≡ [] → new ≡ tables → IsPut number values tables new
-put_nothing tables new number values none same = subst (IsPut number values tables) (sym same) (record {
-  rest = keeps_itself tables;
-  here = λ node at fresh. at ∙ ap Some (let e : node.defaults ≡ values = fresh ∙ sym none in ap (with_values node) e);
-  others = λ other apart. refl;
-})
-
-pub put_nowhere : (tables new : Tables) (number : ℕ) (values : List (List ℕ)) → slice_get tables.nodes number ≡ None → new ≡ tables → IsPut number values tables new
-put_nowhere tables new number values none same = subst (IsPut number values tables) (sym same) (record {
-  rest = keeps_itself tables;
-  here = λ node at fresh. absurd (let e : None ≡ Some node = sym none ∙ at in cc);
-  others = λ other apart. refl;
-})
 
 pub put_there : (tables new : Tables) (number : ℕ) (values : List (List ℕ)) (node : Node) (with : Node) → slice_get tables.nodes number ≡ Some node → with ≡ with_values node values →
     new ≡ record tables { nodes = slice_set tables.nodes number with } → IsPut number values tables new

@@ -1,6 +1,6 @@
 -- The `default` statements of a data node.
 use Rattle.std.proofs.Common.{inl, inr, ◌≡◌, cond, ℕ, Bool, true, false, List, [], ◌∷◌, map, refl, sym, ap, ◌∙◌, subst}
-use Rattle.std.specs.Prelude.{Option, Some, None, slice_get, option_map, filter, find}
+use Rattle.std.specs.Prelude.{Option, Some, None, option_map, filter, find}
 use Rattle.nc_schema.specs.declared.node.Kind.{Kind}
 use Rattle.nc_schema.specs.declared.node.Kind.TheVariants.{Container, Leaf, LeafList, List as ListKind}
 use Rattle.nc_schema.specs.Kinds.{has_value}
@@ -12,19 +12,11 @@ use Rattle.nc_yang_scopes.specs.Scopes.{Located, Scoping}
 use Rattle.nc_yang_nodes.specs.Expansion.{list_of}
 use Rattle.nc_yang_meanings.specs.Defaults.{Brings, IsLeafDefault}
 use Rattle.nc_yang_meanings.specs.Meanings.{Meaning, Means}
-use Rattle.nc_yang_scopes.specs.Numbers.{AreNumbers, IsNumber}
 use Rattle.nc_yang_scopes.specs.Parts.{in_it, part_of}
 use Rattle.nc_yang_meanings.proofs.DefaultLemmas.{one_default}
 use Rattle.nc_yang_defaults.specs.Sources.{AreSources, BringsTo, Defined, brought, may_lack, nothing, own, own_of}
 use Rattle.nc_yang_defaults.specs.Typed.{HasMeaning}
 use Rattle.nc_yang_defaults.specs.inner.Reading.{IsBrought, MeansIt}
-
--- a list of one number, or none
-pub list_numbers : (located : List Located) (number : Option ℕ) (l : Option Located) → IsNumber located number l → AreNumbers located (list_of number) (list_of l)
-list_numbers located None None is = refl
-list_numbers located None (Some l) is = absurd (cc)
-list_numbers located (Some n) None is = absurd (cc)
-list_numbers located (Some n) (Some l) is = let e : slice_get located n ≡ Some l = cc in ap (λ z. z ∷ []) e
 
 no_first : {A B : Type 0} (test : A → Bool) (g : A → B) (xs : List A) → map g (filter test xs) ≡ [] → find test xs ≡ None
 no_first test g [] e = refl

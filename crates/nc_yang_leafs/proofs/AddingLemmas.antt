@@ -10,8 +10,7 @@ use Rattle.nc_names.specs.declared.name.QName.{QName}
 use Rattle.nc_schema.specs.declared.value_type.ValueType.{ValueType}
 use Rattle.nc_schema.specs.Tables.{Tables}
 use Rattle.nc_yang_order.proofs.Lists.{contains_at, get_set_other, get_set_same, take_next}
-use Rattle.nc_yang_words.specs.declared.statement.Statement.{Statement}
-use Rattle.nc_yang_statements.specs.Statements.{line, name}
+use Rattle.nc_yang_statements.specs.Statements.{name}
 use Rattle.nc_yang_statements.specs.Stops.{OnBroken}
 use Rattle.nc_yang_statements.specs.declared.stop.Stop.{Stop}
 use Rattle.nc_yang_statements.specs.declared.stop.Stop.TheVariants.{Broken, Memory}
@@ -20,7 +19,7 @@ use Rattle.nc_yang_scopes.specs.declared.naming.TextFault.{TextFault}
 use Rattle.nc_yang_scopes.specs.Scopes.{Located}
 use Rattle.nc_yang_leafs.specs.declared.bare.Typed.{Typed}
 use Rattle.nc_yang_leafs.specs.Bases.{Basis}
-use Rattle.nc_yang_leafs.specs.Patterns.{AreTypings, HasItsPatterns, HasPatterns, IsReadable, Refusals, Refuses, RefusesOne, RefusesType, bare, numbers_in, refused_at, refused_in, refusing, text_at, with_numbers}
+use Rattle.nc_yang_leafs.specs.Patterns.{AreTypings, HasItsPatterns, HasPatterns, IsReadable, Refusals, Refuses, RefusesOne, RefusesType, bare, numbers_in, refused_at, refusing, text_at, with_numbers}
 use Rattle.nc_yang_leafs.specs.inner.Adding.{AddsAll, AddsOne, AreKnown, HasSomePatterns, SetsType}
 use Rattle.nc_yang_leafs.specs.inner.Assembly.{HasBareTypes, HasKinds, both, with_type}
 use Rattle.nc_yang_leafs.specs.inner.Nodes.{HaveKinds}
@@ -157,15 +156,6 @@ adds_turn located statements i s old mid new ns next n at a one next_is =
 -- the element of a place
 pub at_place : {A : Type 0} (xs : List A) (i : ℕ) (x : A) → i < length xs → x ≡ get_or xs i x → slice_get xs i ≡ Some x
 at_place xs i x less is = slice_get-get_or xs i x less ∙ ap Some (sym is)
-
--- a refusal
-pub refused_there : (located : List Located) (s text : ℕ) (found : Statement) (refusals : Refusals) (fault : TextFault) → Some found ≡ option_map (λ (l : Located). l.statement) (slice_get located s) →
-    Some text ≡ option_map (λ (l : Located). l.place.text) (slice_get located s) → Refuses refusals (name found) → fault ≡ refused_in text (line found) → (l : Located) → slice_get located s ≡ Some l →
-    Refuses refusals (name l.statement) × (fault ≡ refused_at l)
-refused_there located s text found refusals fault statement_is text_is refuses is l at =
-    let one : found ≡ l.statement = (let e : Some found ≡ Some l.statement = statement_is ∙ ap (option_map (λ (l : Located). l.statement)) at in cc) in
-    let place : text ≡ l.place.text = (let e : Some text ≡ Some l.place.text = text_is ∙ ap (option_map (λ (l : Located). l.place.text)) at in cc) in
-    (subst (λ z. Refuses refusals (name z)) one refuses, is ∙ (λ i. refused_in (place i) (line (one i))))
 
 pub refuses_one : (located : List Located) (statements : List ℕ) (i s : ℕ) (refusals : Refusals) (fault : TextFault) → slice_get statements i ≡ Some s → IsReadable located s →
     ((l : Located) → slice_get located s ≡ Some l → Refuses refusals (name l.statement) × (fault ≡ refused_at l)) → RefusesOne located statements refusals fault

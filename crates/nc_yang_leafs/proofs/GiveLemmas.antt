@@ -243,10 +243,6 @@ module _ (derived : List Located → List QName → Type 0) (on : ℕ → List �
     at = breaks.loses.at;
   }
 
--- the schema put together
-pub some_none : (old : Tables) (kinds : List ℕ) → HasSome old kinds 0 old
-some_none old kinds = record { modules = refl; choices = refl; patterns = refl; types = refl; counted = refl; set = λ number kind node less. absurd (omega arith); others = λ number le. refl }
-
 pub some_more : (old mid new : Tables) (kinds : List ℕ) (i kind : ℕ) → HasSome old kinds i mid → slice_get kinds i ≡ Some kind → new ≡ with_kind mid i kind → HasSome old kinds (i + 1) new
 some_more old mid new kinds i kind has at made = subst (HasSome old kinds (i + 1)) (sym made) (by (slice_get mid.nodes i) refl)
   where

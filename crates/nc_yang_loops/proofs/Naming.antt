@@ -61,12 +61,6 @@ closed_none scoping sort n shut l here d =
     let opened = stands_open sort d.top l d.stands d.keyword in
     cc
 
-pub other_none : (scoping : Scoping) (sort : Defined) (n : ℕ) → is_of scoping (defining sort) n ≡ false → IsNone scoping sort n
-other_none scoping sort n other l here d =
-    let is = of_keyword scoping (defining sort) n l here in
-    let keyword = d.keyword in
-    cc
-
 -- what the number is that was found
 found_is : (scoping : Scoping) (sort : Defined) (n : ℕ) (result : Option ℕ) (s there : Located) → Means scoping n result (named scoping.texts sort) → slice_get scoping.located n ≡ Some s →
     named scoping.texts sort s ≡ Some there → option_and_then (slice_get scoping.located) result ≡ Some there

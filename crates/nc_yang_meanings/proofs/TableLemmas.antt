@@ -1,22 +1,22 @@
 -- The table of meanings, number after number.
-use Rattle.std.proofs.Common.{inl, inr, ◌≡◌, ◌≢◌, ◌<◌, ◌+◌, ℕ, zero, suc, true, false, List, [], ◌∷◌, ◌++◌, length, refl, sym, ap, ◌∙◌, subst, arith}
+use Rattle.std.proofs.Common.{inl, inr, ◌≡◌, ◌≢◌, ◌<◌, ◌+◌, ℕ, true, false, List, [], ◌∷◌, ◌++◌, length, refl, sym, ap, ◌∙◌, subst, arith}
 use Rattle.nc_names.specs.declared.memory.Memory.{Memory}
-use Rattle.std.specs.Prelude.{Bool, Option, Some, None, Result, Ok, Err, IfOk, IsSomeAnd, replicate, unwrap_or, slice_get, set, Contains}
+use Rattle.std.specs.Prelude.{Bool, Option, Some, None, Result, Ok, Err, IfOk, IsSomeAnd, unwrap_or, slice_get, set, Contains}
 use Rattle.std.proofs.lemmas.Bool.{cases_eq}
-use Rattle.std.proofs.lemmas.List.{append-nil, length-set, length-replicate}
+use Rattle.std.proofs.lemmas.List.{append-nil, length-set}
 use Rattle.std.proofs.lemmas.List.Elements.{Contains-append_left, Contains-push}
 use Rattle.std.proofs.lemmas.Option.{slice_get_within}
 use Rattle.nc_yang_statements.specs.declared.built_in.BuiltIn.{BuiltIn}
 use Rattle.nc_yang_statements.specs.declared.fault.Fault.{Fault}
 use Rattle.nc_yang_order.specs.Orders.{EachAfter}
-use Rattle.nc_yang_order.proofs.Lists.{contains_none, either, get_none, get_set_other, get_set_same}
+use Rattle.nc_yang_order.proofs.Lists.{either, get_none, get_set_other, get_set_same}
 use Rattle.nc_yang_scopes.specs.Scopes.{Located, Scoping}
 use Rattle.nc_yang_scopes.proofs.Lists.{get_left, get_right}
 use Rattle.nc_yang_meanings.specs.Meanings.{Breaks, Meaning, Means, by_itself, over}
 use Rattle.nc_yang_meanings.specs.Places.{base_of, built_in}
 use Rattle.nc_yang_meanings.specs.Plans.{AreMeanings, IsFinding}
 use Rattle.nc_yang_meanings.specs.inner.Footings.{AreDependents, AreFootings, AreStarts, IsFooting}
-use Rattle.nc_yang_meanings.specs.inner.Planning.{AreSoFar, HasBase, IsFound, IsOrdered, IsReady, blank, footing_at, with_found}
+use Rattle.nc_yang_meanings.specs.inner.Planning.{AreSoFar, HasBase, IsFound, IsOrdered, IsReady, footing_at, with_found}
 use Rattle.nc_yang_order.specs.Reaching.{IsLed, IsReached}
 use Rattle.nc_yang_order.specs.declared.reach.Reach.{Reach}
 use Rattle.nc_yang_meanings.specs.declared.footing.Footing.{Footing}
@@ -121,19 +121,6 @@ footing_is scoping footings are number l here = by (slice_get footings number) (
 pub ready_within : (footings : List Footing) (before : List ℕ) (number : ℕ) → IsReady footings before number → number < length footings
 ready_within footings before number (inl (one, e)) = slice_get_within footings number (OnBuiltIn one) e
 ready_within footings before number (inr (base, e, h)) = slice_get_within footings number (OnType base) e
-
--- nothing was looked at
-pub nothing_yet : (on : ℕ → List ℕ → Bool) (scoping : Scoping) → AreSoFar on scoping [] (blank (length scoping.located))
-nothing_yet on scoping = record {
-  counted = length-replicate (length scoping.located) Nothing;
-  found = λ m l h. absurd (contains_none m h);
-  others = λ m l lacks here. get_replicate (length scoping.located) m (slice_get_within scoping.located m l here);
-}
-  where
-    get_replicate : (count m : ℕ) → m < count → slice_get (replicate count Nothing) m ≡ Some Nothing
-    get_replicate zero m less = absurd (omega arith)
-    get_replicate (suc count) zero less = refl
-    get_replicate (suc count) (suc m) less = get_replicate count m (omega arith)
 
 -- what was found in the order of reach is ready in it
 each_weaker : {A : Type 0} (P Q : List A → A → Type 0) → ((before : List A) (x : A) → P before x → Q before x) → (before xs : List A) → EachAfter P before xs → EachAfter Q before xs

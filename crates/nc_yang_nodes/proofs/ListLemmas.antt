@@ -1,5 +1,5 @@
 -- Elements of lists by their places.
-use Rattle.std.proofs.Common.{◌≡◌, ◌<◌, ◌≤◌, ◌+◌, ◌&&◌, ◌⊎◌, inl, inr, ℕ, zero, suc, Bool, true, false, List, [], ◌∷◌, ◌++◌, length, drop, set, refl, sym, ap, ◌∙◌, arith}
+use Rattle.std.proofs.Common.{◌≡◌, ◌<◌, ◌≤◌, ◌+◌, ◌&&◌, ◌⊎◌, inl, inr, ℕ, zero, suc, Bool, true, List, [], ◌∷◌, ◌++◌, length, drop, set, refl, sym, ap, ◌∙◌, arith}
 use Rattle.std.specs.Prelude.{Some, slice_get}
 use Rattle.std.specs.List.{list_all}
 
@@ -38,13 +38,6 @@ set_mark (m ∷ marks) zero zero e = inl refl
 set_mark (m ∷ marks) zero (suc k) e = inr e
 set_mark (m ∷ marks) (suc n) zero e = inr e
 set_mark (m ∷ marks) (suc n) (suc k) e = elim (set_mark marks n k e) [ inl same ↦ inl (ap suc same) | inr h ↦ inr h ]
-
--- no mark
-pub unmarked_more : (marks : List Bool) (k : ℕ) → slice_get (marks ++ false ∷ []) k ≡ Some true → slice_get marks k ≡ Some true
-unmarked_more [] zero e = absurd (cc)
-unmarked_more [] (suc k) e = absurd (cc)
-unmarked_more (m ∷ marks) zero e = e
-unmarked_more (m ∷ marks) (suc k) e = unmarked_more marks k e
 
 -- an element of a list with one more
 pub get_push : {A : Type 0} (xs : List A) (y x : A) (k : ℕ) → slice_get (xs ++ y ∷ []) k ≡ Some x

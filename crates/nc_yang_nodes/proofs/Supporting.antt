@@ -1,10 +1,10 @@
 -- The features that are on by those that are given.
-use Rattle.std.proofs.Common.{◌≡◌, ◌<◌, ◌≤◌, ◌+◌, ◌==◌, ◌&&◌, ◌||◌, not, ℕ, Bool, true, false, List, [], ◌∷◌, length, refl, sym, ap, subst, ◌∙◌, arith, zero, suc, inl, inr}
+use Rattle.std.proofs.Common.{◌≡◌, ◌<◌, ◌≤◌, ◌==◌, ◌&&◌, ◌||◌, not, ℕ, Bool, true, false, List, [], ◌∷◌, length, refl, sym, ap, subst, ◌∙◌, arith, zero, suc}
 use Rattle.std.specs.Prelude.{Option, Some, None, slice_get, option_map}
 use Rattle.std.specs.Option.{option_map_or}
 use Rattle.std.specs.List.{list_all}
 use Rattle.std.specs.Cmp.Lexicographic.{bytes_decides}
-use Rattle.std.proofs.lemmas.Bool.{cases_lt, eqb-true}
+use Rattle.std.proofs.lemmas.Bool.{eqb-true}
 use Rattle.std.proofs.lemmas.Option.{slice_get_within}
 use Rattle.nc_names.proofs.SameLemmas.{first_true, second_true}
 use Rattle.nc_names.specs.Same.{is_same_text}
@@ -89,9 +89,6 @@ module _ (scoping : Scoping) (on left : FeatureTest) (number : ℕ) (l : Located
         (keeps.most other among together text word h);
   }
 
-pub narrows_self : (scoping : Scoping) (on : FeatureTest) → Narrows scoping on on
-narrows_self scoping on given keeps = keeps
-
 pub narrows_on : (scoping : Scoping) (a b c : FeatureTest) → Narrows scoping a b → Narrows scoping b c → Narrows scoping a c
 narrows_on scoping a b c one two given keeps = two given (one given keeps)
 
@@ -103,14 +100,6 @@ are_on scoping given on keeps together = record { among = keeps.among; together 
 
 abbrev pub TogetherBelow : Scoping → FeatureTest → ℕ → Type 0
 TogetherBelow scoping on count = (number : ℕ) (l : Located) → number < count → slice_get scoping.located number ≡ Some l → is_unsupported scoping.texts on l ≡ false
-
-pub together_more : (scoping : Scoping) (on : FeatureTest) (count : ℕ) → TogetherBelow scoping on count
-    → ((l : Located) → slice_get scoping.located count ≡ Some l → is_unsupported scoping.texts on l ≡ false) → TogetherBelow scoping on (count + 1)
-together_more scoping on count h one number l lt at =
-    elim (cases_lt number count) [
-      | inl below ↦ h number l below at
-      | inr not_below ↦ (let e : number ≡ count = omega arith in one l (ap (slice_get scoping.located) (sym e) ∙ at))
-    ]
 
 -- the statement of a number
 pub off_at : (scoping : Scoping) (on : FeatureTest) (number : ℕ) (s : Statement) (result : Bool) → Some s ≡ option_map (λ l. l.statement) (slice_get scoping.located number)

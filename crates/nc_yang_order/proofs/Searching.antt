@@ -14,7 +14,7 @@ use Rattle.nc_yang_order.specs.declared.search.Search.{Search}
 use Rattle.nc_names.specs.declared.memory.Memory.{Memory}
 use Rattle.nc_yang_order.specs.declared.order.Ordered.{Ordered}
 use Rattle.nc_yang_order.specs.Orders.{is_within, targets, Reaches, here, further, EachAfter, IsInPlace, IsOrder, IsCircle}
-use Rattle.nc_yang_order.specs.inner.Searches.{HasMark, IsSeen, KeepsSeen, numbers, IsLedTo, IsLookedAt, IsSearch, unseen, unlooked, weight, opening, entered, finished, with_turn, passed, Moves, Ends, Runs, Visits}
+use Rattle.nc_yang_order.specs.inner.Searches.{HasMark, IsSeen, KeepsSeen, numbers, IsLedTo, IsLookedAt, IsSearch, unseen, unlooked, weight, entered, finished, with_turn, passed, Moves, Ends, Runs, Visits}
 use Rattle.nc_yang_order.proofs.Lists.{contains_one, contains_none, contains_at, either, get_none, take_next, get_set_same, get_set_other, each_push, each_front, each_last}
 
 left : (a b : Bool) → (a && b) ≡ true → a ≡ true
@@ -280,18 +280,6 @@ no_mark : (count m : ℕ) (mark : Mark) → Unseen ≢ mark → HasMark (replica
 no_mark zero m mark differ e = absurd (cc)
 no_mark (suc count) zero mark differ e = differ (cc)
 no_mark (suc count) (suc m) mark differ e = no_mark count m mark differ e
-
-pub search_opening : (graph : List (List ℕ)) (count : ℕ) → count ≡ length graph → length (replicate count Unseen) ≡ count → IsSearch graph (opening count)
-search_opening graph count same long = record {
-  marked = long ∙ same;
-  waiting = λ m a. absurd (no_mark count m Open unseen_open a);
-  on_stack = λ m a. absurd (contains_none m a);
-  trail = tt;
-  looked = λ t a. absurd (contains_none t a);
-  done = λ m a. absurd (no_mark count m Done unseen_done a);
-  ordered = λ m a. absurd (contains_none m a);
-  placed = tt;
-}
 
 -- where no number is open, what was seen is done
 pub seen_is_done : (graph : List (List ℕ)) (s : Search) (m : ℕ) → IsSearch graph s → s.stack ≡ [] → m < length graph → IsSeen s.marks m → Contains s.order m

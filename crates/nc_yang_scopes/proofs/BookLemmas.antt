@@ -404,15 +404,3 @@ resolved_across texts located keyword reference prefix word n result h gives =
     ∙ ap (λ w. option_map Some (across texts located keyword (prefix_of reference) w n)) h.2
     ∙ ap (λ b. option_map Some (option_and_then (λ (l : Located). cond b (option_and_then (found_in texts keyword (local_of reference) l.place) (text_of_prefix texts l.place.text (prefix_of reference)))
     (found keyword reference l.place.text l.place.blocks)) (slice_get located n))) (sym h.0)
-
--- what a number says of a located statement
-pub given_value : (located : List Located) (result : Option ℕ) (wanted : Option Located) → Gives located result wanted → option_and_then (slice_get located) result ≡ wanted
-given_value located None None e = refl
-given_value located None (Some l) e = absurd (cc)
-given_value located (Some n) None e = absurd (cc)
-given_value located (Some n) (Some l) e = cc
-
-pub given_there : (located : List Located) (result : Option ℕ) (wanted : Option Located) → Gives located result wanted → IfSome result (λ n. n < length located)
-given_there located None wanted e = tt
-given_there located (Some n) None e = absurd (cc)
-given_there located (Some n) (Some l) e = let there : slice_get located n ≡ Some l = cc in get_within located n l there

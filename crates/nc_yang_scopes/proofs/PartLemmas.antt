@@ -22,9 +22,6 @@ is_of keyword s = is_same_keyword keyword (kind s)
 pub statement_is : (scoping : Scoping) (n : ℕ) (s : Statement) (l : Located) → HasNumber scoping n s → slice_get scoping.located n ≡ Some l → l.statement ≡ s
 statement_is scoping n s l number here = let e : Some l.statement ≡ Some s = sym (ap (option_map (λ (k : Located). k.statement)) here) ∙ number in cc
 
-pub no_statement : (scoping : Scoping) (n : ℕ) (l : Located) → None ≡ option_map (λ (k : Located). k.statement) (slice_get scoping.located n) → slice_get scoping.located n ≡ Some l → ⊥
-no_statement scoping n l none here = let e : None ≡ Some l.statement = none ∙ ap (option_map (λ (k : Located). k.statement)) here in cc
-
 module _ (scoping : Scoping) (n : ℕ) (s : Statement) (among : List Statement) (number : HasNumber scoping n s) (among_is : among ≡ below s) where
   -- the statement in a place
   child_is : (l : Located) (place : ℕ) (x : Statement) → slice_get scoping.located n ≡ Some l → slice_get among place ≡ Some x → child place l ≡ Some (in_it l x)

@@ -4,23 +4,12 @@ use Rattle.std.proofs.lemmas.Bool.{cases_lt}
 use Rattle.std.proofs.lemmas.List.{take-append-drop, take-append-le}
 use Rattle.std.proofs.Math.Seq.{take-append_seam}
 use Rattle.nc_yang_words.specs.declared.statement.Statement.{Statement}
-use Rattle.nc_yang_scopes.specs.Numbers.{Entry, IsScoping, children, located, opened, roots}
+use Rattle.nc_yang_scopes.specs.Numbers.{Entry, children, located, opened, roots}
 use Rattle.nc_yang_scopes.specs.Laws.{OneScoping}
-use Rattle.nc_yang_scopes.specs.inner.Frames.{IsWhole}
 use Rattle.nc_yang_scopes.proofs.Numbered.{length_roots}
 
 pub take_all : {A : Type 0} (xs : List A) → take (length xs) xs ≡ xs
 take_all xs = ap (take (length xs)) (sym (append-nil xs)) ∙ take-append_seam xs []
-
--- the statements of a book have their numbers
-pub scoping_of : (texts : List Statement) (entries : List Entry) (firsts : List ℕ) → IsWhole texts entries firsts →
-    IsScoping (record { texts = texts; located = located entries })
-scoping_of texts entries firsts whole = record {
-  entries = entries;
-  whole = whole.whole ∙ ap (λ es. roots 0 texts ++ opened 0 es) (take_all entries);
-  later = whole.later;
-  places = refl;
-}
 
 -- ---- there is one way
 opened_append : (number : ℕ) (es fs : List Entry) → opened number (es ++ fs) ≡ opened number es ++ opened (number + length es) fs

@@ -74,10 +74,6 @@ faultless_all xs s i fault e same le a h =
 pub none_faulty : (fault : Fault) → Faulty [] fault → ⊥
 none_faulty fault h = elim h.stands [ ]
 
--- the whole text
-pub root_breaks : (root : Statement) (fault : Fault) → Some fault ≡ first (at (why_root (kind root)) root) → BreaksRule root fault
-root_breaks root fault e = inl (first_contains (at (why_root (kind root)) root) fault (sym e))
-
 pub root_keeps : (root : Statement) → None ≡ first (at (why_root (kind root)) root) → ((fault : Fault) → Faulty (root ∷ []) fault → ⊥) → KeepsRules root
 root_keeps root e a fault h = elim h [
   | inl b ↦ first_lacks (at (why_root (kind root)) root) fault (sym e) b

@@ -9,7 +9,7 @@ use Rattle.nc_names.specs.Same.{is_same_text}
 use Rattle.nc_yang_words.specs.declared.statement.Statement.{Statement}
 use Rattle.nc_yang_statements.specs.Statements.{name}
 use Rattle.nc_yang_types.specs.declared.member.Listed.{Listed}
-use Rattle.nc_yang_types.specs.Members.{gives_name, has_name, is_member}
+use Rattle.nc_yang_types.specs.Members.{gives_name, is_member}
 use Rattle.nc_yang_types.specs.inner.Known.{HasNames, HasNumbers, text_order}
 
 turned : (a b : Bool) → cond a true b ≡ (b || (a || false))
@@ -40,12 +40,6 @@ no_more b = b || (false || false)
 ends_same : (b : Bool) → b ≡ (b || (false || false))
 ends_same true = refl
 ends_same false = refl
-
-pub name_passed : (listed : Listed) (set : BTreeSet (Bor (List ℕ))) (s : Statement) (ss : List Statement) → is_member listed s ≡ false → HasNames listed set ss → HasNames listed set (ss ++ s ∷ [])
-name_passed listed set s ss is has key =
-    has key ∙ ends_same (has_name listed key.now ss)
-    ∙ ap (λ b. has_name listed key.now ss || ((b && is_same_text (name s) key.now) || false)) (sym is)
-    ∙ sym (list_any-append (gives_name listed key.now) ss (s ∷ []))
 
 -- one number more
 pub number_added : (before now : BTreeSet ℤ) (number : ℤ) (numbers : List ℤ) →

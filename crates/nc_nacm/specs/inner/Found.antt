@@ -1,6 +1,5 @@
 -- The first rule that matches, as the index finds it.
 use Rattle.std.specs.Prelude.{◌&&◌, ◌||◌, ℕ, Bool, List, Option, Some, None, min}
-use Rattle.std.specs.List.{list_any}
 use Rattle.std.specs.List.Sorted.{IsStrictlySortedBy}
 use Rattle.std.specs.Map.{keys_of}
 use Rattle.nc_names.specs.declared.path.Right.{Right}
@@ -26,9 +25,6 @@ earlier (Some place) (Some other) = Some (min place other)
 abbrev pub under : List ℕ → List Step → Right → List (List Bool) → Rule → Bool
 under name steps right shape rule =
     is_at_with (sought star shape steps) right rule || is_at_with (sought name shape steps) right rule
-
-abbrev pub under_some : List ℕ → List Step → Right → List (List (List Bool)) → Rule → Bool
-under_some name steps right shapes rule = list_any (λ shape. under name steps right shape rule) shapes
 
 -- the rule is about the node, of the module of that name, and about the right: `matches_data`, where the name is known
 abbrev pub matches_under : List ℕ → List Step → Right → Rule → Bool

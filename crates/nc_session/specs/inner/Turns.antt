@@ -76,9 +76,6 @@ pub record Intake : Type 0 where
 abbrev pub intake : Option (List ℕ) → ℕ → ℕ → Intake
 intake left ends failed = record { left = left; ends = ends; failed = failed }
 
-abbrev pub with_intake : Streams → Intake → Streams
-with_intake now source = record now { left = source.left; ends = source.ends; reads_failed = source.failed }
-
 abbrev pub SameIntake : Intake → Intake → Type 0
 SameIntake before now = (now.ends ≡ before.ends) × (now.failed ≡ before.failed)
 

@@ -1,7 +1,7 @@
 use Rattle.std.proofs.Common.{◌≡◌, ℕ, ◌+◌, ◌<◌, ◌≤◌, List, length, map, nat_eq, Option, Some, Result, refl, sym, ◌∙◌, ap, subst, arith}
 use Rattle.std.proofs.lemmas.Result.{err_from_is_err_and}
 use Rattle.nc_journal.specs.Files.{At}
-use Rattle.nc_journal.proofs.Areas.{area_of, header_stands}
+use Rattle.nc_journal.proofs.Areas.{area_of}
 use Rattle.nc_journal.specs.Opening.{IsArea, IsFront}
 use Rattle.nc_journal.proofs.Once.{fronts_once}
 use Rattle.nc_journal.proofs.FaultLemmas.{refused_on, refused_here, stuck_refused}

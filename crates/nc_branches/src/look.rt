@@ -15,7 +15,7 @@ use nc_names::{Copies, Many, Memory, Row, Shared, Step, same_steps};
 use std::cmp::Ordering;
 
 /// Where the rows at some steps, and below them, are to be looked for.
-#[derive(Clone, Copy, PartialEq, Eq)]
+#[derive(Clone, Copy)]
 pub(crate) enum Where {
     OnTheLeft,
     Here,

@@ -17,7 +17,7 @@ use nc_schema::Schema;
 use std::cmp::Ordering;
 
 /// Where a path goes on.
-#[derive(Clone, Copy, PartialEq, Eq)]
+#[derive(Clone, Copy)]
 pub(crate) enum Way {
     Left,
     Here,

@@ -12,7 +12,7 @@ use nc_schema::{Kind, Node, Schema};
 use nc_tree::Listed;
 
 /// A place: from which row of the configuration up to which its rows are, and what holds in it.
-#[derive(Clone, Copy, PartialEq, Eq)]
+#[derive(Clone, Copy)]
 pub struct Here {
     /// Where its rows begin.
     pub from: u64,

@@ -14,7 +14,7 @@ use std::alloc::Global;
 use std::marker::Model;
 
 /// A file: its name, in which `/` separates the folders, and its bytes.
-#[derive(Drop, PartialEq, Eq)]
+#[derive(Drop)]
 pub struct NamedFile {
     /// The name below the folder that is handed in.
     pub name: Text,

@@ -19,7 +19,7 @@ pub struct Joined<I, O, H> {
 }
 
 /// A line of which nobody hears: hanging it up does nothing.
-#[derive(Clone, Copy, PartialEq, Eq)]
+#[derive(Clone, Copy)]
 pub struct Unheard;
 
 impl Hangup for Unheard {

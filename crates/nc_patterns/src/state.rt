@@ -24,7 +24,7 @@ pub enum Place {
 }
 
 /// How things stand between two tokens.
-#[derive(Clone, Copy, PartialEq, Eq)]
+#[derive(Clone, Copy)]
 pub struct State {
     /// How many groups are open.
     pub depth: u64,

@@ -5,7 +5,7 @@ ghost use Rattle.nc_peer.specs.declared.fault.PeerFault.TheVariants.{Memory as P
 use nc_names::Memory;
 
 /// Why no peer was read.
-#[derive(Clone, Copy, PartialEq, Eq)]
+#[derive(Clone, Copy)]
 pub enum PeerFault {
     /// The bytes are no beginning of a peer's line.
     BadPeer {

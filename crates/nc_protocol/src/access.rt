@@ -64,7 +64,7 @@ pub trait Sees {
 }
 
 /// Access without access control (RFC 8341 3.3.4.1): every right is given, and every node may be seen.
-#[derive(Clone, Copy, PartialEq, Eq)]
+#[derive(Clone, Copy)]
 pub struct Unchecked;
 
 impl Rights for Unchecked {

@@ -2,7 +2,7 @@
 use nc_names::{Many, Path};
 
 /// The paths at which two configurations differ, each list in document order.
-#[derive(PartialEq, Eq, Drop)]
+#[derive(Drop)]
 pub struct Changes {
     /// Paths of the new configuration that the old one lacks.
     pub created: Many<Path>,

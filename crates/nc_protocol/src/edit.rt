@@ -28,7 +28,7 @@ pub enum Action {
 }
 
 /// One edit: an action at a node.
-#[derive(PartialEq, Eq, Drop)]
+#[derive(Drop)]
 pub struct Edit {
     /// The node.
     pub path: Path,

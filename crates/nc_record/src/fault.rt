@@ -5,7 +5,7 @@ ghost use Rattle.nc_record.specs.declared.fault.RecordFault.TheVariants.{Memory 
 use nc_names::Memory;
 
 /// Why the body of a record is not read.
-#[derive(Clone, Copy, PartialEq, Eq)]
+#[derive(Clone, Copy)]
 pub enum RecordFault {
     /// It spells no configuration of the schema.
     Unreadable,

@@ -11,7 +11,7 @@ use nc_script::ScriptRun;
 use nc_words::{line_end, write_text};
 
 /// What a look at a device finds.
-#[derive(Clone, Copy, PartialEq, Eq)]
+#[derive(Clone, Copy)]
 pub struct Found {
     /// How many modules its folder has.
     pub modules: u64,

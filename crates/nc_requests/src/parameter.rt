@@ -16,7 +16,7 @@ use nc_protocol::{Cause, Operation, request_words as words};
 use std::alloc::Global;
 
 /// A parameter of an operation.
-#[derive(Clone, Copy, PartialEq, Eq)]
+#[derive(Clone, Copy)]
 pub(crate) enum Parameter {
     /// `target`, a datastore.
     Target,

@@ -2,7 +2,7 @@
 use nc_names::{CauseKind, Copies, Memory, Path};
 
 /// A constraint that a configuration breaks, with the node at which it does (RFC 7950 8.1, 15).
-#[derive(PartialEq, Eq, Drop)]
+#[derive(Drop)]
 pub struct Violation {
     /// One of `Mandatory`, `MandatoryChoice`, `TooFew`, `TooMany`, `NotUnique`, `DeadLeafref` and
     /// `DeadInstance`.

@@ -2,7 +2,7 @@
 use nc_names::{Many, Text};
 
 /// A name with its prefix (`node-identifier` of RFC 7950 14).
-#[derive(PartialEq, Eq, Drop)]
+#[derive(Drop)]
 pub struct WrittenName {
     /// What stands before the colon.
     pub prefix: Text,
@@ -12,7 +12,7 @@ pub struct WrittenName {
 
 /// A predicate of the key of that name, or of the value of a leaf-list entry where there is no name
 /// (`key-predicate` and `leaf-list-predicate` of RFC 7950 14).
-#[derive(PartialEq, Eq, Drop)]
+#[derive(Drop)]
 pub struct WrittenPredicate {
     /// The name of the key, or `None` where a `.` stands for the value of a leaf-list entry.
     pub key: Option<WrittenName>,
@@ -21,7 +21,7 @@ pub struct WrittenPredicate {
 }
 
 /// A step to a node, with its predicates.
-#[derive(PartialEq, Eq, Drop)]
+#[derive(Drop)]
 pub struct WrittenStep {
     /// The name of the data node.
     pub name: WrittenName,

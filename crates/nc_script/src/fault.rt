@@ -6,7 +6,7 @@ ghost use Rattle.nc_script.specs.declared.fault.StepFault.TheVariants.{Memory as
 use nc_names::Memory;
 
 /// Why a script is not done to its end. Steps count from 1.
-#[derive(Clone, Copy, PartialEq, Eq)]
+#[derive(Clone, Copy)]
 pub enum ScriptFault {
     /// A step begins a connection that was begun before, or means one that was not begun or that the script
     /// has ended. The steps before it are done.
@@ -32,7 +32,7 @@ impl From<Memory> for ScriptFault {
 }
 
 /// Why a step is not done.
-#[derive(Clone, Copy, Debug, PartialEq, Eq)]
+#[derive(Clone, Copy, Debug)]
 pub(crate) enum StepFault {
     /// Its connection cannot do it.
     Bad,

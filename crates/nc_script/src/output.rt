@@ -14,7 +14,7 @@ pub struct Output {
 }
 
 /// What a script gives.
-#[derive(PartialEq, Eq, Drop)]
+#[derive(Drop)]
 pub struct ScriptRun {
     /// What each connection was told, in the order in which they began.
     pub outputs: Many<Output>,

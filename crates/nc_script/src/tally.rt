@@ -6,7 +6,7 @@ use nc_model::{Entry, Outcome};
 use nc_protocol::Verdict;
 
 /// How many replies have no `rpc-error`, and how many have one or more.
-#[derive(Clone, Copy, PartialEq, Eq)]
+#[derive(Clone, Copy)]
 pub(crate) struct Tally {
     pub(crate) ok: u64,
     pub(crate) errors: u64,

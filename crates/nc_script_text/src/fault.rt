@@ -6,7 +6,7 @@ ghost use Rattle.nc_script_text.specs.declared.fault.ScriptTextFault.TheVariants
 use nc_names::Memory;
 
 /// Why a text is no script.
-#[derive(Clone, Copy, PartialEq, Eq)]
+#[derive(Clone, Copy)]
 pub enum ScriptTextFault {
     /// A line is no step.
     Bad {
@@ -26,7 +26,7 @@ impl From<Memory> for ScriptTextFault {
 }
 
 /// Why a line is no step.
-#[derive(Clone, Copy, PartialEq, Eq)]
+#[derive(Clone, Copy)]
 pub(crate) enum LineFault {
     /// It is none.
     Bad,

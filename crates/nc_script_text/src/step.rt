@@ -3,7 +3,7 @@ use nc_names::Bytes;
 use nc_protocol::Peer;
 
 /// One step of a script. Connections have numbers of the script's own.
-#[derive(PartialEq, Eq, Drop)]
+#[derive(Drop)]
 pub enum ScriptStep {
     /// A connection begins: a session is started for its client (RFC 6241 2.1).
     Begin {

@@ -20,7 +20,7 @@ pub enum HelloFault {
 }
 
 /// Why the bytes of a message spell no request, and where that shows, counted from their first.
-#[derive(Clone, Copy, PartialEq, Eq)]
+#[derive(Clone, Copy)]
 pub struct BadMessage {
     /// The place.
     pub at: u64,

@@ -38,7 +38,7 @@ fn stream_end(fault: FrameFault) -> Result<SessionEnd, Memory>
 }
 
 /// Where the reader of a session stands.
-#[derive(Clone, Copy, PartialEq, Eq)]
+#[derive(Clone, Copy)]
 pub(crate) enum Phase {
     /// The client's hello is awaited.
     Greeting,

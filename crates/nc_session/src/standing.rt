@@ -7,7 +7,7 @@ use nc_model::{Entry, Event, Outcome};
 use nc_protocol::{Asked, Verdict};
 
 /// How the last request of a session left it.
-#[derive(Clone, Copy, PartialEq, Eq, Debug)]
+#[derive(Clone, Copy, Debug)]
 pub(crate) enum Standing {
     /// The session goes on.
     Live,

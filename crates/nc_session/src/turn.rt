@@ -17,7 +17,7 @@ use nc_outside::{Sink, Source};
 use nc_protocol::Request;
 
 /// The end that a session met, and how its last request left it.
-#[derive(Clone, Copy, PartialEq, Eq, Debug)]
+#[derive(Clone, Copy, Debug)]
 pub(crate) struct Met {
     pub(crate) standing: Standing,
     pub(crate) end: SessionEnd,

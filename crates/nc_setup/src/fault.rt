@@ -6,7 +6,7 @@ use nc_names::{CauseKind, Memory, Text};
 use nc_yang_statements::ModuleWhy;
 
 /// Why what a folder holds makes no server.
-#[derive(PartialEq, Eq, Drop)]
+#[derive(Drop)]
 pub enum SetupFault {
     /// A module breaks a rule of YANG (RFC 7950), or is past a limit of the server.
     Module {

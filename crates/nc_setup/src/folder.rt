@@ -16,7 +16,7 @@ use nc_yang_texts::ModuleText;
 use std::alloc::Global;
 
 /// What the files in the folder of a device hold.
-#[derive(PartialEq, Eq, Drop)]
+#[derive(Drop)]
 pub struct Contents {
     /// The texts of the modules (RFC 7950 5.2), in the order of their files' names.
     pub modules: Many<ModuleText>,

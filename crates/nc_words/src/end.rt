@@ -33,7 +33,7 @@ pub enum RunEnd {
 }
 
 /// What a script comes to, once there is a server. Lines and steps count from 1.
-#[derive(Clone, Copy, PartialEq, Eq)]
+#[derive(Clone, Copy)]
 pub enum ScriptEnd {
     /// There is no such file.
     Absent,
@@ -59,7 +59,7 @@ pub enum ScriptEnd {
 }
 
 /// Whether standard output took a text.
-#[derive(Clone, Copy, PartialEq, Eq)]
+#[derive(Clone, Copy)]
 pub enum Printed {
     /// It took a beginning of it, and then a write failed.
     Part,

@@ -14,7 +14,7 @@ use std::alloc::Global;
 
 /// One session on standard input and output, which the words `stdio [--recovery] DIR USER [GROUP]...` ask
 /// for.
-#[derive(Clone, Copy, PartialEq, Eq)]
+#[derive(Clone, Copy)]
 pub struct Stdio<'a> {
     /// The path of the folder of the device.
     pub folder: &'a str,
@@ -27,7 +27,7 @@ pub struct Stdio<'a> {
 }
 
 /// The folder of a device, and what is done with it.
-#[derive(Clone, Copy, PartialEq, Eq)]
+#[derive(Clone, Copy)]
 pub struct InFolder<'a> {
     /// The path of the folder of the device.
     pub folder: &'a str,
@@ -47,7 +47,7 @@ pub enum Work<'a> {
 }
 
 /// What a command line asks for.
-#[derive(Clone, Copy, PartialEq, Eq)]
+#[derive(Clone, Copy)]
 pub enum Command<'a> {
     /// One session.
     Stdio(Stdio<'a>),

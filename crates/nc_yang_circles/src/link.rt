@@ -12,7 +12,7 @@ use nc_yang_statements::name;
 use std::alloc::Global;
 
 /// A `path` statement, and the data node to which it leads.
-#[derive(Clone, Copy, PartialEq, Eq)]
+#[derive(Clone, Copy)]
 pub(crate) struct Link {
     /// The number of the statement.
     pub path: usize,

@@ -1,7 +1,7 @@
 //! The statements of a list that name leafs.
 
 /// A statement of a list that names leafs.
-#[derive(Clone, Copy, PartialEq, Eq)]
+#[derive(Clone, Copy)]
 pub enum Naming {
     /// `key` (RFC 7950 7.8.2).
     Keys,

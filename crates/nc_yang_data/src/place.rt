@@ -18,7 +18,7 @@ use nc_yang_words::Statement;
 use std::alloc::Global;
 
 /// The leafs that a list names.
-#[derive(PartialEq, Eq, Drop)]
+#[derive(Drop)]
 pub struct Leafs {
     /// Its keys (RFC 7950 7.8.2).
     pub keys: Many<u32>,

@@ -16,7 +16,7 @@ use nc_yang_statements::{Fault, ModuleWhy, name};
 use std::alloc::Global;
 
 /// In what a data node or a choice stands (RFC 7950 6.2.1).
-#[derive(Clone, Copy, PartialEq, Eq)]
+#[derive(Clone, Copy)]
 pub enum Parent {
     /// In a case of the choice of a number (RFC 7950 7.9.2).
     InChoice(u32),

@@ -52,7 +52,7 @@ fn first_again(alloc: Global, values: &[Text]) -> Result<Option<usize>, Memory>
 }
 
 /// A `default` statement that breaks a rule.
-#[derive(Clone, Copy, PartialEq, Eq)]
+#[derive(Clone, Copy)]
 pub(crate) struct BadDefault {
     /// Its number in the `Scopes`.
     pub at: usize,

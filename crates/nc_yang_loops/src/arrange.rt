@@ -15,7 +15,7 @@ use nc_yang_statements::{Fault, ModuleWhy};
 use std::alloc::Global;
 
 /// What is found among definitions of one sort.
-#[derive(Drop, PartialEq, Eq)]
+#[derive(Drop)]
 pub enum Arranged {
     /// The numbers of all of them, each once and after those that it names.
     Order(Many<u32>),

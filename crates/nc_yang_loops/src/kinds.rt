@@ -5,7 +5,7 @@ ghost use Rattle.nc_yang_loops.specs.Loops as loops;
 use nc_yang_statements::Keyword;
 
 /// What is defined in terms of others of its sort.
-#[derive(Clone, Copy, PartialEq, Eq)]
+#[derive(Clone, Copy)]
 pub enum Defined {
     /// Modules, by their imports (RFC 7950 5.1).
     Modules,

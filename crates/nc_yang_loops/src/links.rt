@@ -15,7 +15,7 @@ use nc_yang_words::Statement;
 use std::alloc::Global;
 
 /// A statement that names a definition.
-#[derive(Clone, Copy, PartialEq, Eq)]
+#[derive(Clone, Copy)]
 pub(crate) struct Link {
     /// The number of the statement.
     pub reference: usize,

@@ -10,7 +10,7 @@ use nc_yang_statements::{BuiltIn, Keyword, built_in_of, is_same_keyword, kind, n
 use std::alloc::Global;
 
 /// On what a statement rests as a type.
-#[derive(Clone, Copy, PartialEq, Eq)]
+#[derive(Clone, Copy)]
 pub(crate) enum Footing {
     /// On a built-in type.
     OnBuiltIn(BuiltIn),

@@ -6,7 +6,7 @@ use nc_yang_statements::Fault;
 use nc_yang_types::Named;
 
 /// What a `type` statement means. Other statements are named by their numbers in the `Scopes`.
-#[derive(Drop, PartialEq, Eq)]
+#[derive(Drop)]
 pub enum Planned {
     /// The entry of a type that names no other, without its patterns, the `pattern` statements that all have
     /// to admit its values (RFC 7950 9.4.5), and the names that it lists with their numbers, whether their
@@ -29,7 +29,7 @@ pub enum Planned {
 }
 
 /// What is found of a statement.
-#[derive(Clone, Copy, PartialEq, Eq)]
+#[derive(Clone, Copy)]
 pub enum Finding {
     /// It means nothing, and breaks no rule: it is no `type` statement, or what it names is not there, means
     /// nothing itself, or leads back to it.
@@ -42,7 +42,7 @@ pub enum Finding {
 
 /// What the statements of module texts mean as types. Types that are equal because one adds nothing to the
 /// other share one plan.
-#[derive(Drop, PartialEq, Eq)]
+#[derive(Drop)]
 pub struct Meanings {
     /// What is found of each statement, by its number in the `Scopes`.
     pub findings: Many<Finding>,

@@ -10,7 +10,7 @@ use nc_names::{Many, Memory};
 use nc_schema::{Case, Deny};
 
 /// A data node (RFC 7950 3).
-#[derive(Drop, PartialEq, Eq)]
+#[derive(Drop)]
 pub struct Planned {
     /// The number of the statement that defines it, in the `Scopes` of the texts.
     pub statement: usize,
@@ -29,7 +29,7 @@ pub struct Planned {
 }
 
 /// A choice (RFC 7950 7.9).
-#[derive(Drop, PartialEq, Eq)]
+#[derive(Drop)]
 pub struct PlannedChoice {
     /// The number of the statement that defines it, in the `Scopes` of the texts.
     pub statement: usize,
@@ -45,7 +45,7 @@ pub struct PlannedChoice {
 }
 
 /// The data nodes and the choices of modules, each in document order and under the number of its place.
-#[derive(Drop, PartialEq, Eq)]
+#[derive(Drop)]
 pub struct Plan {
     /// The data nodes.
     pub nodes: Many<Planned>,

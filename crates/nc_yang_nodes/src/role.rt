@@ -7,7 +7,7 @@ use nc_yang_statements::Keyword;
 
 /// What a statement gives to the data model of its module, and what access control denies there without a
 /// rule, by the statement alone (RFC 8341 3.5.2).
-#[derive(Clone, Copy, PartialEq, Eq)]
+#[derive(Clone, Copy)]
 pub(crate) enum Role {
     /// A data node (RFC 7950 7.5 to 7.8).
     Node(Deny),

@@ -1,7 +1,7 @@
 //! How far a search has come with a number.
 
 /// What is known of a number.
-#[derive(Clone, Copy, PartialEq, Eq)]
+#[derive(Clone, Copy)]
 pub enum Mark {
     /// It was not met yet.
     Unseen,

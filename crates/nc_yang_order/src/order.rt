@@ -8,7 +8,7 @@ use nc_names::{Many, Memory};
 use std::alloc::Global;
 
 /// What is found in a graph.
-#[derive(Drop, PartialEq, Eq)]
+#[derive(Drop)]
 pub enum Ordered {
     /// There is no circle: the numbers, each once and after all those to which it has an edge.
     Order(Many<u32>),

@@ -11,7 +11,7 @@ use nc_yang_words::Statement;
 use std::alloc::Global;
 
 /// What no two modules share.
-#[derive(Clone, Copy, PartialEq, Eq)]
+#[derive(Clone, Copy)]
 pub enum Title {
     /// The name of a module.
     OfName,

@@ -14,7 +14,7 @@ use nc_yang_statements::{Fault, Keyword, ModuleWhy, built_in_of, is_closed, kind
 use nc_yang_words::Statement;
 
 /// A fault in the text of a number.
-#[derive(Clone, Copy, PartialEq, Eq)]
+#[derive(Clone, Copy)]
 pub struct TextFault {
     /// The number of the text.
     pub text: usize,

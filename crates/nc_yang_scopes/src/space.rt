@@ -13,7 +13,7 @@ use nc_yang_words::Statement;
 use std::alloc::Global;
 
 /// A space of names (RFC 7950 6.2.1, 7.1.4). Dates of revisions are none: two revisions may have one.
-#[derive(Clone, Copy, PartialEq, Eq)]
+#[derive(Clone, Copy)]
 pub enum Space {
     /// The typedefs of a block.
     Typedefs,

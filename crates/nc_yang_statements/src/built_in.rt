@@ -4,7 +4,7 @@ ghost use Rattle.nc_names.specs.Same.{is_same_text};
 ghost use Rattle.nc_yang_statements.specs.BuiltIns as types;
 
 /// A built-in type.
-#[derive(Clone, Copy, PartialEq, Eq)]
+#[derive(Clone, Copy)]
 pub enum BuiltIn {
     /// `binary` (RFC 7950 9.8).
     Binary,

@@ -28,7 +28,7 @@ pub enum ModuleWhy {
 }
 
 /// A rule that a module text breaks.
-#[derive(Clone, Copy, PartialEq, Eq)]
+#[derive(Clone, Copy)]
 pub struct Fault {
     /// The line on which the statement stands, counted from 1 by line feeds.
     pub line: u32,

@@ -11,7 +11,7 @@ use nc_types::{read_units, split_point};
 use std::alloc::Global;
 
 /// What the bounds of a restriction count.
-#[derive(Clone, Copy, PartialEq, Eq)]
+#[derive(Clone, Copy)]
 pub enum Counted {
     /// Numbers, in units of the last of so many fraction digits; 0 of an integer type (RFC 7950 9.2.4,
     /// 9.3.4).

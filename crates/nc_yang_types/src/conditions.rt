@@ -17,7 +17,7 @@ pub trait Conditions<'a> {
 }
 
 /// All names are there.
-#[derive(Clone, Copy, PartialEq, Eq)]
+#[derive(Clone, Copy)]
 pub struct Always;
 
 impl<'a> Conditions<'a> for Always {

@@ -4,7 +4,7 @@ ghost use Rattle.std.specs.Prelude.{◌≡◌, ◌<◌, IfSome, drop, length};
 use nc_edge::{Address, read_address};
 
 /// A server, and who asks it for a session.
-#[derive(Clone, Copy, PartialEq, Eq)]
+#[derive(Clone, Copy)]
 pub struct Words<'a> {
     /// Where the server listens.
     pub address: Address<'a>,

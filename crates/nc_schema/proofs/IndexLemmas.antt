@@ -1,5 +1,5 @@
 -- What becomes of an index with the next node.
-use Rattle.std.proofs.Common.{◌≡◌, ◌≢◌, ◌⊎◌, ◌+◌, ◌<◌, ◌≤◌, ℕ, zero, suc, Bool, true, false, eqb, List, [], ◌∷◌, ◌++◌, Option, Some, None, option_and_then, length, set, get_or, take, slice_get, IfSome, refl, sym, ap, subst, ◌∙◌, inl, inr, arith}
+use Rattle.std.proofs.Common.{◌≡◌, ◌≢◌, ◌⊎◌, ◌&&◌, ◌+◌, ◌<◌, ◌≤◌, ℕ, zero, suc, Bool, true, false, cond, eqb, List, [], ◌∷◌, ◌++◌, Option, Some, None, option_and_then, length, set, get_or, take, slice_get, IfSome, refl, sym, ap, subst, ◌∙◌, inl, inr, arith}
 use Rattle.std.proofs.Math.ListN.{length-set}
 use Rattle.std.proofs.Math.Seq.{take-set-lt}
 use Rattle.std.proofs.lemmas.Bool.{cases_lt, cases_order}
@@ -9,14 +9,20 @@ use Rattle.std.proofs.lemmas.List.Elements.{All-push, All-set}
 use Rattle.std.proofs.lemmas.Option.{slice_get-get_or, get_or_from_slice_get, slice_get_past, slice_get_within}
 use Rattle.std.specs.List.{All}
 use Rattle.std.specs.Map.{lookup}
-use Rattle.indexmap.specs.IndexMap.{IsEmpty}
+use Rattle.std.specs.Prelude.{is_some}
+use Rattle.std.specs.BTreeMap.{IsEmpty}
+use Rattle.std.specs.Cmp.Lexicographic.{slice_cmp}
+use Rattle.std.specs.Ordering.{is_eq, nat_cmp, ordering_then}
+use Rattle.std.specs.declared.cmp.Ordering.{Ordering}
+use Rattle.std.specs.declared.cmp.Ordering.TheVariants.{Less, Equal, Greater}
+use Rattle.std.proofs.lemmas.Map.Text.{is_eq-slice_cmp}
 use Rattle.nc_names.specs.declared.name.QName.{QName}
 use Rattle.nc_schema.specs.declared.index.Index.{Index}
 use Rattle.nc_schema.specs.declared.node.Node.{Node}
 use Rattle.nc_schema.specs.Children.{IsChild, IsFirstChild, IsAbove, HasLowerParents, HasRoom, IsListOfNodes}
-use Rattle.nc_names.specs.Same.{is_same_name}
+use Rattle.nc_names.specs.Same.{is_same_name, is_same_text}
 use Rattle.nc_names.proofs.SameLemmas.{name_decide}
-use Rattle.nc_schema.specs.inner.Index.{Names, number_of, with_entry, HasEntry, known_child, IsIndexOf, IsIndexed, KeepsName}
+use Rattle.nc_schema.specs.inner.Index.{Names, order, number_of, with_entry, HasEntry, known_child, IsIndexOf, IsIndexed, KeepsName}
 
 -- ---- an element of a list that grew or changed in one place
 get_kept : {X : Type 0} (xs : List X) (x : X) (i : ℕ) → i < length xs → slice_get (xs ++ x ∷ []) i ≡ slice_get xs i
@@ -49,7 +55,45 @@ is_same_itself a = (name_decide a a).1 refl
 
 -- ---- an index of nothing
 pub knows_nothing : (names : Names) → IsEmpty names → (name : QName) → number_of names name ≡ None
-knows_nothing names empty name = ap (λ entries. lookup (is_same_name name) entries) empty
+knows_nothing names empty name = ap (λ entries. lookup (λ (key : QName). is_eq (order name key)) entries) empty
+
+-- ---- a name with a number
+both_equal : (a b : Ordering) → is_eq (ordering_then a b) ≡ (is_eq a && is_eq b)
+both_equal Less b = refl
+both_equal Equal b = refl
+both_equal Greater b = refl
+
+order_tells : (name other : QName) → is_eq (order name other) ≡ is_same_name name other
+order_tells name other =
+    both_equal (slice_cmp nat_cmp name.space other.space) (slice_cmp nat_cmp name.name other.name)
+    ∙ ap (λ b. b && is_eq (slice_cmp nat_cmp name.name other.name)) (is_eq-slice_cmp name.space other.space)
+    ∙ ap (λ b. is_same_text name.space other.space && b) (is_eq-slice_cmp name.name other.name)
+
+-- one that has a number keeps it
+pub entry_known : (names : Names) (name : QName) (number : ℕ) → is_some (number_of names name) ≡ true → HasEntry names names name number
+entry_known names name number known other = by (number_of names other) (is_same_name name other) refl refl
+  where
+    by : (found : Option ℕ) (b : Bool) → number_of names other ≡ found → is_same_name name other ≡ b → found ≡ with_entry found b number
+    by (Some n) b was same = refl
+    by None false was same = refl
+    by None true was same =
+        let here : number_of names name ≡ None = ap (number_of names) (same_name_is name other same) ∙ was in
+        let clash : false ≡ true = sym (ap is_some here) ∙ known in cc
+
+-- and one that has none gets it
+pub entry_put : (old new : Names) (name key : QName) (number : ℕ) → key ≡ name → is_some (number_of old name) ≡ false
+    → ((other : QName) → number_of new other ≡ cond (is_eq (order key other)) (Some number) (number_of old other)) → HasEntry old new name number
+entry_put old new name key number key_is unknown put other =
+    put other
+    ∙ ap (λ b. cond b (Some number) (number_of old other)) (order_tells key other ∙ ap (λ k. is_same_name k other) key_is)
+    ∙ by (number_of old other) (is_same_name name other) refl refl
+  where
+    by : (found : Option ℕ) (b : Bool) → number_of old other ≡ found → is_same_name name other ≡ b → cond b (Some number) found ≡ with_entry found b number
+    by None b was same = refl
+    by (Some n) false was same = refl
+    by (Some n) true was same =
+        let here : number_of old name ≡ Some n = ap (number_of old) (same_name_is name other same) ∙ was in
+        let clash : true ≡ false = sym (ap is_some here) ∙ unknown in cc
 
 -- ---- the first child in a list with one node more
 first_kept : (nodes : List Node) (node : Node) (parent : Option ℕ) (name : QName) (number : ℕ) → IsFirstChild nodes parent name (Some number) → IsFirstChild (nodes ++ node ∷ []) parent name (Some number)

@@ -3,18 +3,18 @@ ghost use Rattle.std.specs.Prelude.{OnOk};
 ghost use Rattle.nc_schema.specs.inner.Index.{HasEntry};
 
 use crate::Node;
-use indexmap::IndexMap;
 use nc_names::{Copies, Memory, QName};
 use std::alloc::Global;
+use std::collections::BTreeMap;
 
 /// The numbers of data nodes by their parents and names. Of two nodes of one name in one parent it
 /// has the first.
 #[derive(Drop)]
 pub(crate) struct Index {
     /// The nodes at the top.
-    pub(crate) top: IndexMap<QName, u32>,
+    pub(crate) top: BTreeMap<QName, u32>,
     /// The nodes in each node, by its number.
-    pub(crate) below: Vec<IndexMap<QName, u32>>,
+    pub(crate) below: Vec<BTreeMap<QName, u32>>,
 }
 
 impl Index {
@@ -28,7 +28,7 @@ impl Index {
         ensures { IsIndexOf [] result }
     {
         Index {
-            top: IndexMap::new(alloc),
+            top: BTreeMap::new(alloc),
             below: Vec::new(alloc),
         }
     }
@@ -69,17 +69,18 @@ impl Index {
             None => enter(&mut self.top, &node.name, number)?,
             Some(above) => enter(&mut self.below[above as usize], &node.name, number)?,
         }
-        self.below.push(IndexMap::new(alloc))?;
+        self.below.push(BTreeMap::new(alloc))?;
         Ok(())
     }
 }
 
 /// Enters a number under a name that has none.
-fn enter(names: &mut IndexMap<QName, u32>, name: &QName, number: u32) -> Result<(), Memory>
+fn enter(names: &mut BTreeMap<QName, u32>, name: &QName, number: u32) -> Result<(), Memory>
     ensures { OnOk result (HasEntry names.old names.new name.now number) }
 {
-    if names.get(name).is_none() {
-        names.insert(name.copy()?, number)?;
+    if names.contains_key(name) {
+        return Ok(());
     }
+    names.insert(name.copy()?, number)?;
     Ok(())
 }

@@ -1,8 +1,8 @@
 -- An index of data nodes by their parents and names.
 use Rattle.std.specs.Prelude.{◌≡◌, ℕ, Bool, false, List, Option, Some, None, cond, length, slice_get, option_and_then}
-use Rattle.std.specs.declared.hash.BuildHasherDefault.{BuildHasherDefault}
-use Rattle.std.specs.declared.hash.FoldHasher.{FoldHasher}
-use Rattle.indexmap.specs.IndexMap.{IndexMap, get}
+use Rattle.std.specs.BTreeMap.{BTreeMap, get}
+use Rattle.std.specs.declared.cmp.Ordering.{Ordering}
+use Rattle.nc_names.specs.contracts.name.QNameOrd.TheImpl.{ghosts}
 use Rattle.nc_names.specs.declared.name.QName.{QName}
 use Rattle.nc_names.specs.Same.{is_same_name}
 use Rattle.nc_schema.specs.declared.index.Index.{Index}
@@ -11,11 +11,15 @@ use Rattle.nc_schema.specs.Children.{IsChild, IsFirstChild, IsListOfNodes}
 
 -- the nodes of one parent by their names
 abbrev pub Names : Type 0
-Names = IndexMap QName ℕ (BuildHasherDefault FoldHasher)
+Names = BTreeMap QName ℕ
+
+-- names are ordered by their namespaces, then by their local names
+abbrev pub order : QName → QName → Ordering
+order name other = ghosts.cmp name other
 
 -- the number that a name has
 abbrev pub number_of : Names → QName → Option ℕ
-number_of names name = get is_same_name names name
+number_of names name = get order names name
 
 -- the number that a name has once a node of some name has got it, where no earlier node has that name
 abbrev pub with_entry : Option ℕ → Bool → ℕ → Option ℕ

@@ -1,11 +1,9 @@
 //! A growing list of bytes.
 ghost use Rattle.std.specs.Prelude.{◌≡◌, ℕ, [], ◌∷◌, ◌++◌, ◌↔◌, ◌==◌, ◌≤◌, length, take, drop, slice_get, IsTrue, IfOk, OnOk, OnErr};
 ghost use Rattle.std.specs.Cmp.Lexicographic.{pointwise};
-ghost use Rattle.std.specs.Hash as fed;
 
 use crate::{Copies, Memory};
 use std::alloc::Global;
-use std::hash::{Hash, Hasher};
 use std::marker::Model;
 
 /// Bytes that contracts see as the list of them.

@@ -2,7 +2,7 @@
 
 /// The kinds of causes for which the server answers an rpc-error (RFC 6241 4.3 and appendix A, RFC
 /// 7950 15, RFC 5717 2.4, RFC 8341 3.4).
-#[derive(Clone, Copy, PartialEq, Eq, Hash, Debug)]
+#[derive(Clone, Copy, PartialEq, Eq, Debug)]
 pub enum CauseKind {
     /// The message is not well formed, or its root is not `rpc` in the base namespace.
     Malformed,

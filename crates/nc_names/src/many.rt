@@ -2,13 +2,10 @@
 ghost use Rattle.std.specs.Prelude.{◌≡◌, [], ◌∷◌, ◌++◌, ◌-◌, ◌<◌, ◌≤◌, ◌↔◌, length, take, slice_get, slice_set, insert, remove, IsTrue, IsNone, MatchOption, OnOk, OnErr, OnSome};
 ghost use Rattle.std.specs.Option.{option_copied};
 ghost use Rattle.std.specs.Cmp.Lexicographic.{pointwise, slice_cmp, slice_partial_cmp};
-ghost use Rattle.std.specs.Hash as fed;
-ghost use Rattle.std.specs.Hash.{items_Alike};
 
 use crate::{Copies, Memory};
 use std::alloc::Global;
 use std::cmp::{Eq, Ord, Ordering, PartialEq, PartialOrd};
-use std::hash::{Hash, Hasher};
 use std::marker::Model;
 
 /// A `Vec` that contracts see as the list of its elements: two with the same elements are equal,
@@ -227,15 +224,5 @@ impl<T: Ord> Ord for Many<T> {
 
     fn cmp(&self, other: &Many<T>) -> Ordering {
         self.items.cmp(&other.items)
-    }
-}
-
-impl<T: Hash> Hash for Many<T> {
-    ghost hash_input = { fed.slice T.hash_input };
-
-    ghost respects_eq = { (items_Alike (record { fed = T.respects_eq })).fed };
-
-    fn hash<H: Hasher>(&self, state: &mut H) {
-        self.items.as_slice().hash(state);
     }
 }

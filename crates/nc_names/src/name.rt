@@ -6,7 +6,7 @@ use crate::{Copies, Many, Memory, Text};
 
 /// A qualified name: a namespace and a local name (Namespaces in XML 1.0, 2.1; RFC 7950 5.3). An
 /// empty `space` is no namespace. Names are ordered by the namespace, then by the local name.
-#[derive(PartialEq, Eq, PartialOrd, Ord, Hash, Debug, Drop)]
+#[derive(PartialEq, Eq, PartialOrd, Ord, Debug, Drop)]
 pub struct QName {
     /// The namespace.
     pub space: Text,
@@ -33,7 +33,7 @@ pub fn same_name(a: &QName, b: &QName) -> bool
 
 /// A prefix that stands for a namespace (Namespaces in XML 1.0, 3). An empty prefix is the default
 /// namespace.
-#[derive(PartialEq, Eq, Hash, Debug, Drop)]
+#[derive(PartialEq, Eq, Debug, Drop)]
 pub struct Bound {
     /// The prefix, without a colon.
     pub prefix: Text,

@@ -4,7 +4,7 @@ use crate::{Copies, Many, Memory, Text};
 /// One step of a path: the number of a data node, and the canonical keys of a list entry in the
 /// order of the list's `key` statement, or the one canonical value of a leaf-list entry. It has no
 /// keys at every other node, and where a path names a list or leaf-list without an entry.
-#[derive(PartialEq, Eq, PartialOrd, Ord, Hash, Debug, Drop)]
+#[derive(PartialEq, Eq, PartialOrd, Ord, Debug, Drop)]
 pub struct Step {
     /// The number of a data node of the schema.
     pub node: u32,
@@ -23,7 +23,7 @@ impl Copies for Step {
 
 /// A path to a node of a data tree: one step for each data node from the top, containers included
 /// (RFC 7950 9.13).
-#[derive(PartialEq, Eq, PartialOrd, Ord, Hash, Debug, Drop)]
+#[derive(PartialEq, Eq, PartialOrd, Ord, Debug, Drop)]
 pub struct Path {
     /// The steps from the top.
     pub steps: Many<Step>,
@@ -38,7 +38,7 @@ impl Copies for Path {
 }
 
 /// A row of a configuration: a path and, at a leaf or a leaf-list entry, its canonical text.
-#[derive(PartialEq, Eq, Hash, Drop)]
+#[derive(PartialEq, Eq, Drop)]
 pub struct Row {
     /// Where the row stands.
     pub path: Path,
@@ -56,7 +56,7 @@ impl Copies for Row {
 }
 
 /// An access operation that a rule permits or denies (RFC 8341 3.2.2).
-#[derive(Clone, Copy, PartialEq, Eq, Hash)]
+#[derive(Clone, Copy, PartialEq, Eq)]
 pub enum Right {
     /// To read a node.
     Read,

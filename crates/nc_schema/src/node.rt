@@ -38,7 +38,7 @@ pub enum Deny {
 }
 
 /// A case of a choice (RFC 7950 7.9.2).
-#[derive(Clone, Copy, PartialEq, Eq, Hash)]
+#[derive(Clone, Copy, PartialEq, Eq)]
 pub struct Case {
     /// The number of the choice.
     pub choice: u32,

@@ -3,7 +3,7 @@ use nc_names::{Copies, Many, Memory, Text};
 
 /// One step of a pattern: the number of a data node, and for each key of a list entry, or for the one
 /// value of a leaf-list entry, its text, or `None` where the pattern leaves it out.
-#[derive(PartialEq, Eq, Hash, Drop)]
+#[derive(PartialEq, Eq, Drop)]
 pub struct PatternStep {
     /// The number of the data node.
     pub node: u32,
@@ -22,7 +22,7 @@ impl Copies for PatternStep {
 
 /// A path in which keys may be left out: what a `node-instance-identifier` names (RFC 8341 3.5.2).
 /// Without steps it is the root.
-#[derive(PartialEq, Eq, Hash, Drop)]
+#[derive(PartialEq, Eq, Drop)]
 pub struct Pattern {
     /// One step for each data node from the top, containers included.
     pub steps: Many<PatternStep>,

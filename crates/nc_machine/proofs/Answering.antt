@@ -16,10 +16,10 @@ use Rattle.nc_protocol.specs.Proper.{IsProper}
 use Rattle.nc_model.specs.State.{State, base_of, candidate_in_force, expired, is_live}
 use Rattle.nc_model.specs.Step.{CountsFaults, answer_to, appends_record, has_failed, is_done, outcome_of, reaches_disk}
 use Rattle.nc_model.specs.Verdict.{verdict}
-use Rattle.nc_machine.specs.declared.course.Change.{Change}
-use Rattle.nc_machine.specs.declared.course.Course.TheVariants.{Answer, Commit}
+use Rattle.nc_courses.specs.declared.course.Change.{Change}
+use Rattle.nc_courses.specs.declared.course.Course.TheVariants.{Answer, Commit}
 use Rattle.nc_machine.specs.Lasting.{Lasting, LeavesStanding}
-use Rattle.nc_machine.specs.inner.Courses.{course, made}
+use Rattle.nc_courses.specs.inner.Courses.{course, made}
 use Rattle.nc_machine.specs.inner.Turns.{Answers, Commits, Enters, IsKeeping, IsKept, IsNotKept, answered_by}
 use Rattle.nc_machine.proofs.Courses.{IsAnswer, IsCommit, answers, commits}
 use Rattle.nc_machine.proofs.Keeping.{by_schema, keeping_stays, made_keeps, read_keeps}

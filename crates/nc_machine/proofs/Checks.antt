@@ -19,7 +19,7 @@ use Rattle.nc_model.specs.Access.{rights_of}
 use Rattle.nc_model.specs.State.{State, candidate_in_force}
 use Rattle.nc_model.specs.Words.{record_word}
 use Rattle.nc_model.specs.Verdict.{cancel_admission, cancel_refusal, changes_denied, commit_admission, commit_changes, commit_refusal, copied, copy_checks, edit_checks, in_use, in_use_partial, is_running, is_source, is_target, lock_refusal, partly_locked, pending_of_other, record_refusal, rows_copied, unless_denied, unlock_refusal, unsupported, unsupported_origin}
-use Rattle.nc_machine.specs.inner.Courses.{cancel_refused, commit_refused, held_refusal, lock_refused, modified_refusal, not_held, reversion_refusal, same_store, uncopied, unedited, unlock_refused}
+use Rattle.nc_courses.specs.inner.Courses.{cancel_refused, commit_refused, held_refusal, lock_refused, modified_refusal, not_held, reversion_refusal, same_store, uncopied, unedited, unlock_refused}
 
 first_of_two : (a b : Option Cause) → first_cause (a ∷ b ∷ []) ≡ option_or a b
 first_of_two (Some cause) b = refl

@@ -11,8 +11,8 @@ use Rattle.nc_model.specs.Step.{committed, milliseconds, pending_by}
 use Rattle.nc_model.specs.Verdict.{admission, cancel_admission, commit_admission}
 use Rattle.nc_pending.specs.Pending as calls
 use Rattle.nc_pending.specs.declared.pending.PendingFault.{PendingFault}
-use Rattle.nc_machine.specs.declared.course.Change.TheVariants.{Confirm}
-use Rattle.nc_machine.specs.inner.Courses.{confirming, is_reverted_by, left_of, made, pending_from, token_refusal}
+use Rattle.nc_courses.specs.declared.course.Change.TheVariants.{Confirm}
+use Rattle.nc_courses.specs.inner.Courses.{confirming, is_reverted_by, left_of, made, pending_from, token_refusal}
 
 -- ---- who may follow, confirm or cancel it
 pub admitted : (session : ℕ) (pending : Pending) (given : Option (List ℕ)) (told : Result (Unit {0}) PendingFault) (it : Unit {0}) →

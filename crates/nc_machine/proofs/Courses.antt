@@ -18,10 +18,10 @@ use Rattle.nc_model.specs.Step.{answered, answered_unless, appends_record, commi
 use Rattle.nc_model.specs.Verdict.{commit_refusal, copied, edits_made, in_use, kept_unless, kill_refusal, nodes_selected, operation_refused, partial_lock_refusal, partial_unlock_refusal, rows_set, verdict, verdict_on}
 use Rattle.nc_protocol.specs.Refusals.{checked, refused_for}
 use Rattle.nc_model.proofs.GoodLemmas.{commit_is_small, commit_is_valid}
-use Rattle.nc_machine.specs.declared.course.Change.{Change}
-use Rattle.nc_machine.specs.declared.course.Change.TheVariants.{Nothing, Discard, Grant, Release, Confirm, Revert, Over, GrantNodes, ReleaseNodes}
-use Rattle.nc_machine.specs.declared.course.Course.TheVariants.{Answer, Commit}
-use Rattle.nc_machine.specs.inner.Courses.{asked_course, cancel_course, cancel_refused, changed_to, commit_asked_course, commit_refused, copy_config_course, course, course_on, discard_course, done_unless, edit_config_course, edit_course, get_config_course, get_course, kill_course, lock_course, lock_refused, made, partial_unlock_course, unless_refused, unlock_course, unlock_refused, validate_course}
+use Rattle.nc_courses.specs.declared.course.Change.{Change}
+use Rattle.nc_courses.specs.declared.course.Change.TheVariants.{Nothing, Discard, Grant, Release, Confirm, Revert, Over, GrantNodes, ReleaseNodes}
+use Rattle.nc_courses.specs.declared.course.Course.TheVariants.{Answer, Commit}
+use Rattle.nc_courses.specs.inner.Courses.{asked_course, cancel_course, cancel_refused, changed_to, commit_asked_course, commit_refused, copy_config_course, course, course_on, discard_course, done_unless, edit_config_course, edit_course, get_config_course, get_course, kill_course, lock_course, lock_refused, made, partial_unlock_course, unless_refused, unlock_course, unlock_refused, validate_course}
 use Rattle.nc_machine.proofs.Checks.{cancel_checked, commit_checked, lock_checked, unlock_checked}
 use Rattle.nc_machine.proofs.Confirmed.{confirmed_is}
 use Rattle.nc_machine.proofs.Held.{lock_granted, lock_released}

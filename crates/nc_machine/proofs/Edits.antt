@@ -21,11 +21,11 @@ use Rattle.nc_model.specs.State.{State, candidate_in_force}
 use Rattle.nc_model.specs.Verdict.{causes_of_test, edit_checks, made_by, rows_set}
 use Rattle.nc_protocol.specs.Refusals.{done_unless, result_unless, violation_in}
 use Rattle.nc_model.proofs.OpenLemmas.{nothing_is_denied}
-use Rattle.nc_machine.specs.declared.course.Change.{Change}
-use Rattle.nc_machine.specs.declared.course.Course.{Course}
-use Rattle.nc_machine.specs.declared.course.Course.TheVariants.{Answer}
-use Rattle.nc_machine.specs.inner.Courses.{change_by, changed_to, edit_course, refused_course, unedited, violation_by}
-use Rattle.nc_machine.specs.inner.Governing.{viewer_of}
+use Rattle.nc_courses.specs.declared.course.Change.{Change}
+use Rattle.nc_courses.specs.declared.course.Course.{Course}
+use Rattle.nc_courses.specs.declared.course.Course.TheVariants.{Answer}
+use Rattle.nc_courses.specs.inner.Courses.{change_by, changed_to, edit_course, refused_course, unedited, violation_by}
+use Rattle.nc_courses.specs.inner.Governing.{viewer_of}
 use Rattle.nc_machine.proofs.Checks.{edits_checked}
 use Rattle.nc_machine.proofs.Freely.{freely}
 

@@ -11,8 +11,8 @@ use Rattle.nc_model.specs.State.{State, is_held_by, is_live}
 use Rattle.nc_model.specs.Step.{with_holder, with_lock, without_lock}
 use Rattle.nc_model.specs.Verdict.{global_lock_cause, holder_of, in_use, is_candidate, kill_refusal, lock_checks, lock_refusal, unlock_checks, unlock_refusal}
 use Rattle.nc_model.proofs.SessionLemmas.{all_none, is_false_not, where_none}
-use Rattle.nc_machine.specs.declared.course.Change.TheVariants.{Grant, Release}
-use Rattle.nc_machine.specs.inner.Courses.{granted, held_refusal, made, unlocked}
+use Rattle.nc_courses.specs.declared.course.Change.TheVariants.{Grant, Release}
+use Rattle.nc_courses.specs.inner.Courses.{granted, held_refusal, made, unlocked}
 
 -- ---- a lock in the way
 

@@ -9,12 +9,12 @@ use Rattle.nc_model.specs.State.{Pending, State, candidate_in_force, expired, is
 use Rattle.nc_model.specs.Step.{milliseconds, without_partial}
 use Rattle.nc_model.specs.Verdict.{has_lock}
 use Rattle.nc_model.proofs.RunningLemmas.{candidate_base, ended_base}
-use Rattle.nc_machine.specs.declared.course.Change.{Change}
-use Rattle.nc_machine.specs.declared.course.Change.TheVariants.{Nothing, Candidate, Discard, Grant, Release, Confirm, Revert, Over, GrantNodes, ReleaseNodes}
+use Rattle.nc_courses.specs.declared.course.Change.{Change}
+use Rattle.nc_courses.specs.declared.course.Change.TheVariants.{Nothing, Candidate, Discard, Grant, Release, Confirm, Revert, Over, GrantNodes, ReleaseNodes}
 use Rattle.nc_partial.specs.declared.locks.PartialFault.{PartialFault}
 use Rattle.nc_partial.specs.Granted.{lock_given}
 use Rattle.nc_machine.specs.Lasting.{Lasting}
-use Rattle.nc_machine.specs.inner.Courses.{confirming, granted, made, partly_granted, partly_released, unlocked, with_given}
+use Rattle.nc_courses.specs.inner.Courses.{confirming, granted, made, partly_granted, partly_released, unlocked, with_given}
 use Rattle.nc_machine.specs.inner.Turns.{IsKeeping, LeavesKept}
 use Rattle.nc_machine.proofs.Confirmed.{confirming_base}
 

@@ -1,15 +1,11 @@
-pub mod Told
 pub mod Free
 pub mod Open
 pub mod Freely
-pub mod Denying
-pub mod Policies
 pub mod Checks
 pub mod NodeLocks
 pub mod Held
 pub mod Confirmed
 pub mod Edits
-pub mod Drafts
 pub mod Courses
 pub mod Keeping
 pub mod Answering

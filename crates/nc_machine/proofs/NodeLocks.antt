@@ -30,11 +30,11 @@ use Rattle.nc_partial.specs.declared.locks.PartialFault.TheVariants.{Taken, TooM
 use Rattle.nc_partial.specs.Granted.{Granted, IsTold, covered_cause, covered_of, granted_of, lock_given, refusal}
 use Rattle.nc_partial.specs.inner.Given.{told_of}
 use Rattle.nc_partial.specs.Selects.{nodes_among, nodes_seen, paths_of}
-use Rattle.nc_machine.specs.declared.course.Change.TheVariants.{Nothing, GrantNodes, ReleaseNodes}
-use Rattle.nc_machine.specs.declared.course.Course.{Course}
-use Rattle.nc_machine.specs.declared.course.Course.TheVariants.{Answer}
-use Rattle.nc_machine.specs.inner.Governing.{viewer_of}
-use Rattle.nc_machine.specs.inner.Courses.{done_unless, held_refusal, made, nodes_course, partial_lock_course, partly_granted, partly_hindered, partly_released, refused_course, running_opposed, running_refusal, selects_course, told_course, unless_refused, wants_memory, with_given}
+use Rattle.nc_courses.specs.declared.course.Change.TheVariants.{Nothing, GrantNodes, ReleaseNodes}
+use Rattle.nc_courses.specs.declared.course.Course.{Course}
+use Rattle.nc_courses.specs.declared.course.Course.TheVariants.{Answer}
+use Rattle.nc_courses.specs.inner.Governing.{viewer_of}
+use Rattle.nc_courses.specs.inner.Courses.{done_unless, held_refusal, made, nodes_course, partial_lock_course, partly_granted, partly_hindered, partly_released, refused_course, running_opposed, running_refusal, selects_course, told_course, unless_refused, wants_memory, with_given}
 
 -- ---- running's lock
 pub running_by : (s : State) (session : ℕ) (target : Datastore) → target ≡ Running →

@@ -16,7 +16,7 @@ use Rattle.nc_model.specs.Sight.{Viewer, is_open}
 use Rattle.nc_model.specs.State.{State}
 use Rattle.nc_model.specs.Verdict.{changes_denied, exec_denied}
 use Rattle.nc_model.proofs.OpenLemmas.{nothing_is_denied}
-use Rattle.nc_machine.specs.inner.Governing.{viewer_of}
+use Rattle.nc_courses.specs.inner.Governing.{viewer_of}
 use Rattle.nc_machine.proofs.Free.{none_is_denied}
 
 pub may_ask : (s : State) (session : ℕ) (operation : Operation) → true ≡ is_open (access_policy s) (peer_of s session) →

@@ -8,7 +8,7 @@ use Rattle.nc_protocol.specs.Reply.{reply_of}
 use Rattle.nc_model.specs.Access.{sees_of}
 use Rattle.nc_model.specs.Sight.{Viewer, may_see}
 use Rattle.nc_model.specs.State.{State}
-use Rattle.nc_machine.specs.inner.Governing.{viewer_of}
+use Rattle.nc_courses.specs.inner.Governing.{viewer_of}
 
 pub reply_is : (s : State) (session : ℕ) (request : Request) (verdict : Verdict) (tables : Tables) (viewer : Viewer) (tree : Tree) →
     tables ≡ s.schema → viewer ≡ viewer_of s session →

@@ -7,13 +7,11 @@ ghost use Rattle.nc_protocol.specs.Changes.{changes_between};
 ghost use Rattle.nc_model.specs.Access as meant;
 ghost use Rattle.nc_model.specs.Sight as sight;
 ghost use Rattle.nc_model.specs.Verdict as verdicts;
-ghost use Rattle.nc_machine.specs.inner.Governing.{policy_after, viewer_of};
+ghost use Rattle.nc_courses.specs.inner.Governing.{policy_after, viewer_of};
 
-use crate::course::Change;
-use crate::denied::{changes_denied, exec_denied};
-use crate::reach::Reach;
 use crate::server::Server;
 use nc_changes::changes;
+use nc_courses::{Change, Reach, changes_denied, exec_denied};
 use nc_model::Session;
 use nc_nacm::Policy;
 use nc_names::{Copies, Memory};

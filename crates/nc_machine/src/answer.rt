@@ -1,15 +1,13 @@
 //! Answers: the reply to a verdict, and what the verdict changes.
 ghost use Rattle.std.specs.Prelude.{◌≡◌, IfOk, OnErr, OnOk};
-ghost use Rattle.nc_machine.specs.inner.Courses as course;
+ghost use Rattle.nc_courses.specs.inner.Courses as course;
 ghost use Rattle.nc_protocol.specs.Reply.{reply_of};
 ghost use Rattle.nc_model.specs.Access.{sees_of};
-ghost use Rattle.nc_machine.specs.inner.Governing.{policy_after, viewer_of};
+ghost use Rattle.nc_courses.specs.inner.Governing.{policy_after, viewer_of};
 ghost use Rattle.nc_machine.specs.inner.Turns.{answered_by};
 
-use crate::course::Change;
-use crate::own::reply;
-use crate::reach::Reach;
 use crate::server::Server;
+use nc_courses::{Change, Reach, reply};
 use nc_model::Outcome;
 use nc_nacm::Policy;
 use nc_names::Memory;
@@ -62,7 +60,7 @@ impl Server {
     }
 
     // Changes what is to be changed: nothing, for want of memory.
-    #[tactic(auto, unfolding(crate::specs::inner::Courses::made))]
+    #[tactic(auto, unfolding(nc_courses::specs::inner::Courses::made))]
     fn change(&mut self, session: u32, change: Change, policy: Option<Policy>) -> Result<(), Memory>
         requires { policy ≡ policy_after self.old.schema change }
         ensures made { OnOk result (self.new ≡ course.made self.old session change) }

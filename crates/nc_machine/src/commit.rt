@@ -8,8 +8,8 @@ ghost use Rattle.nc_model.specs.State.{base_of, candidate_in_force};
 ghost use Rattle.nc_machine.specs.Lasting.{LeavesStanding, Withstands, lasting};
 ghost use Rattle.nc_machine.specs.inner.Turns.{Commits, IsKeeping, failed_in};
 
-use crate::causes::refused;
 use crate::server::Server;
+use nc_courses::refused;
 use nc_model::Outcome;
 use nc_nacm::Policy;
 use nc_names::{CauseKind, Memory};

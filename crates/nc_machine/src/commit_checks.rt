@@ -1,10 +1,10 @@
 //! What is looked at before a commit (RFC 6241 8.3.4.1, 8.4.5.1; RFC 7950 8.3.3).
 ghost use Rattle.std.specs.Prelude.{◌≡◌, IfOk};
 ghost use Rattle.nc_model.specs.Verdict as meant;
-ghost use Rattle.nc_machine.specs.inner.Courses as course;
+ghost use Rattle.nc_courses.specs.inner.Courses as course;
 
-use crate::course::{Course, refused_course};
 use crate::server::Server;
+use nc_courses::{Course, refused_course};
 use nc_model::server_words::record_text;
 use nc_names::{BODY_LIMIT, CauseKind, Memory, Text};
 use nc_protocol::{Cause, Datastore};
@@ -83,7 +83,7 @@ impl Server {
     }
 
     /// What commit comes to.
-    #[tactic(auto, unfolding(crate::specs::inner::Courses::commit_asked_course))]
+    #[tactic(auto, unfolding(nc_courses::specs::inner::Courses::commit_asked_course))]
     pub(crate) fn commit_asked_course(
         &self,
         session: u32,

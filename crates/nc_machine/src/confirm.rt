@@ -4,11 +4,11 @@ ghost use Rattle.std.specs.Fmt.{decimal};
 ghost use Rattle.nc_protocol.specs.Asking.{plain_cause};
 ghost use Rattle.nc_model.specs.Verdict as meant;
 ghost use Rattle.nc_pending.specs.Pending as pending;
-ghost use Rattle.nc_machine.specs.inner.Courses as course;
+ghost use Rattle.nc_courses.specs.inner.Courses as course;
 
-use crate::course::{Change, Course, done, done_unless};
 use crate::server::Server;
 use itoa::Buffer;
+use nc_courses::{Change, Course, done, done_unless};
 use nc_names::{CauseKind, Copies, Memory, Text};
 use nc_pending::{Pending, PendingFault};
 use nc_protocol::{Cause, Datastore};
@@ -123,7 +123,7 @@ impl Server {
     }
 
     /// What cancel-commit comes to.
-    #[tactic(auto, unfolding(crate::specs::inner::Courses::cancel_course))]
+    #[tactic(auto, unfolding(nc_courses::specs::inner::Courses::cancel_course))]
     pub(crate) fn cancel_course(&self, session: u32, given: &Option<Text>) -> Result<Course, Memory>
         ensures { IfOk result (λ it. it ≡ course.cancel_course self.now session given.now) }
     {

@@ -1,13 +1,12 @@
 //! Copies into the candidate (RFC 6241 7.3; RFC 8341 3.2.6).
 ghost use Rattle.std.specs.Prelude.{◌≡◌, ℕ, IfOk};
 ghost use Rattle.nc_model.specs.Verdict as meant;
-ghost use Rattle.nc_machine.specs.inner.Courses as course;
+ghost use Rattle.nc_courses.specs.inner.Courses as course;
 
-use crate::course::{Change, Course, done, refused_course};
-use crate::datastores::{unsupported_origin, unsupported_target};
-use crate::draft::Draft;
-use crate::payload::rows_of;
 use crate::server::Server;
+use nc_courses::{
+    Change, Course, Draft, done, refused_course, rows_of, unsupported_origin, unsupported_target,
+};
 use nc_names::{CauseKind, Memory};
 use nc_protocol::request_words::source as source_text;
 use nc_protocol::{Cause, Datastore, Origin};
@@ -118,7 +117,7 @@ impl Server {
     }
 
     /// What copy-config comes to.
-    #[tactic(auto, unfolding(crate::specs::inner::Courses::copy_config_course))]
+    #[tactic(auto, unfolding(nc_courses::specs::inner::Courses::copy_config_course))]
     pub(crate) fn copy_config_course(
         &self,
         session: u32,

@@ -2,17 +2,16 @@
 ghost use Rattle.std.specs.Prelude.{◌≡◌, IfOk};
 ghost use Rattle.nc_model.specs.State.{IsGood};
 ghost use Rattle.nc_model.specs.Verdict as meant;
-ghost use Rattle.nc_machine.specs.inner.Courses as course;
+ghost use Rattle.nc_courses.specs.inner.Courses as course;
 
-use crate::course::{Change, Course, done, done_unless, refused_course};
-use crate::datastores::not_offered;
 use crate::server::Server;
+use nc_courses::{Change, Course, done, done_unless, not_offered, refused_course};
 use nc_names::{Copies, Memory};
 use nc_protocol::{Asked, Cause, Datastore, Operation, Request};
 
 impl Server {
     // What discard-changes comes to.
-    #[tactic(auto, unfolding(crate::specs::inner::Courses::discard_course))]
+    #[tactic(auto, unfolding(nc_courses::specs::inner::Courses::discard_course))]
     fn discard_course(&self, session: u32) -> Result<Course, Memory>
         ensures { IfOk result (λ it. it ≡ course.discard_course self.now session) }
     {
@@ -21,7 +20,7 @@ impl Server {
     }
 
     // What an operation comes to.
-    #[tactic(auto, unfolding(crate::specs::inner::Courses::asked_course))]
+    #[tactic(auto, unfolding(nc_courses::specs::inner::Courses::asked_course))]
     fn asked_course(&self, session: u32, asked: &Asked) -> Result<Course, Memory>
         requires good { IsGood self.now }
         ensures { IfOk result (λ it. it ≡ course.asked_course self.now session asked.now) }
@@ -85,7 +84,7 @@ impl Server {
 
     /// What a live session's request comes to. An operation that the session may not ask for is refused
     /// before its parameters are looked at.
-    #[tactic(auto, unfolding(crate::specs::inner::Courses::course))]
+    #[tactic(auto, unfolding(nc_courses::specs::inner::Courses::course))]
     pub(crate) fn course(&self, session: u32, request: &Request) -> Result<Course, Memory>
         requires good { IsGood self.now }
         ensures { IfOk result (λ it. it ≡ course.course self.now session request.now) }

@@ -7,14 +7,12 @@ ghost use Rattle.nc_protocol.specs.Payload.{edits_of};
 ghost use Rattle.nc_model.specs.Access.{rights_of};
 ghost use Rattle.nc_model.specs.State.{candidate_in_force};
 ghost use Rattle.nc_model.specs.Verdict as meant;
-ghost use Rattle.nc_machine.specs.inner.Courses as course;
+ghost use Rattle.nc_courses.specs.inner.Courses as course;
 
-use crate::causes::done_unless;
-use crate::course::{Change, Course, refused_course};
-use crate::datastores::unsupported_target;
-use crate::draft::Draft;
-use crate::payload::edits_of;
 use crate::server::Server;
+use nc_courses::{
+    Change, Course, Draft, done_or_refused, edits_of, refused_course, unsupported_target,
+};
 use nc_edit::{apply, apply_freely};
 use nc_message::Elem;
 use nc_names::{Copies, Many, Memory};
@@ -75,7 +73,7 @@ impl Server {
         let is_violated = violation.is_some();
         let causes = with_cause(causes, violation)?;
         Ok(Course::Answer {
-            verdict: done_unless(causes),
+            verdict: done_or_refused(causes),
             change: change_by(test, is_violated, rows),
         })
     }
@@ -162,7 +160,7 @@ impl Server {
     }
 
     /// What edit-config comes to.
-    #[tactic(auto, unfolding(crate::specs::inner::Courses::edit_config_course), using(crate::proofs::Edits::edits_refused, crate::proofs::Edits::edits_taken))]
+    #[tactic(auto, unfolding(nc_courses::specs::inner::Courses::edit_config_course), using(crate::proofs::Edits::edits_refused, crate::proofs::Edits::edits_taken))]
     pub(crate) fn edit_config_course(
         &self,
         session: u32,

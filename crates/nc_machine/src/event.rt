@@ -11,8 +11,8 @@ ghost use Rattle.nc_machine.specs.Serving.{failed_of};
 ghost use Rattle.nc_machine.specs.inner.Turns.{Answers, Enters, IsKeeping, LeavesKept, failed_in};
 
 use crate::commit::commit;
-use crate::course::Course;
 use crate::server::Server;
+use nc_courses::Course;
 use nc_model::{Entry, Event, Outcome};
 use nc_names::Memory;
 use nc_protocol::{Peer, Request};

@@ -6,12 +6,11 @@ ghost use Rattle.nc_protocol.specs.Filter as filters;
 ghost use Rattle.nc_model.specs.Access as access;
 ghost use Rattle.nc_model.specs.State.{IsGood};
 ghost use Rattle.nc_model.specs.Verdict as meant;
-ghost use Rattle.nc_machine.specs.inner.Courses as course;
+ghost use Rattle.nc_courses.specs.inner.Courses as course;
 ghost use Rattle.nc_machine.specs.inner.Parts.{IsPartFor};
 
-use crate::course::{Course, refused_course, unchanging};
-use crate::datastores::unsupported_source;
 use crate::server::Server;
+use nc_courses::{Course, refused_course, unchanging, unsupported_source};
 use nc_filter::{entry_asked, select};
 use nc_message::Elem;
 use nc_names::{Copies, Memory};
@@ -67,7 +66,7 @@ impl Server {
     }
 
     /// What get comes to.
-    #[tactic(auto, unfolding(crate::specs::inner::Courses::get_course))]
+    #[tactic(auto, unfolding(nc_courses::specs::inner::Courses::get_course))]
     pub(crate) fn get_course(&self, session: u32, filter: &Option<Elem>) -> Result<Course, Memory>
         requires good { IsGood self.now }
         ensures { IfOk result (λ it. it ≡ course.get_course self.now session filter.now) }
@@ -77,7 +76,7 @@ impl Server {
     }
 
     /// What get-config comes to.
-    #[tactic(auto, unfolding(crate::specs::inner::Courses::get_config_course))]
+    #[tactic(auto, unfolding(nc_courses::specs::inner::Courses::get_config_course))]
     pub(crate) fn get_config_course(
         &self,
         session: u32,

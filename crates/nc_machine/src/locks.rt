@@ -3,12 +3,11 @@
 ghost use Rattle.std.specs.Prelude.{◌≡◌, IfOk};
 ghost use Rattle.nc_model.specs.State.{is_held_by};
 ghost use Rattle.nc_model.specs.Verdict as meant;
-ghost use Rattle.nc_machine.specs.inner.Courses as course;
+ghost use Rattle.nc_courses.specs.inner.Courses as course;
 
-use crate::course::{Change, Course, done_unless};
-use crate::datastores::{name_of, unsupported_source};
 use crate::server::Server;
 use itoa::Buffer;
+use nc_courses::{Change, Course, done_unless, name_of, unsupported_source};
 use nc_names::{CauseKind, Memory, Text};
 use nc_protocol::{Cause, Datastore};
 use std::alloc::Global;
@@ -125,7 +124,7 @@ impl Server {
     }
 
     /// What lock comes to.
-    #[tactic(auto, unfolding(crate::specs::inner::Courses::lock_course))]
+    #[tactic(auto, unfolding(nc_courses::specs::inner::Courses::lock_course))]
     pub(crate) fn lock_course(&self, session: u32, target: Datastore) -> Result<Course, Memory>
         ensures { IfOk result (λ it. it ≡ course.lock_course self.now session target) }
     {
@@ -155,7 +154,7 @@ impl Server {
     }
 
     /// What unlock comes to.
-    #[tactic(auto, unfolding(crate::specs::inner::Courses::unlock_course))]
+    #[tactic(auto, unfolding(nc_courses::specs::inner::Courses::unlock_course))]
     pub(crate) fn unlock_course(&self, session: u32, target: Datastore) -> Result<Course, Memory>
         ensures { IfOk result (λ it. it ≡ course.unlock_course self.now session target) }
     {

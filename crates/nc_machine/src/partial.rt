@@ -7,13 +7,13 @@ ghost use Rattle.nc_protocol.specs.Edited.{first_cause};
 ghost use Rattle.nc_model.specs.Verdict as meant;
 ghost use Rattle.nc_partial.specs.Granted as granted;
 ghost use Rattle.nc_partial.specs.Selects.{paths_of};
-ghost use Rattle.nc_machine.specs.inner.Courses as course;
+ghost use Rattle.nc_courses.specs.inner.Courses as course;
 
 use crate::confirm::session_cause;
-use crate::course::{Change, Course, done_unless, refused_course};
 use crate::server::Server;
 use itoa::Buffer;
 use nc_changes::changes;
+use nc_courses::{Change, Course, done_unless, refused_course};
 use nc_model::server_words::{lock_ids, partial_locks};
 use nc_names::{CauseKind, Copies, Many, Memory, Path, Text};
 use nc_partial::{Covered, PartialFault, nodes_seen, paths_selected};
@@ -269,7 +269,7 @@ impl Server {
 
     /// What partial-lock comes to. The nodes are locked after the reply is made: `next_id` tells before what
     /// `grant` would.
-    #[tactic(auto, unfolding(crate::specs::inner::Courses::partial_lock_course))]
+    #[tactic(auto, unfolding(nc_courses::specs::inner::Courses::partial_lock_course))]
     pub(crate) fn partial_lock_course(
         &self,
         session: u32,
@@ -310,7 +310,7 @@ impl Server {
     }
 
     /// What partial-unlock comes to.
-    #[tactic(auto, unfolding(crate::specs::inner::Courses::partial_unlock_course))]
+    #[tactic(auto, unfolding(nc_courses::specs::inner::Courses::partial_unlock_course))]
     pub(crate) fn partial_unlock_course(&self, session: u32, lock: u32) -> Result<Course, Memory>
         ensures { IfOk result (λ it. it ≡ course.partial_unlock_course self.now session lock) }
     {

@@ -7,10 +7,9 @@ ghost use Rattle.nc_model.specs.State as state;
 ghost use Rattle.nc_model.specs.Step.{committed, with_candidate};
 ghost use Rattle.nc_model.specs.Verdict.{holder_of, is_candidate, stored};
 ghost use Rattle.nc_outside.specs.Clocks.{last_reading};
-ghost use Rattle.nc_machine.specs.inner.Courses as course;
+ghost use Rattle.nc_courses.specs.inner.Courses as course;
 
-use crate::draft::Draft;
-use crate::governed::Governed;
+use nc_courses::{Draft, Governed};
 use nc_locks::Locks;
 use nc_model::Session;
 use nc_nacm::Policy;
@@ -251,7 +250,7 @@ impl Server {
     }
 
     /// A session gets the lock of a datastore, unless one holds it.
-    #[tactic(auto, unfolding(crate::specs::inner::Courses::granted))]
+    #[tactic(auto, unfolding(nc_courses::specs::inner::Courses::granted))]
     pub(crate) fn grant(&mut self, session: u32, target: Datastore)
         ensures { self.new ≡ course.granted self.old session target }
     {
@@ -273,7 +272,7 @@ impl Server {
 
     /// The lock of a datastore is released, if that session holds it; the changes of a candidate that is
     /// unlocked are discarded.
-    #[tactic(auto, unfolding(crate::specs::inner::Courses::unlocked))]
+    #[tactic(auto, unfolding(nc_courses::specs::inner::Courses::unlocked))]
     pub(crate) fn release(&mut self, session: u32, target: Datastore)
         ensures { self.new ≡ course.unlocked self.old session target }
     {
@@ -323,7 +322,7 @@ impl Server {
 
     /// A configuration with its policy is running and waits to be confirmed; the candidate is unmodified.
     /// Running before it is moved, and takes no memory.
-    #[tactic(auto, unfolding(crate::specs::inner::Courses::confirming))]
+    #[tactic(auto, unfolding(nc_courses::specs::inner::Courses::confirming))]
     pub(crate) fn confirm(
         &mut self,
         session: u32,

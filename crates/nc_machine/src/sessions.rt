@@ -5,10 +5,10 @@ ghost use Rattle.nc_model.specs.declared.event.Event.TheVariants.{Start, End};
 ghost use Rattle.nc_model.specs.State as state;
 ghost use Rattle.nc_model.specs.Step.{changed, outcome_of};
 ghost use Rattle.nc_model.specs.Verdict as meant;
-ghost use Rattle.nc_machine.specs.inner.Courses as course;
+ghost use Rattle.nc_courses.specs.inner.Courses as course;
 
-use crate::course::{Change, Course, done_unless};
 use crate::server::{MOST_SESSIONS, Server};
+use nc_courses::{Change, Course, done_unless};
 use nc_model::{Outcome, Session};
 use nc_names::{CauseKind, Copies, Many, Memory};
 use nc_protocol::{Cause, Peer};
@@ -95,7 +95,7 @@ impl Server {
     }
 
     /// What kill-session comes to.
-    #[tactic(auto, unfolding(crate::specs::inner::Courses::kill_course))]
+    #[tactic(auto, unfolding(nc_courses::specs::inner::Courses::kill_course))]
     pub(crate) fn kill_course(&self, session: u32, number: u32) -> Result<Course, Memory>
         ensures { IfOk result (λ it. it ≡ course.kill_course self.now session number) }
     {

@@ -4,13 +4,10 @@ ghost use Rattle.nc_protocol.specs.declared.datastore.Origin.TheVariants.{Store,
 ghost use Rattle.nc_protocol.specs.declared.verdict.Verdict.TheVariants.{Done};
 ghost use Rattle.nc_protocol.specs.Refusals as refusal;
 ghost use Rattle.nc_model.specs.Verdict as meant;
-ghost use Rattle.nc_machine.specs.inner.Courses as course;
+ghost use Rattle.nc_courses.specs.inner.Courses as course;
 
-use crate::causes::{checked, refused};
-use crate::course::{Course, unchanging};
-use crate::datastores::unsupported_source;
-use crate::payload::rows_of;
 use crate::server::Server;
+use nc_courses::{Course, checked, refused, rows_of, unchanging, unsupported_source};
 use nc_message::Elem;
 use nc_names::Memory;
 use nc_protocol::{Datastore, Origin, Verdict};
@@ -60,7 +57,7 @@ impl Server {
     }
 
     /// What validate comes to.
-    #[tactic(auto, unfolding(crate::specs::inner::Courses::validate_course))]
+    #[tactic(auto, unfolding(nc_courses::specs::inner::Courses::validate_course))]
     pub(crate) fn validate_course(&self, source: &Origin) -> Result<Course, Memory>
         ensures { IfOk result (λ it. it ≡ course.validate_course self.now source.now) }
     {

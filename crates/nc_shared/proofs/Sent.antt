@@ -14,7 +14,7 @@ use Rattle.nc_model.specs.contracts.policy.Policy as PlainPolicy
 use Rattle.nc_model.specs.contracts.policy.Rule as Rule
 use Rattle.nc_model.specs.contracts.policy.RuleList as RuleList
 use Rattle.nc_nacm.specs.contracts.policy.Policy as Policy
-use Rattle.nc_machine.specs.contracts.governed.Governed as Governed
+use Rattle.nc_courses.specs.contracts.governed.Governed as Governed
 use Rattle.nc_machine.specs.contracts.server.Server as Server
 use Rattle.nc_machine.specs.contracts.machine.Machine as Machine
 

@@ -1,8 +1,8 @@
 use Rattle.std.proofs.Common.{◌≡◌, ◌∙◌, sym}
 use Rattle.nc_model.specs.declared.event.Event.TheVariants.{Request as Requested}
 use Rattle.nc_machine.specs.Lasting.{Lasting, lasting}
-use Rattle.nc_machine.specs.declared.course.Course.TheVariants.{Commit}
-use Rattle.nc_machine.specs.inner.Courses.{course}
+use Rattle.nc_courses.specs.declared.course.Course.TheVariants.{Commit}
+use Rattle.nc_courses.specs.inner.Courses.{course}
 use Rattle.nc_machine.specs.inner.Turns.{failed_in}
 use Rattle.nc_machine.proofs.Answering.{commit_told, commit_wanted, keeping_answered, keeping_committed, reaches, unreached}
 use Rattle.nc_machine.proofs.Withstanding.{idle_for, idle_wanted, over_commit}

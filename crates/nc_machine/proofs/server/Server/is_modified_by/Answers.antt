@@ -1,7 +1,7 @@
 use Rattle.std.proofs.Common.{◌∙◌, ap, sym}
 use Rattle.nc_names.specs.Same.{is_same_rows}
 use Rattle.nc_model.specs.State.{State}
-use Rattle.nc_machine.proofs.Drafts.{left_on_running, put_on_running, put_over}
+use Rattle.nc_courses.proofs.Drafts.{left_on_running, put_on_running, put_over}
 use Rattle.nc_machine.proofs.server.Server.is_modified_by.Goals as goal
 
 pub returns-in-Some-clause-put : goal.returns-in-Some-clause-put

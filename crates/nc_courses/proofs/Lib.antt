@@ -1,0 +1,4 @@
+mod Denying
+pub mod Drafts
+mod Policies
+mod Told

@@ -1,7 +1,7 @@
 //! Threads that enter events, and the counter that they leave.
-use super::*;
 use std::process::Abort;
 use std::test::*;
+use trials_turn::{enter_by_many, enter_by_two};
 
 #[test]
 fn two_threads_enter_a_hundred_events_each(rt: HostRuntime) -> Result<(), Fail> {

@@ -1,3 +1,4 @@
+mod Headers
 pub mod Lasting
 mod Preparing
 pub mod Seated

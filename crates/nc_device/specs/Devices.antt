@@ -2,7 +2,7 @@
 use Rattle.std.specs.Prelude.{◌≡◌, ℕ, List, length, Option, IfSome}
 use Rattle.nc_names.specs.Counts.{Rose}
 use Rattle.nc_names.specs.declared.path.Row.{Row}
-use Rattle.nc_header.specs.Header.{IsStoreHeader}
+use Rattle.nc_device.specs.Header.{IsStoreHeader}
 use Rattle.nc_model.specs.State.{State, opening}
 use Rattle.nc_outside.specs.Disks.{Told}
 use Rattle.nc_outside.specs.declared.files.NamedFile.{NamedFile}

@@ -10,7 +10,7 @@ ghost use Rattle.nc_device.specs.Devices.{IsDevice};
 ghost use Rattle.nc_device.specs.Outside.{filing, making};
 ghost use Rattle.nc_device.specs.inner.Preparing.{IsRead, MakesOf, Prepares};
 
-use nc_header::header_of;
+use crate::header::header_of;
 use nc_names::{Bytes, Memory};
 use nc_outside::{FileFault, Files};
 use nc_patterns::Maker;

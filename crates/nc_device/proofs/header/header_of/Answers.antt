@@ -1,8 +1,8 @@
 use Rattle.std.proofs.Common.{◌≡◌, ◌∙◌, ◌<◌, ◌≤◌, ◌^◌, ap, sym, subst, ℕ, List, length, arith}
 use Rattle.std.specs.List.{flat_map}
-use Rattle.nc_header.specs.Header.{line}
-use Rattle.nc_header.proofs.Headers.{all_short, many, put_together}
-use Rattle.nc_header.proofs.header.header_of.Goals as goal
+use Rattle.nc_device.specs.Header.{line}
+use Rattle.nc_device.proofs.Headers.{all_short, many, put_together}
+use Rattle.nc_device.proofs.header.header_of.Goals as goal
 
 pub returns : goal.returns
 returns c =

@@ -4,7 +4,7 @@ ghost use Rattle.std.specs.List.{All, flat_map};
 ghost use Rattle.nc_journal.specs.Format.{number};
 ghost use Rattle.nc_journal.specs.Header.{counted, short_number};
 ghost use Rattle.nc_yang_texts.specs.Texts.{module_limit, text_limit};
-ghost use Rattle.nc_header.specs.Header as meant;
+ghost use Rattle.nc_device.specs.Header as meant;
 
 use nc_names::{Bytes, Copies, Many, Memory, Text};
 use nc_yang_texts::ModuleText;
@@ -88,7 +88,7 @@ fn push_lines(header: &mut Bytes, text: &[u8]) -> Result<(), Memory>
 
 /// The header of the store of a device: the texts of its modules, and its features, sorted and each once, a
 /// line for each. By it the next start knows that it reads the file with the schema that wrote it.
-pub fn header_of(
+pub(crate) fn header_of(
     alloc: Global,
     modules: &Many<ModuleText>,
     features: &Many<Text>,

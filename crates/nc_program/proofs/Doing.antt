@@ -7,7 +7,7 @@ use Rattle.nc_machine.specs.Serving.{Serving}
 use Rattle.nc_model.specs.State.{IsGood, State}
 use Rattle.nc_model.specs.declared.entry.Entry.{Entry}
 use Rattle.nc_names.specs.Limits.{most_requests}
-use Rattle.nc_seats.specs.Offices.{home_at, HasServed as IsAt}
+use Rattle.nc_shared.specs.Offices.{home_at, HasServed as IsAt}
 use Rattle.nc_names.specs.Counts.{Rose}
 use Rattle.nc_outside.specs.Streams.{Streams}
 use Rattle.nc_protocol.specs.declared.peer.Peer.{Peer}

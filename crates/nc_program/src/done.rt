@@ -18,7 +18,7 @@ use nc_machine::Machine;
 use nc_outside::{Clock, Disk, Files, Gate, Listener, Sink, Source};
 use nc_patterns::Maker;
 use nc_reports::{found_in, load, print, script, text_of};
-use nc_seats::{AfterServing, serve_shared};
+use nc_shared::{AfterServing, serve_shared};
 use nc_store::Store;
 use nc_words::{InFolder, RunEnd, Stdio, Work};
 use std::alloc::Global;

@@ -3,3 +3,4 @@ pub mod SameDesks
 pub mod Closing
 pub mod Sent
 pub mod Sharing
+pub mod Returned

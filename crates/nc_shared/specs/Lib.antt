@@ -1,3 +1,4 @@
 pub mod Holding
 pub mod Chairs
+pub mod Offices
 pub mod inner

@@ -6,14 +6,13 @@ ghost use Rattle.nc_machine.specs.Lasting.{lasting};
 ghost use Rattle.nc_server.specs.Ends.{EndsAs};
 ghost use Rattle.nc_shared.specs.Chairs.{IsPassOf, began_of, home_of};
 ghost use Rattle.nc_shared.specs.Holding.{held_home};
-ghost use Rattle.nc_seats.specs.Offices.{HasServed, home_at};
+ghost use Rattle.nc_shared.specs.Offices.{HasServed, home_at};
 
-use crate::Seats;
+use crate::{Held, Seats, Shared};
 use nc_machine::Machine;
 use nc_outside::{Clock, Gate, Listener};
 use nc_schema::Schema;
 use nc_server::{ServeEnd, serve};
-use nc_shared::{Held, Shared};
 use nc_tree::Keeper;
 use nc_turn::Pass;
 use std::alloc::Global;

@@ -3,8 +3,8 @@ use Rattle.nc_model.specs.Desks.{Home}
 use Rattle.nc_server.specs.Homes.{IsAtHome}
 use Rattle.nc_shared.specs.Chairs.{ChairStands}
 use Rattle.nc_shared.specs.Holding.{held_home}
-use Rattle.nc_seats.proofs.Returned.{given_out, has_room, one_out, same_office}
-use Rattle.nc_seats.proofs.seats.SeatsHeldDesks.desk.Goals as goal
+use Rattle.nc_shared.proofs.Returned.{given_out, has_room, one_out, same_office}
+use Rattle.nc_shared.proofs.seats.SeatsHeldDesks.desk.Goals as goal
 
 pub split-other-requires : goal.split-other-requires
 split-other-requires g c =

@@ -1,8 +1,8 @@
 use Rattle.std.proofs.Common.{ap, ◌∙◌, ◌+◌}
 use Rattle.nc_turn.specs.Passes.{view}
 use Rattle.nc_shared.specs.Holding.{held_home}
-use Rattle.nc_seats.proofs.Returned.{given_back, one_back, same_office}
-use Rattle.nc_seats.proofs.seats.SeatsHeldDesks.give_back.Goals as goal
+use Rattle.nc_shared.proofs.Returned.{given_back, one_back, same_office}
+use Rattle.nc_shared.proofs.seats.SeatsHeldDesks.give_back.Goals as goal
 
 pub compare-requires : goal.compare-requires
 compare-requires g c =

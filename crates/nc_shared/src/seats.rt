@@ -3,11 +3,11 @@ ghost use Rattle.std.specs.Prelude.{◌≡◌};
 ghost use Rattle.nc_turn.specs.Passes.{view};
 ghost use Rattle.nc_turn.specs.Views.{all_parts};
 ghost use Rattle.nc_shared.specs.Chairs.{IsPassOf};
-ghost use Rattle.nc_seats.specs.Offices.{IsFinished, office_of};
+ghost use Rattle.nc_shared.specs.Offices.{IsFinished, office_of};
 
+use crate::{Held, Seated, Shared};
 use nc_outside::Clock;
 use nc_server::Desks;
-use nc_shared::{Held, Seated, Shared};
 use nc_tree::Keeper;
 use nc_turn::{Pass, Stands};
 use std::marker::Model;
@@ -24,7 +24,7 @@ pub struct Seats<'a, R: Wait, T: Stands> {
 impl<'a, R: Wait, T: Stands> Model for Seats<'a, R, T> {
     ghost use Rattle.std.specs.Coded.{codes};
     ghost use Rattle.nc_model.specs.contracts.entry.Entry as entry;
-    ghost use Rattle.nc_seats.specs.Offices.{Office, IsOffice, office_of};
+    ghost use Rattle.nc_shared.specs.Offices.{Office, IsOffice, office_of};
 
     ghost Value = { Office };
 

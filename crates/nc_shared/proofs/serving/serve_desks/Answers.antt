@@ -6,8 +6,8 @@ use denote.Param.Send.{arg_send, param_send}
 use Rattle.nc_shared.proofs.Sharing.{held_send, seated_send}
 use Rattle.nc_machine.specs.Lasting.{lasting}
 use Rattle.nc_shared.specs.Holding.{Stood, held_home}
-use Rattle.nc_seats.proofs.Returned.{finished}
-use Rattle.nc_seats.proofs.serving.serve_desks.Goals as goal
+use Rattle.nc_shared.proofs.Returned.{finished}
+use Rattle.nc_shared.proofs.serving.serve_desks.Goals as goal
 
 pub serve-end-requires-send-Q-D : goal.serve-end-requires-send-Q-D
 serve-end-requires-send-Q-D g c κs within =

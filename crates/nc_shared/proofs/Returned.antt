@@ -8,7 +8,7 @@ use Rattle.nc_server.specs.Homes.{IsAtHome}
 use Rattle.nc_shared.specs.declared.shared.Shared.{Shared}
 use Rattle.nc_shared.specs.Chairs.{Chair, ChairStands, chair_of, desk_home, IsLeft, IsPassOf}
 use Rattle.nc_shared.proofs.SameDesks.{same_desk, sits}
-use Rattle.nc_seats.specs.Offices.{IsFinished, Office, as_one, office_of}
+use Rattle.nc_shared.specs.Offices.{IsFinished, Office, as_one, office_of}
 
 -- how many parts there are, with one fewer and with one more
 pub has_room : (parts out : ℕ) → all_parts - parts ≡ out → out < all_parts - 1 → 1 < parts

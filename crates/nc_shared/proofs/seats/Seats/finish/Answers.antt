@@ -1,5 +1,5 @@
 use Rattle.std.proofs.Common.{sym}
-use Rattle.nc_seats.proofs.seats.Seats.finish.Goals as goal
+use Rattle.nc_shared.proofs.seats.Seats.finish.Goals as goal
 
 pub returns : goal.returns
 returns g c = record {

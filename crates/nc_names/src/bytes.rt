@@ -1,5 +1,5 @@
 //! A growing list of bytes.
-ghost use Rattle.std.specs.Prelude.{◌≡◌, ℕ, [], ◌∷◌, ◌++◌, ◌↔◌, ◌==◌, ◌≤◌, length, take, drop, slice_get, IsTrue, IfOk, OnOk, OnErr};
+ghost use Rattle.std.specs.Prelude.{◌≡◌, ℕ, [], ◌∷◌, ◌++◌, ◌↔◌, ◌==◌, length, take, slice_get, IsTrue, IfOk, OnOk, OnErr};
 ghost use Rattle.std.specs.Cmp.Lexicographic.{pointwise};
 
 use crate::{Copies, Memory};
@@ -110,19 +110,6 @@ impl Bytes {
         ensures { self.new ≡ [] }
     {
         self.items.clear();
-    }
-
-    /// Drops the first `count` bytes; those after them move up, unless `count` is 0.
-    pub fn drop_front(&mut self, count: usize)
-        requires { count ≤ length self.old }
-        ensures { self.new ≡ drop count self.old }
-    {
-        if count == 0 {
-            return;
-        }
-        let kept = self.items.len() - count;
-        self.items.copy_within(count.., 0);
-        self.items.truncate(kept);
     }
 
     /// Keeps the first `len` bytes, or all where there are fewer.

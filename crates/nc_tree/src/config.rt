@@ -160,23 +160,6 @@ impl Config {
         Ok(())
     }
 
-    /// The same with rows that are shared, which are not copied.
-    pub fn set_shared(
-        &mut self,
-        schema: &Schema,
-        path: &Path,
-        place: &Place,
-        block: &[Shared<Row>],
-    ) -> Result<(), Memory>
-        ensures ok { OnOk result (self.new ≡ with_block schema.now self.old path.now place.now block.now) }
-        ensures err { OnErr result (self.new ≡ self.old) }
-    {
-        let depth = path.steps.len().saturating_sub(1);
-        let block = Tree::from_shared(self.alloc, block, depth)?;
-        self.tree = with_tree(self.alloc, &self.tree, schema, path, place, &block)?;
-        Ok(())
-    }
-
     /// The same with all rows of another configuration, which are shared.
     pub fn set_part(
         &mut self,

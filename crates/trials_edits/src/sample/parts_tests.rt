@@ -13,16 +13,11 @@ fn a_part_is_put_back(rt: HostRuntime) {
     let mut config = config(&rt, alloc, schema.get(), "7:a 7:b 7:c");
     let entry = path(&rt, alloc, "7:b");
     let part = config.part(&entry).expect(&rt, "memory");
-    let shared = config.shared_at(&entry).expect(&rt, "memory");
     has(&rt, alloc, &part, "7:b 7:b/8=b");
     config
         .set_part(schema.get(), &entry, &Place::First, &part)
         .expect(&rt, "memory");
     has(&rt, alloc, &config, "7:b 7:b/8=b 7:a 7:a/8=a 7:c 7:c/8=c");
-    config
-        .set_shared(schema.get(), &entry, &Place::Last, shared.as_slice())
-        .expect(&rt, "memory");
-    has(&rt, alloc, &config, "7:a 7:a/8=a 7:c 7:c/8=c 7:b 7:b/8=b");
 }
 
 // How many rows stand at and below a path, and in a list of all; and how many entries the list of a number

@@ -1,5 +1,5 @@
 -- All rows of a tree on one side of a step.
-use Rattle.std.proofs.Common.{◌≡◌, ◌++◌, ℕ, zero, suc, Bool, true, false, List, [], ◌∷◌, Option, Some, None, sym, ap, subst, ◌∙◌}
+use Rattle.std.proofs.Common.{◌≡◌, ◌++◌, ◌<◌, ℕ, zero, suc, Bool, true, false, List, [], ◌∷◌, Option, Some, None, sym, ap, subst, ◌∙◌, arith, length}
 use Rattle.std.specs.Prelude.{slice_get, option_map}
 use Rattle.std.specs.List.{All}
 use Rattle.std.specs.Cmp.{IsTotalOrder}
@@ -7,14 +7,14 @@ use Rattle.std.specs.Ordering.{ordering_reverse}
 use Rattle.std.specs.declared.cmp.Ordering.{Ordering}
 use Rattle.std.specs.declared.cmp.Ordering.TheVariants.{Less, Greater}
 use Rattle.std.proofs.lemmas.Cmp.{lists_total, nat_cmp_total, nat_list_cmp_total, on_total, then_total}
-use Rattle.std.proofs.lemmas.List.Elements.{All-append, All-cons, All-nil, All-weaker}
+use Rattle.std.proofs.lemmas.List.Elements.{All-append, All-cons, All-head, All-nil, All-weaker}
 use Rattle.nc_names.specs.declared.path.Row.{Row}
 use Rattle.nc_names.specs.declared.path.Step.{Step}
 use Rattle.nc_branches.specs.Branches.{Branches}
 use Rattle.nc_branches.specs.inner.Shoots.{Shoot, own_rows, rows_of}
 use Rattle.nc_branches.specs.inner.Forks.{IsForkOf}
 use Rattle.nc_branches.specs.declared.tree.Fork.{Fork}
-use Rattle.nc_branches.specs.inner.Order.{AreUnder, AreBefore, AreAfter, AreParted, IsOnSide, IsSide, IsUnder, depth_of, step_cmp}
+use Rattle.nc_branches.specs.inner.Order.{AreUnder, AreBefore, AreAfter, AreParted, HasBeside, IsOnSide, IsSide, IsUnder, depth_of, step_cmp}
 
 pub step_total : IsTotalOrder step_cmp
 step_total = then_total (on_total (λ (s : Step). s.node) nat_cmp_total) (on_total (λ (s : Step). s.keys) (lists_total nat_list_cmp_total))
@@ -83,3 +83,51 @@ fork_before depth step branches fork is ordered at rest =
 pub fork_after : (depth : ℕ) (step : Step) (branches : Branches) (fork : Fork) → IsForkOf branches fork → fork.ordered ≡ true → IsOnSide Greater depth step fork.twig → AreAfter depth step fork.left.rows → AreAfter depth step branches.rows
 fork_after depth step branches fork is ordered at rest =
     subst (AreAfter depth step) (sym is.rows) (after_more depth step fork.left.rows fork.right.rows fork.left.rows fork.twig (is.parted ordered) at rest)
+
+-- what has something after it that comes before a step comes before that step
+less_between : (own step : Step) (o : Option Step) → option_map (λ s. step_cmp s own) o ≡ Some Greater → option_map (λ s. step_cmp s step) o ≡ Some Less → step_cmp own step ≡ Less
+less_between own step None far near = cc
+less_between own step (Some x) far near =
+    let after : step_cmp x own ≡ Greater = cc in
+    let before : step_cmp x step ≡ Less = cc in
+    step_total.trans own x step (step_total.antisymm own x ∙ ap ordering_reverse after) before
+
+greater_between : (own step : Step) (o : Option Step) → option_map (λ s. step_cmp s own) o ≡ Some Less → option_map (λ s. step_cmp s step) o ≡ Some Greater → step_cmp own step ≡ Greater
+greater_between own step None far near = cc
+greater_between own step (Some x) far near =
+    let before : step_cmp x own ≡ Less = cc in
+    let after : step_cmp x step ≡ Greater = cc in
+    chain_greater own x step (step_total.antisymm own x ∙ ap ordering_reverse before) after
+
+less_by_first : (depth : ℕ) (own step : Step) (rows : List Row) → 0 < length rows → All (IsSide Greater depth own) rows → All (IsSide Less depth step) rows → step_cmp own step ≡ Less
+less_by_first depth own step [] some far near = absurd (omega (arith, some))
+less_by_first depth own step (row ∷ rows) some far near =
+    less_between own step (slice_get row.path.steps depth) (All-head (IsSide Greater depth own) row rows far) (All-head (IsSide Less depth step) row rows near)
+
+greater_by_first : (depth : ℕ) (own step : Step) (rows : List Row) → 0 < length rows → All (IsSide Less depth own) rows → All (IsSide Greater depth step) rows → step_cmp own step ≡ Greater
+greater_by_first depth own step [] some far near = absurd (omega (arith, some))
+greater_by_first depth own step (row ∷ rows) some far near =
+    greater_between own step (slice_get row.path.steps depth) (All-head (IsSide Less depth own) row rows far) (All-head (IsSide Greater depth step) row rows near)
+
+-- the step of a node that parts its siblings is on the side of those beside it
+beside_less : (depth : ℕ) (step : Step) (left right : List Row) (twig : Shoot) → AreParted twig left right → HasBeside depth twig right → AreBefore depth step right → IsOnSide Less depth step twig
+unfolding AreBefore AreAfter
+beside_less depth step left right twig parted at near =
+    let there : slice_get twig.row.path.steps (depth_of twig) ≡ Some at.own = subst (λ d. slice_get twig.row.path.steps d ≡ Some at.own) (sym at.depth_is) at.own_is in
+    let far : All (IsSide Greater depth at.own) right = subst (λ d. All (IsSide Greater d at.own) right) at.depth_is (parted at.own there).1 in
+    record { depth_is = at.depth_is; own = at.own; own_is = at.own_is; side_is = less_by_first depth at.own step right at.some far near; under = at.under }
+
+beside_greater : (depth : ℕ) (step : Step) (left right : List Row) (twig : Shoot) → AreParted twig left right → HasBeside depth twig left → AreAfter depth step left → IsOnSide Greater depth step twig
+unfolding AreBefore AreAfter
+beside_greater depth step left right twig parted at near =
+    let there : slice_get twig.row.path.steps (depth_of twig) ≡ Some at.own = subst (λ d. slice_get twig.row.path.steps d ≡ Some at.own) (sym at.depth_is) at.own_is in
+    let far : All (IsSide Less depth at.own) left = subst (λ d. All (IsSide Less d at.own) left) at.depth_is (parted at.own there).0 in
+    record { depth_is = at.depth_is; own = at.own; own_is = at.own_is; side_is = greater_by_first depth at.own step left at.some far near; under = at.under }
+
+pub led_before : (depth : ℕ) (step : Step) (branches : Branches) (fork : Fork) → IsForkOf branches fork → fork.ordered ≡ true → HasBeside depth fork.twig fork.right.rows → AreBefore depth step fork.right.rows → AreBefore depth step branches.rows
+led_before depth step branches fork is ordered at rest =
+    fork_before depth step branches fork is ordered (beside_less depth step fork.left.rows fork.right.rows fork.twig (is.parted ordered) at rest) rest
+
+pub led_after : (depth : ℕ) (step : Step) (branches : Branches) (fork : Fork) → IsForkOf branches fork → fork.ordered ≡ true → HasBeside depth fork.twig fork.left.rows → AreAfter depth step fork.left.rows → AreAfter depth step branches.rows
+led_after depth step branches fork is ordered at rest =
+    fork_after depth step branches fork is ordered (beside_greater depth step fork.left.rows fork.right.rows fork.twig (is.parted ordered) at rest) rest

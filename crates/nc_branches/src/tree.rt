@@ -6,7 +6,7 @@ ghost use Rattle.nc_branches.specs.Branches.{Branches, no_branches};
 ghost use Rattle.nc_branches.specs.inner.Shoots.{Shoot, rows_of};
 ghost use Rattle.nc_branches.specs.inner.Depths.{AreLong};
 ghost use Rattle.nc_branches.specs.inner.Forks.{IsForkOf, rows_of_fork};
-ghost use Rattle.nc_branches.specs.inner.Order.{AreBefore, AreAfter, AreParted, IsOnSide, depth_of, step_cmp};
+ghost use Rattle.nc_branches.specs.inner.Order.{AreBefore, AreAfter, AreParted, HasBeside, IsOnSide, depth_of, step_cmp};
 
 use nc_names::{Copies, Memory, Row, Shared, Step};
 use std::alloc::Global;
@@ -213,11 +213,26 @@ impl Twig {
             None => false,
         }
     }
+
+    /// Whether the last step to the node is the one at a depth, and a row stands among some beside it.
+    fn stands_beside(&self, beside: &Tree, depth: usize) -> bool
+        ensures { result ≡ true → HasBeside depth self.now beside.now.rows }
+    {
+        let _under = &self.below;
+        if self.depth() != depth {
+            return false;
+        }
+        match self.step() {
+            Some(_own) => beside.len() > 0,
+            None => false,
+        }
+    }
 }
 
 impl Tree {
-    /// Whether it is seen at once that all rows come before a step at a depth.
-    #[tactic(auto, using(crate::proofs::Sides::before_none, crate::proofs::Sides::fork_before))]
+    /// Whether it is seen at once that all rows come before a step at a depth. Where rows stand on the right
+    /// of an ordered node they come after its step, so that it need not be compared too.
+    #[tactic(auto, using(crate::proofs::Sides::before_none, crate::proofs::Sides::fork_before, crate::proofs::Sides::led_before))]
     fn is_before(&self, depth: usize, step: &Step) -> bool
         ensures { result ≡ true → AreBefore depth step.now self.now.rows }
     {
@@ -226,6 +241,9 @@ impl Tree {
             Some(fork) => {
                 if !fork.ordered {
                     return false;
+                }
+                if fork.twig.stands_beside(&fork.right, depth) {
+                    return fork.right.is_before(depth, step);
                 }
                 if !fork.twig.is_at(Ordering::Less, depth, step) {
                     return false;
@@ -236,7 +254,7 @@ impl Tree {
     }
 
     /// Whether it is seen at once that all rows come after a step at a depth.
-    #[tactic(auto, using(crate::proofs::Sides::after_none, crate::proofs::Sides::fork_after))]
+    #[tactic(auto, using(crate::proofs::Sides::after_none, crate::proofs::Sides::fork_after, crate::proofs::Sides::led_after))]
     fn is_after(&self, depth: usize, step: &Step) -> bool
         ensures { result ≡ true → AreAfter depth step.now self.now.rows }
     {
@@ -245,6 +263,9 @@ impl Tree {
             Some(fork) => {
                 if !fork.ordered {
                     return false;
+                }
+                if fork.twig.stands_beside(&fork.left, depth) {
+                    return fork.left.is_after(depth, step);
                 }
                 if !fork.twig.is_at(Ordering::Greater, depth, step) {
                     return false;

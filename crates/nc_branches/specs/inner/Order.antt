@@ -1,5 +1,5 @@
 -- How the rows of a tree are told apart by their steps.
-use Rattle.std.specs.Prelude.{◌≡◌, ℕ, ◌-◌, List, ◌++◌, length, slice_get, Some, option_map}
+use Rattle.std.specs.Prelude.{◌≡◌, ℕ, ◌-◌, ◌<◌, List, ◌++◌, length, slice_get, Some, option_map}
 use Rattle.std.specs.List.{All}
 use Rattle.std.specs.Ordering.{nat_cmp, ordering_then}
 use Rattle.std.specs.Cmp.Lexicographic.{slice_cmp}
@@ -49,4 +49,12 @@ pub record IsOnSide (side : Ordering) (depth : ℕ) (step : Step) (shoot : Shoot
   pub own : Step
   pub own_is : slice_get shoot.row.path.steps depth ≡ Some own
   pub side_is : step_cmp own step ≡ side
+  pub under : AreUnder shoot.row.path.steps shoot.below.rows
+
+-- the last step to a node is the one at that depth, and there are rows beside it
+pub record HasBeside (depth : ℕ) (shoot : Shoot) (beside : List Row) : Type 0 where
+  pub depth_is : depth_of shoot ≡ depth
+  pub own : Step
+  pub own_is : slice_get shoot.row.path.steps depth ≡ Some own
+  pub some : 0 < length beside
   pub under : AreUnder shoot.row.path.steps shoot.below.rows

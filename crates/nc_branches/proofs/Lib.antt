@@ -5,6 +5,7 @@ pub mod Listed
 pub mod Parts
 pub mod Growing
 pub mod SideOrder
+pub mod Singles
 pub mod RowSides
 pub mod Putting
 pub mod Placing

@@ -6,7 +6,8 @@ ghost use Rattle.nc_branches.specs.Branches.{Branches, no_branches};
 ghost use Rattle.nc_branches.specs.inner.Shoots.{Shoot, rows_of};
 ghost use Rattle.nc_branches.specs.inner.Depths.{AreLong};
 ghost use Rattle.nc_branches.specs.inner.Forks.{IsForkOf, rows_of_fork};
-ghost use Rattle.nc_branches.specs.inner.Order.{AreBefore, AreAfter, AreParted, HasBeside, IsOnSide, depth_of, step_cmp};
+ghost use Rattle.nc_branches.specs.inner.Order.{AreBefore, AreAfter, AreParted, HasBeside, HasStep, IsOnSide, depth_of, step_cmp};
+ghost use Rattle.nc_branches.specs.Singles.{AreSingle};
 
 use nc_names::{Copies, Memory, Row, Shared, Step};
 use std::alloc::Global;
@@ -31,7 +32,8 @@ pub(crate) struct Twig {
 }
 
 /// A data node among its siblings. Where it is ordered, the rows on its left come before its step, and
-/// those on its right after it. Nothing rests on the height but time.
+/// those on its right after it. Where it is single, no two of all these rows have one path. Nothing rests on
+/// the height but time.
 #[cycle(tree)]
 #[derive(Drop)]
 pub(crate) struct Fork {
@@ -42,6 +44,7 @@ pub(crate) struct Fork {
     height: u64,
     shortest: usize,
     pub(crate) ordered: bool,
+    single: bool,
 }
 
 impl Model for Tree {
@@ -138,6 +141,17 @@ impl Tree {
         match &self.root {
             None => usize::MAX,
             Some(fork) => fork.shortest,
+        }
+    }
+
+    /// Whether it is seen at once that no two rows have one path. Of rows that the user orders it is not.
+    #[tactic(auto, using(crate::proofs::Singles::single_none))]
+    pub fn is_single(&self) -> bool
+        ensures { result ≡ true → AreSingle self.now.rows }
+    {
+        match &self.root {
+            None => true,
+            Some(fork) => fork.single,
         }
     }
 
@@ -305,6 +319,55 @@ fn least_of(left: &Tree, twig: &Twig, right: &Tree) -> usize
     left.shortest().min(twig.shortest()).min(right.shortest())
 }
 
+impl Twig {
+    /// Whether the node has a last step.
+    fn has_step(&self) -> bool
+        ensures { result ≡ true → HasStep self.now }
+    {
+        let _under = &self.below;
+        match self.step() {
+            Some(_own) => true,
+            None => false,
+        }
+    }
+
+    /// Whether it is seen at once that no two rows of the node have one path.
+    #[tactic(auto, using(crate::proofs::Singles::single_bare, crate::proofs::Singles::single_own))]
+    fn is_single(&self) -> bool
+        ensures { result ≡ true → AreSingle (rows_of self.now) }
+    {
+        if !self.below.is_single() {
+            return false;
+        }
+        if !self.stands {
+            return true;
+        }
+        self.row.get().path.steps.len() < self.below.shortest()
+    }
+}
+
+/// Whether it is seen at once that no two rows of three parts have one path, where it is known whether they are
+/// ordered.
+#[tactic(auto, using(crate::proofs::Singles::single_parts))]
+fn are_single(ordered: bool, left: &Tree, twig: &Twig, right: &Tree) -> bool
+    requires { ordered ≡ true → AreParted twig.now left.now.rows right.now.rows }
+    ensures { result ≡ true → AreSingle (left.now.rows ++ rows_of twig.now ++ right.now.rows) }
+{
+    if !ordered {
+        return false;
+    }
+    if !twig.has_step() {
+        return false;
+    }
+    if !left.is_single() {
+        return false;
+    }
+    if !right.is_single() {
+        return false;
+    }
+    twig.is_single()
+}
+
 /// How many rows three parts have.
 fn count_of(left: &Tree, twig: &Twig, right: &Tree) -> Option<u64>
     ensures { IfSome result (λ n. n ≡ length (left.now.rows ++ rows_of twig.now ++ right.now.rows)) }
@@ -324,6 +387,7 @@ impl Tree {
         };
         let height = left.height().max(right.height()).saturating_add(1);
         let ordered = are_parted(&left, &twig, &right);
+        let single = are_single(ordered, &left, &twig, &right);
         let shortest = least_of(&left, &twig, &right);
         Ok(Tree {
             root: Some(Arc::new(
@@ -336,6 +400,7 @@ impl Tree {
                     height,
                     shortest,
                     ordered,
+                    single,
                 },
             )?),
         })

@@ -1,5 +1,5 @@
 -- A node that is put back as it stood changes nothing.
-use Rattle.std.proofs.Common.{Bor, ◌≡◌, ◌&&◌, ◌||◌, ◌++◌, ℕ, Bool, true, false, cond, not, List, [], ◌∷◌, Option, Some, None, drop, map, refl, sym, ap, subst, ◌∙◌}
+use Rattle.std.proofs.Common.{Bor, ◌≡◌, ◌≢◌, ◌&&◌, ◌||◌, ◌++◌, ℕ, Bool, true, false, cond, not, List, [], ◌∷◌, Option, Some, None, drop, map, refl, sym, ap, subst, ◌∙◌}
 use Rattle.std.specs.Prelude.{Err, IfOk, Ok, Result}
 use Rattle.std.specs.Cmp.{IsTotalOrder}
 use Rattle.std.specs.List.{AllByRecursion as Each, cons_option, filter, filter_map, last_or, list_all, list_any, reduce}
@@ -26,6 +26,7 @@ use Rattle.nc_protocol.specs.Changes.{entries_among, entry_above, has_moved, is_
 use Rattle.nc_protocol.specs.Edited.{Change, change_at, changes_by, earlier, first_denied, gives_way, new_block, place_by}
 use Rattle.nc_protocol.specs.declared.access.Decision.{Decision}
 use Rattle.nc_protocol.specs.declared.edit.Edit.{Edit}
+use Rattle.nc_branches.specs.Singles.{AreSingle}
 use Rattle.nc_changes.proofs.FoundLemmas.{missing_is}
 use Rattle.nc_edit.specs.inner.Denied.{is_ordered}
 use Rattle.nc_edit.specs.inner.Single.{has_its_value, rises, rises_from, steps_order}
@@ -308,3 +309,34 @@ single_none (Err e) tables rows edit found listed stays none listed_is found_is 
 single_none (Ok it) tables rows edit found listed stays none listed_is found_is single = λ is rights.
     still_none tables rights rows edit stays none
     (subst (λ (block : List Row). list_all (has_its_value block) block ≡ true) (ap (map (λ (row : Bor Row). row.now)) listed_is ∙ found_is) (single is))
+
+-- ---- rows of which no two have one path
+not_same : (steps others : List Step) → steps ≢ others → is_same_path steps others ≡ false
+not_same steps others differ = by (is_same_path steps others) refl
+  where
+    by : (b : Bool) → is_same_path steps others ≡ b → b ≡ false
+    by false e = refl
+    by true e = absurd (differ (same_path steps others e))
+
+each_itself : (rows : List Row) → AreSingle rows → Each (λ (row : Row). row_at rows row.path.steps ≡ Some row) rows
+unfolding AreSingle
+each_itself [] single = tt
+each_itself (row ∷ rows) single = (
+  ap (λ b. cond b (Some row) (row_at rows row.path.steps)) (same_itself row.path.steps row.path.steps refl),
+  both (λ (one : Row). row.path.steps ≢ one.path.steps) (λ (one : Row). row_at rows one.path.steps ≡ Some one)
+      (λ (one : Row). row_at (row ∷ rows) one.path.steps ≡ Some one)
+      (λ one differ found. ap (λ b. cond b (Some row) (row_at rows one.path.steps)) (not_same row.path.steps one.path.steps differ) ∙ found)
+      rows (recursion_from_All (λ (one : Row). row.path.steps ≢ one.path.steps) rows single.0) (each_itself rows single.1),
+)
+
+single_all : (rows : List Row) → AreSingle rows → list_all (has_its_value rows) rows ≡ true
+single_all rows single = all_each (has_its_value rows) rows
+    (weaker (λ (row : Row). row_at rows row.path.steps ≡ Some row) (λ (row : Row). has_its_value rows row ≡ true)
+    (λ row found. ap (λ (one : Option Row). option_map_or (λ (first : Row). is_same_value first.value row.value) one false) found ∙ (value_decide row.value row.value).1 refl)
+    rows (each_itself rows single))
+
+-- so an edit that leaves them changes nothing
+pub single_marked : (tables : Tables) (rows : List Row) (edit : Edit) →
+    new_block tables rows edit.path edit.action ≡ block_at rows edit.path.steps → is_ordered tables edit.path.steps ≡ false →
+    AreSingle (block_at rows edit.path.steps) → (rights : Path → Right → Decision) → None ≡ first_denied tables rights rows edit
+single_marked tables rows edit stays none single = λ rights. still_none tables rights rows edit stays none (single_all (block_at rows edit.path.steps) single)

@@ -169,7 +169,9 @@ fn first_denied<R: Rights>(
     denied_among(alloc, schema, &before, &after, &block, &edit.path, rights)
 }
 
-// Whether an edit leaves its node as it stands, with one value at each path, and where it is.
+// Whether an edit leaves its node as it stands, with one value at each path, and where it is. The rows are gone
+// over only where it is not seen at once that each path stands once.
+#[tactic(auto, using(crate::proofs::StillLemmas::single_marked))]
 fn changes_nothing(
     alloc: Global,
     schema: &Schema,
@@ -184,6 +186,9 @@ fn changes_nothing(
     }
     if is_ordered(schema, &edit.path) {
         return Ok(false);
+    }
+    if config.is_single_at(&edit.path)? {
+        return Ok(true);
     }
     let rows = config.rows_at(&edit.path)?;
     are_single(alloc, edit.path.steps.len(), rows.as_slice())

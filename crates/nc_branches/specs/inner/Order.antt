@@ -58,3 +58,9 @@ pub record HasBeside (depth : ℕ) (shoot : Shoot) (beside : List Row) : Type 0 
   pub own_is : slice_get shoot.row.path.steps depth ≡ Some own
   pub some : 0 < length beside
   pub under : AreUnder shoot.row.path.steps shoot.below.rows
+
+-- a node has a last step
+pub record HasStep (shoot : Shoot) : Type 0 where
+  pub own : Step
+  pub own_is : slice_get shoot.row.path.steps (depth_of shoot) ≡ Some own
+  pub under : AreUnder shoot.row.path.steps shoot.below.rows

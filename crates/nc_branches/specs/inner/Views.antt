@@ -3,6 +3,7 @@ use Rattle.std.specs.Prelude.{◌≡◌, ◌+◌, true, [], ◌++◌, length, Op
 use Rattle.std.specs.declared.sync.Arc.{Arc}
 use Rattle.std.specs.declared.alloc.Global.{Global}
 use Rattle.nc_branches.specs.Branches.{Branches}
+use Rattle.nc_branches.specs.Singles.{AreSingle}
 use Rattle.nc_branches.specs.inner.Shoots.{rows_of}
 use Rattle.nc_branches.specs.inner.Depths.{AreLong}
 use Rattle.nc_branches.specs.inner.Order.{AreParted}
@@ -16,11 +17,12 @@ branches_of (Some fork) = record {
   cells = 2 + fork.value.left.cells + fork.value.twig.below.cells + fork.value.right.cells;
 }
 
--- the count is that of the rows, none has a shorter path, and what is marked as ordered is
+-- the count is that of the rows, none has a shorter path, and what is marked as ordered is, and as single
 pub record IsSoundFork (fork : Fork) : Type 0 where
   pub count : fork.count ≡ length (fork.left.rows ++ rows_of fork.twig ++ fork.right.rows)
   pub shortest : AreLong fork.shortest (fork.left.rows ++ rows_of fork.twig ++ fork.right.rows)
   pub parted : fork.ordered ≡ true → AreParted fork.twig fork.left.rows fork.right.rows
+  pub single : fork.single ≡ true → AreSingle (fork.left.rows ++ rows_of fork.twig ++ fork.right.rows)
 
 -- so it is with the node at the top, where there is one
 abbrev pub IsSound : Option (Arc Fork Global) → Type 0

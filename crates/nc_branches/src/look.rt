@@ -83,6 +83,20 @@ impl Twig {
         }
         self.below.get(steps)
     }
+
+    /// The same where the steps are known to go on at the node: its step is not compared once more.
+    #[cycle(get)]
+    fn get_met(&self, steps: &[Step]) -> Option<&Row>
+        ensures { option_copied result ≡ row_at (rows_of self.now) steps.now }
+    {
+        if self.stands {
+            let row = self.row.get();
+            if same_steps(row.path.steps.as_slice(), steps) {
+                return Some(row);
+            }
+        }
+        self.below.get(steps)
+    }
 }
 
 impl Tree {
@@ -97,7 +111,7 @@ impl Tree {
         };
         match fork.find(steps) {
             Where::OnTheLeft => fork.left.get(steps),
-            Where::Here => fork.twig.get(steps),
+            Where::Here => fork.twig.get_met(steps),
             Where::OnTheRight => fork.right.get(steps),
             Where::Anywhere => {
                 if let Some(row) = fork.left.get(steps) {

@@ -30,6 +30,21 @@ impl Twig {
         self.below.exists(steps)
     }
 
+    /// The same where the steps are known to go on at the node: its step is not compared once more.
+    #[cycle(exists)]
+    #[tactic(auto, using(crate::proofs::Parts::exists_own, crate::proofs::Parts::exists_inner, crate::proofs::Parts::exists_below))]
+    fn exists_met(&self, steps: &[Step]) -> bool
+        ensures { result ≡ exists (rows_of self.now) steps.now }
+    {
+        if self.is_within(steps) {
+            if self.stands {
+                return true;
+            }
+            return self.below.len() > 0;
+        }
+        self.below.exists(steps)
+    }
+
     /// Adds the rows at some steps and below them.
     #[cycle(push_block)]
     #[tactic(auto, using(crate::proofs::Parts::block_apart, crate::proofs::Parts::block_within, crate::proofs::Parts::block_below))]
@@ -89,7 +104,7 @@ impl Tree {
         };
         match fork.find(steps) {
             Where::OnTheLeft => fork.left.exists(steps),
-            Where::Here => fork.twig.exists(steps),
+            Where::Here => fork.twig.exists_met(steps),
             Where::OnTheRight => fork.right.exists(steps),
             Where::Anywhere => {
                 let left = fork.left.exists(steps);

@@ -1,10 +1,11 @@
 //! What an edit leaves.
-ghost use Rattle.std.specs.Prelude.{◌≡◌, ◌&&◌, true, not, IfOk, OnOk, OnErr};
+ghost use Rattle.std.specs.Prelude.{◌≡◌, ◌&&◌, false, true, not, IfOk, OnOk, OnErr};
 ghost use Rattle.nc_protocol.specs.Edited as meant;
 ghost use Rattle.nc_schema.specs.Standing as standing;
 ghost use Rattle.nc_schema.specs.Blocks as blocks;
 ghost use Rattle.nc_schema.specs.Kinds as kinds;
 ghost use Rattle.nc_protocol.specs.declared.edit.Action.TheVariants.{Merge};
+ghost use Rattle.nc_edit.specs.inner.Own as own;
 
 use nc_names::{Copies, Many, Memory, Path, Place, Row, Text};
 use nc_protocol::{Action, Edit};
@@ -22,12 +23,17 @@ pub(crate) fn is_value_at(schema: &Schema, path: &Path) -> bool
     }
 }
 
-// Whether what stands at a path or below it is no value, so that a merge leaves it as it is.
+// Whether what stands at a path or below it is no value, so that a merge leaves it as it is. Most merges are
+// of values, for which nothing is looked up.
+#[tactic(auto, using(crate::proofs::KeptLemmas::value_goes, crate::proofs::KeptLemmas::other_stands))]
 fn merge_keeps(schema: &Schema, config: &Config, path: &Path) -> bool
     ensures { result ≡ (standing.exists config.now path.now.steps
         && not (blocks.at_node schema.now path.now kinds.has_value)) }
 {
-    config.exists(path) && !is_value_at(schema, path)
+    if is_value_at(schema, path) {
+        return false;
+    }
+    config.exists(path)
 }
 
 fn merged_block(
@@ -79,17 +85,37 @@ fn place_by(action: &Action, place: &Place) -> Result<Place, Memory>
     }
 }
 
-/// Whether an edit leaves the rows at and below its node as they are.
-#[tactic(auto, using(crate::proofs::KeptLemmas::merge_kept))]
+/// Whether an edit leaves the rows at and below its node as they are; else it puts rows of its own.
+#[tactic(auto, using(crate::proofs::KeptLemmas::merge_kept, crate::proofs::KeptLemmas::merge_put))]
 pub(crate) fn keeps_rows(schema: &Schema, config: &Config, path: &Path, action: &Action) -> bool
-    ensures { result ≡ true → meant.new_block schema.now config.now path.now action.now
+    ensures kept { result ≡ true → meant.new_block schema.now config.now path.now action.now
         ≡ standing.block_at config.now path.now.steps }
+    ensures put { result ≡ false → meant.new_block schema.now config.now path.now action.now
+        ≡ own.own_block schema.now path.now action.now }
 {
     match action {
         Action::Nothing => true,
         Action::Merge { .. } => merge_keeps(schema, config, path),
         Action::Create { .. } | Action::Replace { .. } => false,
         Action::Delete | Action::Remove => false,
+    }
+}
+
+// The rows that an edit puts at and below its node, where it does not leave those that stand.
+fn own_block(
+    alloc: Global,
+    schema: &Schema,
+    path: &Path,
+    action: &Action,
+) -> Result<Many<Row>, Memory>
+    ensures { IfOk result (λ it. it ≡ own.own_block schema.now path.now action.now) }
+{
+    match action {
+        Action::Nothing => Ok(Many::new(alloc)),
+        Action::Merge { value } => rows_of_node(alloc, schema, path, value),
+        Action::Create { rows } | Action::Replace { rows } => rows.copy(),
+        Action::Delete => Ok(Many::new(alloc)),
+        Action::Remove => Ok(Many::new(alloc)),
     }
 }
 
@@ -104,6 +130,6 @@ pub fn make(alloc: Global, schema: &Schema, config: &mut Config, edit: &Edit) ->
         let part = config.part(&edit.path)?;
         return config.set_part(schema, &edit.path, &place, &part);
     }
-    let block = new_block(alloc, schema, config, &edit.path, &edit.action)?;
+    let block = own_block(alloc, schema, &edit.path, &edit.action)?;
     config.set_block(schema, &edit.path, &place, block)
 }

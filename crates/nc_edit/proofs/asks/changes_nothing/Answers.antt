@@ -5,4 +5,4 @@ use Rattle.nc_edit.proofs.asks.changes_nothing.Goals as goal
 pub returns : goal.returns
 returns c =
     single_none c.are_single.result c.args.schema.now c.args.config.now c.args.edit.now c.in_ok-rows.rows c.as_slice.result.now
-    (c.keeps_rows.ensures (search rules)) (sym c.is_ordered.ensures ∙ c.if-is_ordered.false) c.as_slice.ensures c.in_ok-rows.ensures c.are_single.ensures
+    (c.keeps_rows.ensures.kept (search rules)) (sym c.is_ordered.ensures ∙ c.if-is_ordered.false) c.as_slice.ensures c.in_ok-rows.ensures c.are_single.ensures

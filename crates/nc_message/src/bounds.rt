@@ -169,13 +169,13 @@ impl Bounds {
         }
     }
 
-    // What the tags around declare, to which more can be added.
-    fn copied_levels(&self, alloc: Global) -> Result<Many<Shared<Level>>, Memory>
-        ensures { IfOk result (λ it. in_force it ≡ self.now) }
+    // What the tags around declare, and one more.
+    fn levels_with(&self, alloc: Global, level: Shared<Level>) -> Result<Many<Shared<Level>>, Memory>
+        ensures { IfOk result (λ it. in_force it ≡ inside self.now level) }
     {
         match &self.levels {
-            Some(levels) => levels.get().copy(),
-            None => Ok(Many::new(alloc)),
+            Some(levels) => levels.get().copied_with(level),
+            None => Many::new(alloc).copied_with(level),
         }
     }
 
@@ -183,8 +183,7 @@ impl Bounds {
     fn inside(&self, alloc: Global, level: Level) -> Result<Bounds, Memory>
         ensures { IfOk result (λ it. it ≡ inside self.now level) }
     {
-        let mut levels = self.copied_levels(alloc)?;
-        levels.push(Shared::new(alloc, level)?)?;
+        let levels = self.levels_with(alloc, Shared::new(alloc, level)?)?;
         Ok(Bounds {
             levels: Some(Shared::new(alloc, levels)?),
         })

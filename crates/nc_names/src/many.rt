@@ -1,5 +1,5 @@
 //! A growing list that contracts see as the list of its elements.
-ghost use Rattle.std.specs.Prelude.{◌≡◌, [], ◌∷◌, ◌++◌, ◌-◌, ◌<◌, ◌≤◌, ◌↔◌, length, take, slice_get, slice_set, insert, remove, IsTrue, IsNone, MatchOption, OnOk, OnErr, OnSome};
+ghost use Rattle.std.specs.Prelude.{◌≡◌, [], ◌∷◌, ◌++◌, ◌-◌, ◌<◌, ◌≤◌, ◌↔◌, length, take, slice_get, slice_set, insert, remove, IsTrue, IsNone, MatchOption, IfOk, OnOk, OnErr, OnSome};
 ghost use Rattle.std.specs.Option.{option_copied};
 ghost use Rattle.std.specs.Cmp.Lexicographic.{pointwise, slice_cmp, slice_partial_cmp};
 
@@ -169,9 +169,24 @@ impl<T: Drop> Many<T> {
     }
 }
 
+impl<T: Copies> Many<T> {
+    /// Copies of the elements with one more at the end, and room for these alone.
+    pub fn copied_with(&self, item: T) -> Result<Many<T>, Memory>
+        ensures { IfOk result (λ it. it ≡ self.now ++ item ∷ []) }
+    {
+        let before = self.items.as_slice();
+        let mut items = Vec::with_capacity(*self.items.allocator(), before.len() + 1)?;
+        for one in before {
+            items.push(one.copy()?)?;
+        }
+        items.push(item)?;
+        Ok(Many { items })
+    }
+}
+
 impl<T: Copies> Copies for Many<T> {
     fn copy(&self) -> Result<Many<T>, Memory> {
-        let mut items = Vec::new(*self.items.allocator());
+        let mut items = Vec::with_capacity(*self.items.allocator(), self.items.len())?;
         for item in self.items.as_slice() {
             items.push(item.copy()?)?;
         }

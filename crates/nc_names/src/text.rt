@@ -13,7 +13,7 @@ use std::sync::Arc;
 /// A text that contracts see as the list of its UTF-8 bytes. Two texts are ordered by their bytes.
 ///
 /// A text shares its characters with its copies, so a copy takes no memory; one that is changed gets
-/// characters of its own first. It takes the room of one pointer.
+/// characters of its own first.
 #[derive(Drop)]
 pub struct Text {
     alloc: Global,

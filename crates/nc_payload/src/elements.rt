@@ -13,7 +13,7 @@ ghost use Rattle.nc_protocol.specs.Payload.{reading_of};
 use crate::earlier::Earlier;
 use crate::texts::canonical;
 use nc_message::{Elem, Part};
-use nc_names::{Copies, Many, Memory, QName, Step, Text, is_white};
+use nc_names::{Many, Memory, QName, Step, Text, is_white};
 use nc_protocol::{Position, Under};
 use nc_schema::{Kind, Node, Schema};
 use std::alloc::Global;
@@ -282,9 +282,7 @@ pub(crate) fn steps_to(
 ) -> Result<Many<Step>, Memory>
     ensures { IfOk result (λ it. it ≡ meant.steps_to (reading_of schema.now) at.now (meaning named.entry)) }
 {
-    let mut steps = at.above.copy()?;
-    steps.push(step_of(alloc, schema, at.under, named)?)?;
-    Ok(steps)
+    at.above.copied_with(step_of(alloc, schema, at.under, named)?)
 }
 
 /// Remembers the step of a part, if it is an element that names a data node.

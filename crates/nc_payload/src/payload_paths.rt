@@ -62,9 +62,7 @@ fn with_place(places: Places, steps: Many<Step>) -> Result<Places, Memory>
 fn steps_with(above: &Many<Step>, number: u32, keys: Many<Text>) -> Result<Many<Step>, Memory>
     ensures { IfOk result (λ it. it ≡ above.now ++ record { node = number; keys = keys } ∷ []) }
 {
-    let mut steps = above.copy()?;
-    steps.push(Step { node: number, keys })?;
-    Ok(steps)
+    above.copied_with(Step { node: number, keys })
 }
 
 // The keys of the data node that an element names, with its number, where they have a reading.

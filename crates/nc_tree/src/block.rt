@@ -170,8 +170,7 @@ fn row_of_key(alloc: Global, entry: &Path, key: u32, value: &Text) -> Result<Row
       value = Some value.now;
     }) }
 {
-    let mut steps = entry.steps.copy()?;
-    steps.push(Step {
+    let steps = entry.steps.copied_with(Step {
         node: key,
         keys: Many::new(alloc),
     })?;

@@ -8,6 +8,7 @@ use Rattle.nc_names.specs.Same.{is_same_text}
 use Rattle.nc_names.specs.declared.name.Bound.{Bound}
 use Rattle.nc_names.specs.Bindings.{space_of}
 use Rattle.nc_message.specs.Bindings.{Declared, declares, inside, is_empty}
+use Rattle.nc_message.specs.inner.Levels.{later}
 
 same_to : (a b : List ℕ) → is_same_text a b ≡ true → a ≡ b
 same_to a b e = (bytes_decides a b).0 e
@@ -196,6 +197,25 @@ pub ok_as : {A E : Type 0} (r : Result A E) (x y : A) → x ≡ y → IfOk r (λ
 ok_as (Ok it) x y e h = h ∙ e
 ok_as (Err f) x y e h = h
 
+pub ok_then : {A E : Type 0} (r : Result A E) (P Q : A → Type 0) → ((it : A) → P it → Q it) → IfOk r P → IfOk r Q
+ok_then (Ok it) P Q more h = more it h
+ok_then (Err f) P Q more h = h
+
 pub none_of : {A : Type 0} (o : Option A) → is_some o ≡ false → o ≡ None
 none_of None e = refl
 none_of (Some x) e = absurd (cc e)
+
+-- the first of them is what its prefix is bound to, and each other prefix is bound by those after it
+pub at_first : (prefix : List ℕ) (b : Bound) (more : List Bound) → is_same_text prefix b.prefix ≡ true → Some b.space ≡ space_of prefix (b ∷ more)
+at_first prefix b more e = ap (λ t. cond t (Some b.space) (space_of prefix more)) (sym e)
+
+pub at_later : (prefix : List ℕ) (b : Bound) (more : List Bound) → is_same_text prefix b.prefix ≡ false → space_of prefix more ≡ space_of prefix (b ∷ more)
+at_later prefix b more e = ap (λ t. cond t (Some b.space) (space_of prefix more)) (sym e)
+
+-- one more, which is the first or comes after it
+pub later_first : (own : List Bound) (b : Bound) → own ≡ [] → later (own ++ b ∷ []) ≡ later own
+later_first own b none = ap (λ (xs : List Bound). later (xs ++ b ∷ [])) none ∙ sym (ap later none)
+
+pub later_more : (own : List Bound) (b : Bound) → (own ≡ [] → ⊥) → later (own ++ b ∷ []) ≡ later own ++ b ∷ []
+later_more [] b some = absurd (some refl)
+later_more (x ∷ own) b some = refl

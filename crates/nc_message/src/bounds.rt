@@ -1,12 +1,13 @@
 //! The namespace bindings in force in an element, shared by the elements that declare nothing
 //! (Namespaces in XML 1.0, 3 and 6).
-ghost use Rattle.std.specs.Prelude.{◌≡◌, List, ◌∷◌, ◌++◌, [], Bool, true, false, None, Some, IfOk, MatchOption, ◌&&◌};
+ghost use Rattle.std.specs.Prelude.{◌≡◌, ◌↔◌, List, ◌∷◌, ◌++◌, [], Bool, true, false, None, Some, IfOk, IsTrue, MatchOption, ◌&&◌};
 ghost use Rattle.std.specs.Option.{option_copied};
 ghost use Rattle.std.specs.Cmp.Lexicographic.{pointwise};
 ghost use Rattle.nc_names.specs.declared.name.Bound.{Bound};
 ghost use Rattle.nc_names.specs.Bindings.{space_of};
 ghost use Rattle.nc_message.specs.Bindings.{Declared, declares, inside, is_empty, is_same_bound};
-ghost use Rattle.nc_message.specs.inner.Levels.{IsTable, in_force, is_replaced};
+ghost use Rattle.nc_message.specs.inner.Levels.{IsTable, in_force, is_replaced, later};
+ghost use Rattle.nc_names.specs.Same.{is_same_text};
 
 use nc_names::{Binds, Bound, Copies, Many, Memory, Shared, Text};
 use std::alloc::Global;
@@ -14,7 +15,7 @@ use std::collections::BTreeMap;
 use std::marker::Model;
 
 /// What one start tag declares: namespaces by their prefixes, and whether it takes the default
-/// namespace away.
+/// namespace away. All declarations but the first stand in a table too: most tags have one.
 #[derive(Debug, Drop)]
 pub struct Level {
     bounds: Many<Bound>,
@@ -24,13 +25,13 @@ pub struct Level {
 
 impl Model for Level {
     ghost use Rattle.nc_message.specs.Bindings.{Declared};
-    ghost use Rattle.nc_message.specs.inner.Levels.{IsTable};
+    ghost use Rattle.nc_message.specs.inner.Levels.{IsTable, later};
 
     ghost Value = { Declared };
 
     ghost view = { λ l. record { own = l.bounds; undeclares = l.undeclares } };
 
-    ghost invariant = { λ l. IsTable l.spaces l.bounds };
+    ghost invariant = { λ l. IsTable l.spaces (later l.bounds) };
 }
 
 impl Level {
@@ -47,9 +48,16 @@ impl Level {
     }
 
     /// The namespace of a prefix that is declared here.
+    #[tactic(auto, using(crate::proofs::Looking::at_first, crate::proofs::Looking::at_later))]
     fn own(&self, prefix: &Text) -> Option<&Text>
         ensures { option_copied result ≡ space_of prefix.now self.now.own }
     {
+        let Some((first, _more)) = self.bounds.as_slice().split_first() else {
+            return None;
+        };
+        if is_same(prefix, &first.prefix) {
+            return Some(&first.space);
+        }
         self.spaces.get(prefix)
     }
 
@@ -112,7 +120,7 @@ impl Level {
             spaces,
             undeclares,
         } = self;
-        let spaces = with_space(spaces, prefix.copy()?, space.copy()?)?;
+        let spaces = with_later(spaces, bounds.is_empty(), prefix.copy()?, space.copy()?)?;
         bounds.push(Bound { prefix, space })?;
         Ok(Level {
             bounds,
@@ -353,6 +361,30 @@ fn are_same(mine: Bindings<'_>, theirs: Bindings<'_>) -> bool
         }
     }
     theirs.next().is_none()
+}
+
+// Whether two prefixes are the same.
+fn is_same(one: &Text, other: &Text) -> bool
+    ensures { result ≡ is_same_text one.now other.now }
+{
+    one == other
+}
+
+// The table of all declarations but the first, with one declaration more, which may be the first.
+#[tactic(auto, using(crate::proofs::Looking::later_first, crate::proofs::Looking::later_more))]
+fn with_later(
+    spaces: BTreeMap<Text, Text>,
+    is_first: bool,
+    prefix: Text,
+    space: Text,
+) -> Result<BTreeMap<Text, Text>, Memory>
+    ensures { IfOk result (λ it. (own : List Bound) → (IsTrue is_first ↔ (own ≡ [])) →
+        IsTable spaces (later own) → IsTable it (later (own ++ record { prefix = prefix; space = space } ∷ []))) }
+{
+    if is_first {
+        return Ok(spaces);
+    }
+    with_space(spaces, prefix, space)
 }
 
 // The table with a prefix's namespace, where it has none yet.

@@ -12,6 +12,11 @@ use Rattle.nc_message.specs.Bindings.{Declared, declares, inside}
 abbrev pub in_force : List Declared → List Bound
 in_force tags = fold inside [] tags
 
+-- those after the first
+abbrev pub later : List Bound → List Bound
+later [] = []
+later (b ∷ more) = more
+
 -- the table has what each prefix is bound to
 abbrev pub IsTable : BTreeMap (List ℕ) (List ℕ) → List Bound → Type 0
 IsTable table bounds = (prefix : List ℕ) → get (slice_cmp nat_cmp) table prefix ≡ space_of prefix bounds

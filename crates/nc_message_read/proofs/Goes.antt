@@ -39,3 +39,7 @@ attributes_more text left next a blanks named parted read n =
     let more = λ (x : Attribute × List ℕ). prepend (x.0 ∷ []) (attributes n x.1) in
     ap (λ b. cond b (cond (first_passes is_white text) (option_and_then more (attribute (after_white text))) None) (Some ([], after_white text))) one
     ∙ ap (λ b. cond b (option_and_then more (attribute (after_white text))) None) parted ∙ ap (option_and_then more) two
+
+-- what comes first is all so far
+pub first_text : (text more : List ℕ) → text ≡ [] → more ≡ text ++ more
+first_text text more none = sym (ap (λ xs. xs ++ more) none)

@@ -83,18 +83,30 @@ impl Open {
             bounds,
             attrs,
             parts,
-            mut text,
+            text,
         } = self;
-        text.push_str(more.as_str())?;
         Ok(Open {
             prefix,
             name,
             bounds,
             attrs,
             parts,
-            text,
+            text: joined(text, more)?,
         })
     }
+}
+
+/// Text after text. The first is not copied: most elements have one.
+#[tactic(auto, using(crate::proofs::Goes::first_text))]
+fn joined(text: Text, more: Text) -> Result<Text, Memory>
+    ensures { IfOk result (λ it. it ≡ text ++ more) }
+{
+    if text.is_empty() {
+        return Ok(more);
+    }
+    let mut text = text;
+    text.push_str(more.as_str())?;
+    Ok(text)
 }
 
 /// Puts text at the end of content, where there is any.

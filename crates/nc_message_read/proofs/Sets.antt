@@ -12,7 +12,7 @@ use Rattle.nc_names.specs.Same.{is_same_text, is_same_name}
 use Rattle.nc_names.specs.declared.name.QName.{QName}
 use Rattle.nc_message.specs.declared.tree.Attr.{Attr}
 use Rattle.nc_message.specs.Resolved.{differ_from}
-use Rattle.nc_message_read.specs.inner.Sets.{has_name, IsNameAdded}
+use Rattle.nc_message_read.specs.inner.Sets.{has_name, IsNameAdded, swapped}
 
 pub ok_as : {A E : Type 0} (r : Result A E) (x y : A) → x ≡ y → IfOk r (λ it. it ≡ x) → IfOk r (λ it. it ≡ y)
 ok_as (Ok it) x y e h = h ∙ e
@@ -51,17 +51,26 @@ any_same : (f g : QName → Bool) → ((x : QName) → f x ≡ g x) → (xs : Li
 any_same f g e [] = refl
 any_same f g e (x ∷ xs) = ap (λ b. b || list_any f xs) (e x) ∙ ap (λ b. g x || b) (any_same f g e xs)
 
-contains_is : (set : BTreeSet QName) (name : QName) → contains name_cmp set name ≡ has_name set name
-contains_is set name = any_same (λ x. is_eq (name_cmp name x)) (is_same_name name) (name_test name) set.keys
+contains_is : (set : BTreeSet QName) (name : QName) → contains name_cmp set (swapped name) ≡ has_name set name
+contains_is set name = any_same (λ x. is_eq (name_cmp (swapped name) x)) (is_same_name (swapped name)) (name_test (swapped name)) set.keys
 
-pub name_added : (before after : BTreeSet QName) (name : QName) (added : Bool) → added ≡ not (contains name_cmp before name)
-    → ((other : QName) → contains name_cmp after other ≡ cond (is_eq (name_cmp name other)) true (contains name_cmp before other))
+and_swapped : (x y : Bool) → (x && y) ≡ (y && x)
+and_swapped true true = refl
+and_swapped true false = refl
+and_swapped false true = refl
+and_swapped false false = refl
+
+same_if_swapped : (a b : QName) → is_same_name (swapped a) (swapped b) ≡ is_same_name a b
+same_if_swapped a b = and_swapped (is_same_text a.name b.name) (is_same_text a.space b.space)
+
+pub name_added : (before after : BTreeSet QName) (name : QName) (added : Bool) → added ≡ not (contains name_cmp before (swapped name))
+    → ((other : QName) → contains name_cmp after other ≡ cond (is_eq (name_cmp (swapped name) other)) true (contains name_cmp before other))
     → IsNameAdded before after name added
 name_added before after name added new updates = (
   new ∙ ap not (contains_is before name),
   λ other.
-      sym (contains_is after other) ∙ updates other
-      ∙ ap (λ t. cond t true (contains name_cmp before other)) (name_test name other)
+      sym (contains_is after other) ∙ updates (swapped other)
+      ∙ ap (λ t. cond t true (contains name_cmp before (swapped other))) (name_test (swapped name) (swapped other) ∙ same_if_swapped name other)
       ∙ ap (λ x. cond (is_same_name name other) true x) (contains_is before other),
 )
 

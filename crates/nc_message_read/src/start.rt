@@ -7,7 +7,7 @@ ghost use Rattle.nc_names.specs.Same.{is_same_text};
 ghost use Rattle.nc_names.specs.Bindings.{space_of};
 ghost use Rattle.nc_message.specs.Bindings as bindings;
 ghost use Rattle.nc_message_read.specs.inner.Opened.{open_of};
-ghost use Rattle.nc_message_read.specs.inner.Sets.{DeclaredPrefixes, IsDeclaredToo, IsNameAdded};
+ghost use Rattle.nc_message_read.specs.inner.Sets.{DeclaredPrefixes, IsDeclaredToo, IsNameAdded, swapped};
 ghost use Rattle.nc_message.specs.Resolved as resolved;
 
 use crate::known::Known;
@@ -366,11 +366,22 @@ fn differ(alloc: Global, attrs: &[Attr]) -> Result<bool, Memory>
     Ok(true)
 }
 
+// A name with its local name in the first place. A long namespace may stand in many names under a short prefix, and
+// is not to be read for each comparison.
+fn local_first(name: &QName) -> Result<QName, Memory>
+    ensures { IfOk result (λ it. it ≡ swapped name.now) }
+{
+    Ok(QName {
+        space: name.name.copy()?,
+        name: name.space.copy()?,
+    })
+}
+
 // Puts a name into a set, and answers whether it is new.
 fn add_name(names: &mut BTreeSet<QName>, name: &QName) -> Result<bool, Memory>
     ensures { IfOk result (λ added. IsNameAdded names.old names.new name.now added) }
 {
-    let added = names.insert(name.copy()?)?;
+    let added = names.insert(local_first(name)?)?;
     Ok(added)
 }
 

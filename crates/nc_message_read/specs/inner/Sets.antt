@@ -18,9 +18,14 @@ IsDeclaredToo before after name =
     (prefix : List ℕ) → has after prefix ≡ ((is_xmlns name.prefix && is_same_text prefix name.local)
     || has before prefix)
 
--- whether the set has a name
+-- a name with its texts the other way round: so names are ordered by their local names first, and those of one namespace
+-- are told apart without a look at it
+abbrev pub swapped : QName → QName
+swapped name = record { space = name.name; name = name.space }
+
+-- whether the set has a name, with its texts so
 abbrev pub has_name : BTreeSet QName → QName → Bool
-has_name set name = list_any (is_same_name name) set.keys
+has_name set name = list_any (is_same_name (swapped name)) set.keys
 
 -- the name was put into the set, where it was not yet
 abbrev pub IsNameAdded : BTreeSet QName → BTreeSet QName → QName → Bool → Type 0

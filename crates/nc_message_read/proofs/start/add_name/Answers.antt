@@ -1,11 +1,16 @@
-use Rattle.std.proofs.Common.{subst}
+use Rattle.std.proofs.Common.{◌≡◌, Bool, true, not, cond, subst}
+use Rattle.std.specs.BTreeSet.{contains}
+use Rattle.std.specs.Ordering.{is_eq}
 use Rattle.nc_names.specs.declared.name.QName.{QName}
-use Rattle.nc_message_read.specs.inner.Sets.{IsNameAdded}
-use Rattle.nc_message_read.proofs.Sets.{name_added}
+use Rattle.nc_message_read.proofs.Sets.{name_added, name_cmp}
 use Rattle.nc_message_read.proofs.start.add_name.Goals as goal
 
 pub returns : goal.returns
 returns c =
-    let P : QName → Type 0 = λ n. IsNameAdded c.args.names.now c.insert.new.self n c.in_ok-added.added in
-    subst P c.in_ok-copy.ensures
-    (name_added c.args.names.now c.insert.new.self c.in_ok-copy.field-0 c.in_ok-added.added c.in_ok-added.ensures.added c.in_ok-added.ensures.updates.0)
+    let old = c.args.names.now in
+    let new = c.insert.new.self in
+    let added = c.in_ok-added.added in
+    name_added old new c.args.name.now added
+    (subst (λ (n : QName). added ≡ not (contains name_cmp old n)) c.in_ok-local_first.ensures c.in_ok-added.ensures.added)
+    (subst (λ (n : QName). (other : QName) → contains name_cmp new other ≡ cond (is_eq (name_cmp n other)) true (contains name_cmp old other))
+    c.in_ok-local_first.ensures c.in_ok-added.ensures.updates.0)

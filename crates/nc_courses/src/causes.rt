@@ -17,11 +17,7 @@ pub fn refused(alloc: Global, cause: Cause) -> Result<Verdict, Memory>
 }
 
 /// The verdict, unless a check fails.
-pub fn checked(
-    alloc: Global,
-    refusal: Option<Cause>,
-    verdict: Verdict,
-) -> Result<Verdict, Memory>
+pub fn checked(alloc: Global, refusal: Option<Cause>, verdict: Verdict) -> Result<Verdict, Memory>
     ensures { IfOk result (λ it. it ≡ meant.checked refusal verdict) }
 {
     match refusal {

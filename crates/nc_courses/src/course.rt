@@ -90,11 +90,7 @@ pub fn refused_course(alloc: Global, cause: Cause) -> Result<Course, Memory>
 }
 
 /// Done with what it changes, unless a check fails.
-pub fn done_unless(
-    alloc: Global,
-    refusal: Option<Cause>,
-    change: Change,
-) -> Result<Course, Memory>
+pub fn done_unless(alloc: Global, refusal: Option<Cause>, change: Change) -> Result<Course, Memory>
     ensures { IfOk result (λ it. it ≡ course.done_unless refusal change) }
 {
     match refusal {

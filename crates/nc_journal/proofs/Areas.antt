@@ -11,5 +11,3 @@ area_of header second place bodies doubt file (torn_gate gate body chosen names 
     (gate, record { area = names.area; end = at; not_open = not_one; small = names.small })
 area_of header second place bodies doubt file (torn_chooser one other others second_is at not_zero not_one first first_closed last last_closed doubt_is) =
     (0, record { area = first.area; end = first_closed; not_open = omega arith; small = first.small })
-
-)

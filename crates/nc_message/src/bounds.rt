@@ -178,7 +178,11 @@ impl Bounds {
     }
 
     // What the tags around declare, and one more.
-    fn levels_with(&self, alloc: Global, level: Shared<Level>) -> Result<Many<Shared<Level>>, Memory>
+    fn levels_with(
+        &self,
+        alloc: Global,
+        level: Shared<Level>,
+    ) -> Result<Many<Shared<Level>>, Memory>
         ensures { IfOk result (λ it. in_force it ≡ inside self.now level) }
     {
         match &self.levels {

@@ -282,7 +282,8 @@ pub(crate) fn steps_to(
 ) -> Result<Many<Step>, Memory>
     ensures { IfOk result (λ it. it ≡ meant.steps_to (reading_of schema.now) at.now (meaning named.entry)) }
 {
-    at.above.copied_with(step_of(alloc, schema, at.under, named)?)
+    at.above
+        .copied_with(step_of(alloc, schema, at.under, named)?)
 }
 
 /// Remembers the step of a part, if it is an element that names a data node.

@@ -110,12 +110,7 @@ fn load_at<K: Sink>(alloc: Global, edits: u32, setup: Setup, sink: &mut K) -> Ru
 }
 
 /// Does a load test with so many edits, and writes its line.
-pub fn load<K: Sink, P: Maker>(
-    alloc: Global,
-    edits: u32,
-    maker: &mut P,
-    sink: &mut K,
-) -> RunEnd
+pub fn load<K: Sink, P: Maker>(alloc: Global, edits: u32, maker: &mut P, sink: &mut K) -> RunEnd
     ensures { Loads edits
         (making (P.refusals maker.old) (P.last_refused maker.old))
         (making (P.refusals maker.new) (P.last_refused maker.new))

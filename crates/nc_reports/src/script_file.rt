@@ -19,11 +19,7 @@ use nc_words::{RunEnd, ScriptEnd, printed_by};
 use std::alloc::Global;
 
 /// What the file of a script holds, where there is one.
-pub fn text_of<F: Files>(
-    alloc: Global,
-    files: &mut F,
-    file: &str,
-) -> Result<Option<Bytes>, RunEnd>
+pub fn text_of<F: Files>(alloc: Global, files: &mut F, file: &str) -> Result<Option<Bytes>, RunEnd>
     ensures { Finds file.now
         (filing (F.files files.old) (F.faults files.old))
         (filing (F.files files.new) (F.faults files.new)) result }

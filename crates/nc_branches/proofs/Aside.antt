@@ -26,11 +26,11 @@ use Rattle.nc_branches.proofs.SideOrder.{before_common, excludes_common}
 use Rattle.nc_branches.proofs.Sides.{get_append}
 
 -- the steps of a row from what it has in common with the path on
-record Parted (aim : Aiming) (depth : ℕ) (asked own : Step) (row : Row) : Type 0 where
-  rest : List Step
-  is : row.path.steps ≡ take depth aim.steps ++ own ∷ rest
+pub record Parted (aim : Aiming) (depth : ℕ) (asked own : Step) (row : Row) : Type 0 where
+  pub rest : List Step
+  pub is : row.path.steps ≡ take depth aim.steps ++ own ∷ rest
 
-parted : (aim : Aiming) (depth : ℕ) (asked own : Step) (row : Row) → slice_get aim.steps depth ≡ Some asked → slice_get row.path.steps depth ≡ Some own → IsUnder (take depth aim.steps) row → Parted aim depth asked own row
+pub parted : (aim : Aiming) (depth : ℕ) (asked own : Step) (row : Row) → slice_get aim.steps depth ≡ Some asked → slice_get row.path.steps depth ≡ Some own → IsUnder (take depth aim.steps) row → Parted aim depth asked own row
 parted aim depth asked own row asked_is own_is under = by under.0 under.1
   where
     len : length (take depth aim.steps) ≡ depth
@@ -81,7 +81,7 @@ module _ (aim : Aiming) (depth : ℕ) (above : Option ℕ) (before : Bool) (aske
           let is : is_same_step own asked ≡ true = (step_decide own asked).1 same in
           cc
 
-  aside_row : All (IsUnder aim.steps) aim.block → (row : Row) → slice_get row.path.steps depth ≡ Some own → IsUnder (take depth aim.steps) row → IsAt aim before row
+  pub aside_row : All (IsUnder aim.steps) aim.block → (row : Row) → slice_get row.path.steps depth ≡ Some own → IsUnder (take depth aim.steps) row → IsAt aim before row
   aside_row block row own_is under =
       let at = parted aim depth asked own row asked_is own_is under in
       (stay aim.tables aim.steps aim.block row (apart row own_is) (none_excludes row at aim.block block), aside_front row at)

@@ -31,7 +31,7 @@ none_there above number row apart = there above row.path.steps apart
         by false e more = refl
 
 -- nor is one that is longer by more than a step
-too_long : (above : List Step) (number : ℕ) (steps : List Step) → suc (length above) < length steps → keys_in above number steps ≡ None
+pub too_long : (above : List Step) (number : ℕ) (steps : List Step) → suc (length above) < length steps → keys_in above number steps ≡ None
 too_long [] number [] long = absurd (omega (arith, long))
 too_long [] number (s ∷ []) long = absurd (omega (arith, long))
 too_long [] number (s ∷ t ∷ steps) long = refl

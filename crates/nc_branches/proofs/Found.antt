@@ -17,7 +17,7 @@ use Rattle.nc_branches.proofs.Places.{is_below}
 use Rattle.std.proofs.lemmas.List.{append-nil}
 
 -- what is not at or below some steps is not at them
-not_same : (steps : List Step) (row : Row) → is_at_or_below steps row.path ≡ false → is_same_path row.path.steps steps ≡ false
+pub not_same : (steps : List Step) (row : Row) → is_at_or_below steps row.path ≡ false → is_same_path row.path.steps steps ≡ false
 not_same steps row apart = by (is_same_path row.path.steps steps) refl
   where
     by : (b : Bool) → is_same_path row.path.steps steps ≡ b → b ≡ false

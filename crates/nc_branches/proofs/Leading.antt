@@ -19,7 +19,7 @@ use Rattle.nc_branches.specs.declared.tree.Fork.{Fork}
 use Rattle.nc_branches.proofs.Placing.{own_under, put_below, put_last}
 
 -- rows below a path are below what it goes on from
-shorter_under : (path rest steps : List Step) (rows : List Row) → steps ≡ path ++ rest → AreUnder steps rows → AreUnder path rows
+pub shorter_under : (path rest steps : List Step) (rows : List Row) → steps ≡ path ++ rest → AreUnder steps rows → AreUnder path rows
 unfolding AreUnder
 shorter_under path rest steps rows is all =
     All-weaker (IsUnder steps) (IsUnder path) (λ row u. (rest ++ u.0, u.1 ∙ ap (λ xs. xs ++ u.0) is ∙ append_assoc path rest u.0)) rows all

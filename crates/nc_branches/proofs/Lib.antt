@@ -24,3 +24,17 @@ pub mod ChildLemmas
 pub mod GoneLemmas
 pub mod Rooms
 pub mod SameRows
+pub mod Numbers
+pub mod Wholes
+pub mod Tallies
+pub mod EntryOrder
+pub mod Locating
+pub mod Knowing
+pub mod Turning
+pub mod Turned
+pub mod Exchanging
+pub mod Numbered
+pub mod Beside
+pub mod Tallying
+pub mod Laying
+pub mod Going

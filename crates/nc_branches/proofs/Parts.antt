@@ -50,7 +50,7 @@ block_all steps (row ∷ rows) within =
     let P : Row → Type 0 = λ row. is_at_or_below steps row.path ≡ true in
     rw (All-head P row rows within) (ap (λ xs. row ∷ xs) (block_all steps rows (All-tail P row rows within)))
 
-rest_all : (steps : List Step) (rows : List Row) → AreApart steps rows → without_block rows steps ≡ rows
+pub rest_all : (steps : List Step) (rows : List Row) → AreApart steps rows → without_block rows steps ≡ rows
 unfolding AreApart
 rest_all steps [] apart = refl
 rest_all steps (row ∷ rows) apart =

@@ -23,11 +23,11 @@ use Rattle.nc_branches.proofs.Putting.{IsBack, IsFront, gone_among, here_among, 
 use Rattle.nc_branches.proofs.RowSides.{back_row, front_above, front_row, parts, split_get, stays_above, stays_row, taken_length}
 use Rattle.nc_branches.proofs.Sides.{chain_greater, step_total, through, twig_side}
 
-all_first : {X : Type 0} (P : X → Type 0) (xs ys : List X) → All P (xs ++ ys) → All P xs
+pub all_first : {X : Type 0} (P : X → Type 0) (xs ys : List X) → All P (xs ++ ys) → All P xs
 all_first P [] ys all = All-nil P
 all_first P (x ∷ xs) ys all = All-cons P x xs (All-head P x (xs ++ ys) all) (all_first P xs ys (All-tail P x (xs ++ ys) all))
 
-all_second : {X : Type 0} (P : X → Type 0) (xs ys : List X) → All P (xs ++ ys) → All P ys
+pub all_second : {X : Type 0} (P : X → Type 0) (xs ys : List X) → All P (xs ++ ys) → All P ys
 all_second P [] ys all = all
 all_second P (x ∷ xs) ys all = all_second P xs ys (All-tail P x (xs ++ ys) all)
 

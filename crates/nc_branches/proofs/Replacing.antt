@@ -36,7 +36,7 @@ some_first (x ∷ xs) ys row some = by (is_same_path x.path.steps row.path.steps
     by false e same = ap (λ zs. x ∷ zs) (same e)
 
 -- or it has none
-none_first : (xs ys : List Row) (row : Row) → row_at xs row.path.steps ≡ None → replaced (xs ++ ys) row ≡ xs ++ replaced ys row
+pub none_first : (xs ys : List Row) (row : Row) → row_at xs row.path.steps ≡ None → replaced (xs ++ ys) row ≡ xs ++ replaced ys row
 none_first [] ys row none = refl
 none_first (x ∷ xs) ys row none = by (is_same_path x.path.steps row.path.steps) none (none_first xs ys row)
   where
@@ -44,7 +44,7 @@ none_first (x ∷ xs) ys row none = by (is_same_path x.path.steps row.path.steps
     by true e same = cc
     by false e same = ap (λ zs. x ∷ zs) (same e)
 
-none_second : (xs ys : List Row) (row : Row) → row_at ys row.path.steps ≡ None → replaced (xs ++ ys) row ≡ replaced xs row ++ ys
+pub none_second : (xs ys : List Row) (row : Row) → row_at ys row.path.steps ≡ None → replaced (xs ++ ys) row ≡ replaced xs row ++ ys
 none_second [] ys row none = none_same ys row none
 none_second (x ∷ xs) ys row none = by (is_same_path x.path.steps row.path.steps) (none_second xs ys row none)
   where

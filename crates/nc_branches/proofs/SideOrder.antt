@@ -27,14 +27,14 @@ nat_refuse n k less = by (n == k) refl
     by true e = let same : n ≡ k = (Decides-eqb n k).0 e in absurd (omega (arith, less, same))
 
 -- a node that is none of the keys comes after them
-place_of : (keys : List ℕ) (n p : ℕ) → All (λ key. key < p) keys → p ≤ n → sibling_place keys n ≡ n + length keys
+pub place_of : (keys : List ℕ) (n p : ℕ) → All (λ key. key < p) keys → p ≤ n → sibling_place keys n ≡ n + length keys
 place_of [] n p less more = omega arith
 place_of (key ∷ keys) n p less more =
     let first : key < p = All-head (λ key. key < p) key keys less in
     let rest : sibling_place keys n ≡ n + length keys = place_of keys n p (All-tail (λ key. key < p) key keys less) more in
     rw (nat_refuse n key (omega (arith, first, more))) (omega (arith, rest))
 
-place_most : (keys : List ℕ) (n : ℕ) → sibling_place keys n ≤ n + length keys
+pub place_most : (keys : List ℕ) (n : ℕ) → sibling_place keys n ≤ n + length keys
 place_most [] n = omega arith
 place_most (key ∷ keys) n = by (n == key) (place_most keys n)
   where

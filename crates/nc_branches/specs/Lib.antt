@@ -4,4 +4,6 @@ pub mod Sides
 pub mod Beneath
 pub mod Singles
 pub mod Sizes
+pub mod Entries
+pub mod Tallies
 pub mod inner

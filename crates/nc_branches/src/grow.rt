@@ -18,7 +18,7 @@ impl Tree {
 }
 
 /// Copies of steps.
-fn copied(alloc: Global, steps: &[Step]) -> Result<Many<Step>, Memory>
+pub(crate) fn copied(alloc: Global, steps: &[Step]) -> Result<Many<Step>, Memory>
     ensures { IfOk result (λ it. it ≡ steps.now) }
 {
     let mut all = Many::new(alloc);
@@ -50,6 +50,7 @@ impl Twig {
         Twig {
             row,
             stands: false,
+            label: 0,
             below,
         }
     }
@@ -62,8 +63,40 @@ impl Twig {
         Twig {
             row,
             stands: true,
+            label: 0,
             below: Tree::empty(),
         }
+    }
+}
+
+impl Twig {
+    /// A node that has a row and a label, and nothing below it.
+    pub(crate) fn leafless(row: Shared<Row>, label: u64) -> Twig
+        ensures { result ≡ record { row = row; stands = true; below = record { rows = []; cells = 0 } } }
+    {
+        Twig::bud(row).with_label(label)
+    }
+
+    /// The node with another label.
+    pub(crate) fn with_label(self, label: u64) -> Twig
+        ensures { result ≡ self }
+    {
+        let mut twig = self;
+        twig.label = label;
+        twig
+    }
+
+    /// The node with a row of its own, at the same path, and a label.
+    pub(crate) fn with_own(&self, row: Shared<Row>, label: u64) -> Result<Twig, Memory>
+        requires { self.now.row.path.steps ≡ row.path.steps }
+        ensures { IfOk result (λ it. it ≡ record { row = row; stands = true; below = self.now.below }) }
+    {
+        Ok(Twig {
+            row,
+            stands: true,
+            label,
+            below: self.below.copy()?,
+        })
     }
 }
 
@@ -84,7 +117,7 @@ fn sprout(alloc: Global, row: Shared<Row>, depth: usize) -> Result<Twig, Memory>
 
 impl Twig {
     /// Whether the node is above a row.
-    fn is_above(&self, row: &Row) -> bool
+    pub(crate) fn is_above(&self, row: &Row) -> bool
         ensures under { AreUnder self.now.row.path.steps self.now.below.rows }
         ensures above { result ≡ true → same.is_at_or_below self.now.row.path.steps row.now.path ≡ true }
     {

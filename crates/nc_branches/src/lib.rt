@@ -7,7 +7,9 @@
 //! block or an entry is found and changed by the steps of its path. Where siblings stand in the order of
 //! their numbers and keys a node is marked so, which is looked at when the node is made; where they do not,
 //! a look-up goes both ways. `set` puts a block in its place, or gives `None` where it is not known on which
-//! side of its siblings each step of the path stands. How deep a tree is bounds nothing but time.
+//! side of its siblings each step of the path stands. Of lists that the user orders a second tree knows which
+//! entries have a row: by it (`lay`, `get_known`, ..) an entry is found by its label, and put beside another
+//! one, without a list of their order. How deep a tree is bounds nothing but time.
 #![tactic(auto)]
 
 mod aim;
@@ -16,10 +18,18 @@ mod cases;
 mod children;
 mod front;
 mod grow;
+mod known;
+mod labels;
+mod lay;
+mod locate;
 mod look;
+mod marks;
+mod node;
 mod part;
+mod parted;
 mod place;
 mod put;
+mod reads;
 mod room;
 mod same;
 mod siblings;
@@ -29,5 +39,6 @@ mod whole;
 
 pub use cases::excludes;
 pub use front::stands_before;
+pub use lay::Laid;
 pub use siblings::{child_before, is_by_user, is_same_step, keys_before};
 pub use tree::Tree;

@@ -15,7 +15,7 @@ impl Twig {
     /// Whether a row stands at some steps or below them.
     #[cycle(exists)]
     #[tactic(auto, using(crate::proofs::Parts::exists_apart, crate::proofs::Parts::exists_own, crate::proofs::Parts::exists_inner, crate::proofs::Parts::exists_below))]
-    fn exists(&self, steps: &[Step]) -> bool
+    pub(crate) fn exists(&self, steps: &[Step]) -> bool
         ensures { result ≡ exists (rows_of self.now) steps.now }
     {
         if self.is_apart(steps) {
@@ -48,7 +48,11 @@ impl Twig {
     /// Adds the rows at some steps and below them.
     #[cycle(push_block)]
     #[tactic(auto, using(crate::proofs::Parts::block_apart, crate::proofs::Parts::block_within, crate::proofs::Parts::block_below))]
-    fn push_block<'a>(&'a self, steps: &[Step], out: &mut Many<&'a Row>) -> Result<(), Memory>
+    pub(crate) fn push_block<'a>(
+        &'a self,
+        steps: &[Step],
+        out: &mut Many<&'a Row>,
+    ) -> Result<(), Memory>
         ensures ok { OnOk result (rows_in out.new
             ≡ rows_in out.old ++ block_at (rows_of self.now) steps.now) }
     {
@@ -70,6 +74,7 @@ impl Twig {
         Ok(Twig {
             row: self.row.copy()?,
             stands: self.stands,
+            label: self.label,
             below,
         })
     }
@@ -77,7 +82,7 @@ impl Twig {
     /// The node without the rows at some steps and below them, where any are left.
     #[cycle(without)]
     #[tactic(auto, using(crate::proofs::Parts::rest_apart, crate::proofs::Parts::rest_within, crate::proofs::Parts::rest_below, crate::proofs::Parts::rest_under))]
-    fn without(&self, alloc: Global, steps: &[Step]) -> Result<Option<Twig>, Memory>
+    pub(crate) fn without(&self, alloc: Global, steps: &[Step]) -> Result<Option<Twig>, Memory>
         ensures { IfOk result (λ it. option_map_or rows_of it []
             ≡ without_block (rows_of self.now) steps.now) }
     {
@@ -172,7 +177,7 @@ impl Twig {
     /// How many of the rows of the node, which has so many, stand at some steps or below them.
     #[cycle(count_at)]
     #[tactic(auto, using(crate::proofs::Counting::count_apart, crate::proofs::Counting::count_within, crate::proofs::Counting::count_below))]
-    fn count_at(&self, steps: &[Step], len: u64) -> u64
+    pub(crate) fn count_at(&self, steps: &[Step], len: u64) -> u64
         requires { len ≡ length (rows_of self.now) }
         ensures { result ≡ length (block_at (rows_of self.now) steps.now) }
     {
@@ -188,7 +193,7 @@ impl Twig {
     /// The rows at some steps and below them.
     #[cycle(part)]
     #[tactic(auto, using(crate::proofs::Counting::part_apart, crate::proofs::Counting::part_within, crate::proofs::Counting::part_below))]
-    fn part(&self, alloc: Global, steps: &[Step]) -> Result<Tree, Memory>
+    pub(crate) fn part(&self, alloc: Global, steps: &[Step]) -> Result<Tree, Memory>
         ensures { IfOk result (λ it. it.rows ≡ block_at (rows_of self.now) steps.now) }
     {
         if self.is_apart(steps) {

@@ -59,6 +59,7 @@ impl Twig {
         Ok(Twig {
             row: row.copy()?,
             stands: self.stands,
+            label: self.label,
             below: self.below.copy()?,
         })
     }
@@ -78,7 +79,7 @@ impl Twig {
 
     #[cycle(replaced)]
     #[tactic(auto, using(crate::proofs::Replacing::apart_same, crate::proofs::Replacing::own_same, crate::proofs::Replacing::bare_inner, crate::proofs::Replacing::other_inner, crate::proofs::Replacing::replaced_under))]
-    fn replaced(&self, alloc: Global, row: &Shared<Row>) -> Result<Twig, Memory>
+    pub(crate) fn replaced(&self, alloc: Global, row: &Shared<Row>) -> Result<Twig, Memory>
         ensures { IfOk result (λ it. rows_of it ≡ replaced (rows_of self.now) row.now) }
     {
         let steps = row.get().path.steps.as_slice();

@@ -1,6 +1,6 @@
 //! Rows put in the place of those at and below a path, where it is known at each node on which side the
 //! path goes on.
-ghost use Rattle.std.specs.Prelude.{◌≡◌, [], ℕ, Option, true, IfOk, IfSome};
+ghost use Rattle.std.specs.Prelude.{◌≡◌, [], true, IfOk, IfSome};
 ghost use Rattle.std.specs.List.{starts_with};
 ghost use Rattle.std.specs.Option.{option_map_or};
 ghost use Rattle.nc_names.specs.Same as same;
@@ -8,10 +8,12 @@ ghost use Rattle.nc_branches.specs.inner.Shoots.{rows_of};
 ghost use Rattle.nc_branches.specs.Sides.{among};
 ghost use Rattle.nc_branches.specs.inner.Gone.{HasFirst};
 ghost use Rattle.nc_branches.specs.inner.Order.{AreUnder};
-ghost use Rattle.nc_branches.specs.inner.Putting.{IsNode, IsPut, Leads};
+ghost use Rattle.nc_branches.specs.inner.Putting.{IsNode, Leads};
+ghost use Rattle.nc_branches.specs.inner.Turning.{Puts, PutsIn};
 
 use crate::aim::Aim;
 use crate::front::fronts_of;
+use crate::labels::Turn;
 use crate::part::joined;
 use crate::tree::{Tree, Twig, join};
 use crate::way::Way;
@@ -53,15 +55,14 @@ impl Twig {
 
     /// The node with other rows at and below a path, where it is known on which side the path goes on.
     #[cycle(put)]
-    #[tactic(auto, using(crate::proofs::Leading::put_there, crate::proofs::Leading::put_under, crate::proofs::Leading::put_on))]
     fn put<'b, 'a>(
         &'a self,
         alloc: Global,
         aim: &Aim<'b, 'a>,
         depth: usize,
     ) -> Result<Option<Option<Twig>>, Memory>
-        ensures { IfOk result (λ it. IfSome it (λ here. (above : Option ℕ) →
-            IsPut aim.now depth above (rows_of self.now) (option_map_or rows_of here []))) }
+        ensures { IfOk result (λ it. IfSome it
+            (λ here. PutsIn aim.now depth self.now (option_map_or rows_of here []))) }
     {
         if !self.is_on_way(aim, depth) {
             return Ok(None);
@@ -72,7 +73,11 @@ impl Twig {
         if aim.len() == depth + 1 {
             return Ok(Some(aim.node()?));
         }
-        match self.below.put(alloc, aim, depth + 1, Some(step.node))? {
+        let turn = aim.turn_at(depth + 1);
+        match self
+            .below
+            .put(alloc, aim, depth + 1, Some(step.node), turn)?
+        {
             None => Ok(None),
             Some(below) => Ok(Some(Some(self.with_below(below)?))),
         }
@@ -82,22 +87,25 @@ impl Twig {
 impl Tree {
     /// Other rows at and below a path, where it is known on which side the path goes on.
     #[cycle(put)]
-    #[tactic(auto, using(crate::proofs::Placing::put_none))]
+    #[tactic(auto, using(crate::proofs::Going::puts_none))]
     pub(crate) fn put<'b, 'a>(
         &'a self,
         alloc: Global,
         aim: &Aim<'b, 'a>,
         depth: usize,
         above: Option<u32>,
+        turn: Turn,
     ) -> Result<Option<Tree>, Memory>
-        ensures { IfOk result (λ it. IfSome it (λ tree. IsPut aim.now depth above self.now.rows tree.rows)) }
+        ensures { IfOk result (λ it. IfSome it
+            (λ tree. Puts turn aim.now depth above self.now.rows tree.rows)) }
     {
         let Some(fork) = self.fork() else {
             return Ok(Some(aim.planted(alloc, depth)?));
         };
-        match fork.way(aim, depth, above) {
+        let (way, next) = fork.way(aim, depth, above, turn);
+        match way {
             Way::Unknown => Ok(None),
-            Way::Left => match fork.left.put(alloc, aim, depth, above)? {
+            Way::Left => match fork.left.put(alloc, aim, depth, above, next)? {
                 None => Ok(None),
                 Some(left) => Ok(Some(join(alloc, &left, &fork.twig, &fork.right)?)),
             },
@@ -105,7 +113,7 @@ impl Tree {
                 None => Ok(None),
                 Some(here) => Ok(Some(joined(alloc, &fork.left, here, &fork.right)?)),
             },
-            Way::Right => match fork.right.put(alloc, aim, depth, above)? {
+            Way::Right => match fork.right.put(alloc, aim, depth, above, next)? {
                 None => Ok(None),
                 Some(right) => Ok(Some(join(alloc, &fork.left, &fork.twig, &right)?)),
             },
@@ -114,7 +122,7 @@ impl Tree {
 }
 
 /// The node at a path that has these rows, where there is one.
-fn node_of(tree: &Tree, steps: &[Step]) -> Result<Option<Twig>, Memory>
+pub(crate) fn node_of(tree: &Tree, steps: &[Step]) -> Result<Option<Twig>, Memory>
     ensures { IfOk result (λ it. IfSome it (λ twig. IsNode steps.now tree.now.rows twig)) }
 {
     let Some(fork) = tree.fork() else {
@@ -241,7 +249,7 @@ impl Tree {
     {
         let fronts = fronts_of(alloc, orders, steps)?;
         let aim = Aim::new(schema, &fronts, steps, node);
-        match self.put(alloc, &aim, 0, None)? {
+        match self.put(alloc, &aim, 0, None, Turn::Kept)? {
             None => Ok(None),
             Some(tree) => Ok(Some(tree)),
         }

@@ -6,9 +6,11 @@ ghost use Rattle.nc_branches.specs.Branches.{Branches, no_branches};
 ghost use Rattle.nc_branches.specs.inner.Shoots.{Shoot, rows_of};
 ghost use Rattle.nc_branches.specs.inner.Depths.{AreLong};
 ghost use Rattle.nc_branches.specs.inner.Forks.{IsForkOf, rows_of_fork};
-ghost use Rattle.nc_branches.specs.inner.Order.{AreBefore, AreAfter, AreParted, HasBeside, HasStep, IsOnSide, depth_of, step_cmp};
+ghost use Rattle.nc_branches.specs.inner.Order.{depth_of, step_cmp};
 ghost use Rattle.nc_branches.specs.Singles.{AreSingle};
 
+use crate::marks::{are_numbered, are_single, are_whole};
+use crate::parted::are_parted;
 use nc_names::{Copies, Memory, Row, Shared, Step};
 use std::alloc::Global;
 use std::cmp::Ordering;
@@ -22,18 +24,22 @@ pub struct Tree {
     root: Option<Arc<Fork>>,
 }
 
-/// A data node with what is below it. Its own row is one of the rows where it stands.
+/// A data node with what is below it. Its own row is one of the rows where it stands. Among the entries of a
+/// list that the user orders its label says where it stands, so that it is found; nothing rests on it but
+/// time.
 #[cycle(tree)]
 #[derive(Drop)]
 pub(crate) struct Twig {
     pub(crate) row: Shared<Row>,
     pub(crate) stands: bool,
+    pub(crate) label: u64,
     pub(crate) below: Tree,
 }
 
 /// A data node among its siblings. Where it is ordered, the rows on its left come before its step, and
-/// those on its right after it. Where it is single, no two of all these rows have one path. Nothing rests on
-/// the height but time.
+/// those on its right after it; where it is numbered, they do so by their numbers. Where it is single, no two
+/// of all these rows have one path, and where it is whole, each entry among them has a row of its own.
+/// Nothing rests on the height but time.
 #[cycle(tree)]
 #[derive(Drop)]
 pub(crate) struct Fork {
@@ -44,7 +50,9 @@ pub(crate) struct Fork {
     height: u64,
     shortest: usize,
     pub(crate) ordered: bool,
-    single: bool,
+    pub(crate) single: bool,
+    pub(crate) numbered: bool,
+    pub(crate) whole: bool,
 }
 
 impl Model for Tree {
@@ -100,6 +108,7 @@ impl Copies for Twig {
         Ok(Twig {
             row: self.row.copy()?,
             stands: self.stands,
+            label: self.label,
             below: self.below.copy()?,
         })
     }
@@ -183,7 +192,9 @@ impl Twig {
     }
 
     /// The number of steps to the node.
-    pub(crate) fn len_of_path(&self) -> usize {
+    pub(crate) fn len_of_path(&self) -> usize
+        ensures { result ≡ length self.now.row.path.steps }
+    {
         self.row.get().path.steps.len()
     }
 
@@ -214,94 +225,6 @@ pub(crate) fn order(step: &Step, other: &Step) -> Ordering
 }
 
 impl Twig {
-    /// Whether the last step to the node is the one at a depth, and comes on that side of another.
-    fn is_at(&self, side: Ordering, depth: usize, step: &Step) -> bool
-        ensures { result ≡ true → IsOnSide side depth step.now self.now }
-    {
-        let _under = &self.below;
-        if self.depth() != depth {
-            return false;
-        }
-        match self.step() {
-            Some(own) => order(own, step) == side,
-            None => false,
-        }
-    }
-
-    /// Whether the last step to the node is the one at a depth, and a row stands among some beside it.
-    fn stands_beside(&self, beside: &Tree, depth: usize) -> bool
-        ensures { result ≡ true → HasBeside depth self.now beside.now.rows }
-    {
-        let _under = &self.below;
-        if self.depth() != depth {
-            return false;
-        }
-        match self.step() {
-            Some(_own) => beside.len() > 0,
-            None => false,
-        }
-    }
-}
-
-impl Tree {
-    /// Whether it is seen at once that all rows come before a step at a depth. Where rows stand on the right
-    /// of an ordered node they come after its step, so that it need not be compared too.
-    #[tactic(auto, using(crate::proofs::Sides::before_none, crate::proofs::Sides::fork_before, crate::proofs::Sides::led_before))]
-    fn is_before(&self, depth: usize, step: &Step) -> bool
-        ensures { result ≡ true → AreBefore depth step.now self.now.rows }
-    {
-        match self.fork() {
-            None => true,
-            Some(fork) => {
-                if !fork.ordered {
-                    return false;
-                }
-                if fork.twig.stands_beside(&fork.right, depth) {
-                    return fork.right.is_before(depth, step);
-                }
-                if !fork.twig.is_at(Ordering::Less, depth, step) {
-                    return false;
-                }
-                fork.right.is_before(depth, step)
-            }
-        }
-    }
-
-    /// Whether it is seen at once that all rows come after a step at a depth.
-    #[tactic(auto, using(crate::proofs::Sides::after_none, crate::proofs::Sides::fork_after, crate::proofs::Sides::led_after))]
-    fn is_after(&self, depth: usize, step: &Step) -> bool
-        ensures { result ≡ true → AreAfter depth step.now self.now.rows }
-    {
-        match self.fork() {
-            None => true,
-            Some(fork) => {
-                if !fork.ordered {
-                    return false;
-                }
-                if fork.twig.stands_beside(&fork.left, depth) {
-                    return fork.left.is_after(depth, step);
-                }
-                if !fork.twig.is_at(Ordering::Greater, depth, step) {
-                    return false;
-                }
-                fork.left.is_after(depth, step)
-            }
-        }
-    }
-}
-
-/// Whether it is seen at once that siblings stand in the order of their steps.
-fn are_parted(left: &Tree, twig: &Twig, right: &Tree) -> bool
-    ensures { result ≡ true → AreParted twig.now left.now.rows right.now.rows }
-{
-    let depth = twig.depth();
-    match twig.step() {
-        Some(step) => left.is_before(depth, step) && right.is_after(depth, step),
-        None => false,
-    }
-}
-
-impl Twig {
     /// No row of the node has a shorter path.
     #[tactic(auto, using(crate::proofs::Depths::long_twig))]
     fn shortest(&self) -> usize
@@ -317,55 +240,6 @@ fn least_of(left: &Tree, twig: &Twig, right: &Tree) -> usize
     ensures { AreLong result (left.now.rows ++ rows_of twig.now ++ right.now.rows) }
 {
     left.shortest().min(twig.shortest()).min(right.shortest())
-}
-
-impl Twig {
-    /// Whether the node has a last step.
-    fn has_step(&self) -> bool
-        ensures { result ≡ true → HasStep self.now }
-    {
-        let _under = &self.below;
-        match self.step() {
-            Some(_own) => true,
-            None => false,
-        }
-    }
-
-    /// Whether it is seen at once that no two rows of the node have one path.
-    #[tactic(auto, using(crate::proofs::Singles::single_bare, crate::proofs::Singles::single_own))]
-    fn is_single(&self) -> bool
-        ensures { result ≡ true → AreSingle (rows_of self.now) }
-    {
-        if !self.below.is_single() {
-            return false;
-        }
-        if !self.stands {
-            return true;
-        }
-        self.row.get().path.steps.len() < self.below.shortest()
-    }
-}
-
-/// Whether it is seen at once that no two rows of three parts have one path, where it is known whether they are
-/// ordered.
-#[tactic(auto, using(crate::proofs::Singles::single_parts))]
-fn are_single(ordered: bool, left: &Tree, twig: &Twig, right: &Tree) -> bool
-    requires { ordered ≡ true → AreParted twig.now left.now.rows right.now.rows }
-    ensures { result ≡ true → AreSingle (left.now.rows ++ rows_of twig.now ++ right.now.rows) }
-{
-    if !ordered {
-        return false;
-    }
-    if !twig.has_step() {
-        return false;
-    }
-    if !left.is_single() {
-        return false;
-    }
-    if !right.is_single() {
-        return false;
-    }
-    twig.is_single()
 }
 
 /// How many rows three parts have.
@@ -388,6 +262,8 @@ impl Tree {
         let height = left.height().max(right.height()).saturating_add(1);
         let ordered = are_parted(&left, &twig, &right);
         let single = are_single(ordered, &left, &twig, &right);
+        let numbered = are_numbered(&left, &twig, &right);
+        let whole = are_whole(&left, &twig, &right);
         let shortest = least_of(&left, &twig, &right);
         Ok(Tree {
             root: Some(Arc::new(
@@ -401,6 +277,8 @@ impl Tree {
                     shortest,
                     ordered,
                     single,
+                    numbered,
+                    whole,
                 },
             )?),
         })

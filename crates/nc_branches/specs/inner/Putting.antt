@@ -1,6 +1,7 @@
 -- Rows that are put in their place, one level after another.
 use Rattle.std.specs.Prelude.{◌≡◌, ◌++◌, ◌+◌, ◌<◌, length, slice_get, drop, ℕ, Bool, true, false, List, [], ◌∷◌, take, Option, Some, None}
 use Rattle.std.specs.List.{All}
+use Rattle.nc_names.specs.declared.path.Place.{Place}
 use Rattle.nc_names.specs.declared.path.Row.{Row}
 use Rattle.nc_names.specs.declared.path.Step.{Step}
 use Rattle.nc_schema.specs.Order.{keys_above}
@@ -11,6 +12,7 @@ use Rattle.nc_branches.specs.inner.Order.{AreUnder}
 use Rattle.nc_names.specs.Same.{is_same_step}
 use Rattle.nc_branches.specs.Orders.{first_order}
 use Rattle.nc_branches.specs.Sides.{among, is_front, stays}
+use Rattle.nc_branches.specs.declared.labels.Turn.{Turn}
 
 -- the node of the last step, or else the one above
 abbrev pub last_node : Option ℕ → List Step → Option ℕ
@@ -28,12 +30,24 @@ pub record IsLevel (steps : List Step) (depth : ℕ) (above : Option ℕ) (rows 
   pub above_is : above ≡ last_node None (take depth steps)
   pub under : AreUnder (take depth steps) rows
 
+-- where an entry goes among those of a list that the user orders (RFC 7950 7.7.9, 7.8.6), without a list of their
+-- order: `whole` are the rows before the edit, `laid` those into which it is put, and `beside` leads to the entry
+-- beside which it goes
+pub record Laying : Type 0 where
+  pub whole : List Row
+  pub laid : List Row
+  pub known : List Row
+  pub place : Place
+  pub turn : Turn
+  pub beside : List Step
+
 -- rows that go in the place of all that stand at or below a path, by the orders along it
 pub record Aiming : Type 0 where
   pub tables : Tables
   pub orders : List (List (List (List ℕ)))
   pub steps : List Step
   pub block : List Row
+  pub lay : Option Laying
 
 -- rows are those of a list and of the block
 abbrev pub IsFrom : List Row → List Row → List Row → Type 0

@@ -7,6 +7,7 @@ use Rattle.nc_branches.specs.Singles.{AreSingle}
 use Rattle.nc_branches.specs.inner.Shoots.{rows_of}
 use Rattle.nc_branches.specs.inner.Depths.{AreLong}
 use Rattle.nc_branches.specs.inner.Order.{AreParted}
+use Rattle.nc_branches.specs.inner.Steady.{AreNumbered, AreWholeParts}
 use Rattle.nc_branches.specs.declared.tree.Fork.{Fork}
 
 -- the rows and the number of nodes
@@ -17,12 +18,14 @@ branches_of (Some fork) = record {
   cells = 2 + fork.value.left.cells + fork.value.twig.below.cells + fork.value.right.cells;
 }
 
--- the count is that of the rows, none has a shorter path, and what is marked as ordered is, and as single
+-- the count is that of the rows, none has a shorter path, and what is marked as ordered, single, numbered or whole is
 pub record IsSoundFork (fork : Fork) : Type 0 where
   pub count : fork.count ≡ length (fork.left.rows ++ rows_of fork.twig ++ fork.right.rows)
   pub shortest : AreLong fork.shortest (fork.left.rows ++ rows_of fork.twig ++ fork.right.rows)
   pub parted : fork.ordered ≡ true → AreParted fork.twig fork.left.rows fork.right.rows
   pub single : fork.single ≡ true → AreSingle (fork.left.rows ++ rows_of fork.twig ++ fork.right.rows)
+  pub numbers : fork.numbered ≡ true → AreNumbered fork.twig fork.left.rows fork.right.rows
+  pub wholes : fork.whole ≡ true → AreWholeParts fork.twig fork.left.rows fork.right.rows
 
 -- so it is with the node at the top, where there is one
 abbrev pub IsSound : Option (Arc Fork Global) → Type 0

@@ -1,0 +1,405 @@
+//! Rows put in the place of those at and below a path, where it is known which entries have a row: the orders
+//! of lists that the user orders are not listed.
+ghost use Rattle.std.specs.Prelude.{◌≡◌, ◌+◌, [], IfOk, IfSome, Some, false, true};
+ghost use Rattle.std.specs.Option.{option_map_or};
+ghost use Rattle.nc_schema.specs.Standing as meant;
+ghost use Rattle.nc_branches.specs.Branches.{without_block};
+ghost use Rattle.nc_branches.specs.Orders.{orders_of};
+ghost use Rattle.nc_branches.specs.Sides.{among};
+ghost use Rattle.nc_branches.specs.Tallies.{IsTallied, KeepsTally};
+ghost use Rattle.nc_branches.specs.inner.Layings as layings;
+ghost use Rattle.nc_branches.specs.inner.Layings.{IsKept, IsLast, KnowsBlock};
+ghost use Rattle.nc_branches.specs.inner.Order.{AreUnder};
+ghost use Rattle.nc_branches.specs.inner.Shoots.{rows_of};
+ghost use Rattle.nc_branches.specs.inner.Turning.{AreTurned, entry_at};
+
+use crate::aim::{Aim, Lay};
+use crate::front::Front;
+use crate::grow::copied;
+use crate::labels::Turn;
+use crate::locate::{head, is_entry};
+use crate::put::node_of;
+use crate::siblings::is_by_user;
+use crate::tree::{Tree, Twig};
+use nc_names::{Copies, Many, Memory, Path, Place, Step, Text, same_keys};
+use nc_schema::Schema;
+use std::alloc::Global;
+
+/// A tree with other rows, and the entries in it that have a row.
+#[derive(Drop)]
+pub struct Laid {
+    pub tree: Tree,
+    pub known: Tree,
+}
+
+/// Whether an entry that stands is to keep its place.
+fn keeps(place: &Place, keys: &Many<Text>) -> bool
+    ensures { result ≡ layings.keeps place.now keys.now }
+{
+    match place {
+        Place::Kept => true,
+        Place::First | Place::Last => false,
+        Place::Before(anchor) | Place::After(anchor) => same_keys(anchor, keys),
+    }
+}
+
+/// Where an entry goes that does not stand.
+fn turn_of(place: &Place, keys: &Many<Text>) -> Turn
+    ensures { result ≡ layings.turn_of place.now keys.now }
+{
+    match place {
+        Place::Kept | Place::Last => Turn::Last,
+        Place::First => Turn::First,
+        Place::Before(anchor) => {
+            if same_keys(anchor, keys) {
+                return Turn::Last;
+            }
+            Turn::Before
+        }
+        Place::After(anchor) => {
+            if same_keys(anchor, keys) {
+                return Turn::Last;
+            }
+            Turn::After
+        }
+    }
+}
+
+/// The keys of the entry beside which one goes.
+fn anchor_of(alloc: Global, place: &Place) -> Result<Many<Text>, Memory>
+    ensures { IfOk result (λ it. it ≡ layings.anchor_of place.now) }
+{
+    match place {
+        Place::Before(anchor) | Place::After(anchor) => anchor.copy(),
+        Place::Kept | Place::First | Place::Last => Ok(Many::new(alloc)),
+    }
+}
+
+/// The path of an entry of a list below some steps.
+fn path_beside(
+    alloc: Global,
+    above: &[Step],
+    node: u32,
+    keys: Many<Text>,
+) -> Result<Many<Step>, Memory>
+    ensures { IfOk result (λ it. it ≡ entry_at above.now node keys) }
+{
+    let mut path = copied(alloc, above)?;
+    path.push(Step { node, keys })?;
+    Ok(path)
+}
+
+/// The step at a depth, where it is the last one.
+fn step_at(steps: &[Step], depth: usize) -> Option<&Step>
+    ensures { IfSome result (λ last. IsLast steps.now depth last.now) }
+{
+    if steps.len() <= depth || steps.len() - depth != 1 {
+        return None;
+    }
+    steps.get(depth)
+}
+
+/// The labels of the steps of a path.
+fn labels_of(alloc: Global, known: &Tree, steps: &[Step]) -> Result<Many<u64>, Memory> {
+    let mut labels = Many::new(alloc);
+    for at in 0..steps.len() {
+        labels.push(known.label_of(steps, at))?;
+    }
+    Ok(labels)
+}
+
+impl Twig {
+    /// The node with a label, and with labels for the entries below it where it has none.
+    fn labelled_as(self, alloc: Global, label: u64) -> Result<Twig, Memory>
+        ensures { IfOk result (λ it. rows_of it ≡ rows_of self) }
+    {
+        if self.label != 0 {
+            return Ok(self.with_label(label));
+        }
+        let below = self.below.with_labels(alloc)?;
+        Ok(self.with_below(below)?.with_label(label))
+    }
+}
+
+/// The same of a node, or of none.
+fn labelled(alloc: Global, node: Option<Twig>, label: u64) -> Result<Option<Twig>, Memory>
+    ensures { IfOk result (λ it. option_map_or rows_of it [] ≡ option_map_or rows_of node []) }
+{
+    match node {
+        None => Ok(None),
+        Some(twig) => Ok(Some(twig.labelled_as(alloc, label)?)),
+    }
+}
+
+/// What is known, and the entries of a node, where none of them has two rows.
+#[tactic(auto, using(crate::proofs::Tallying::knows_same, crate::proofs::Tallying::knows_block))]
+fn known_with(alloc: Global, known: &Tree, node: &Option<Twig>) -> Result<Option<Tree>, Memory>
+    ensures { IfOk result (λ it. IfSome it
+        (λ now. KnowsBlock known.now.rows (option_map_or rows_of node.now []) now.rows)) }
+{
+    let Some(twig) = node else {
+        return Ok(Some(known.copy()?));
+    };
+    match twig.note_all(alloc, Tree::empty())? {
+        None => Ok(None),
+        Some(more) => Ok(Some(known.with_known(alloc, &more)?)),
+    }
+}
+
+/// A node, or none, in its place by the labels of entries.
+fn lay_by<'b, 'a>(
+    alloc: Global,
+    schema: &'b Schema,
+    lay: &'b Lay<'a>,
+    steps: &'b [Step],
+    node: Option<Twig>,
+) -> Result<Option<Tree>, Memory>
+    requires under { AreUnder steps.now (option_map_or rows_of node []) }
+    requires turned { AreTurned (record {
+      tables = schema.now;
+      orders = orders_of schema.now lay.now.whole lay.now.place [] steps.now;
+      steps = steps.now;
+      block = option_map_or rows_of node [];
+      lay = Some lay.now;
+    }) }
+    ensures { IfOk result (λ it. IfSome it (λ tree. tree.rows
+        ≡ among schema.now (orders_of schema.now lay.now.whole lay.now.place [] steps.now) steps.now
+        (option_map_or rows_of node []) lay.now.laid)) }
+{
+    let fronts: Many<Front<'a>> = Many::new(alloc);
+    let aim = Aim::laid(schema, &fronts, lay, steps, node);
+    let turn = aim.turn_at(0);
+    match lay.laid.put(alloc, &aim, 0, None, turn)? {
+        None => Ok(None),
+        Some(tree) => Ok(Some(tree)),
+    }
+}
+
+impl Tree {
+    /// The entries that are known once the rows of a tree stand at a path, where that is seen; else `None`.
+    #[tactic(auto, using(crate::proofs::Leading::none_at_all, crate::proofs::Tallying::node_below, crate::proofs::Tallying::keeps_node))]
+    pub fn known_after(
+        &self,
+        alloc: Global,
+        steps: &[Step],
+        block: &Tree,
+    ) -> Result<Option<Tree>, Memory>
+        ensures { IfOk result (λ it. IfSome it
+            (λ now. KeepsTally self.now.rows steps.now block.now.rows now.rows)) }
+    {
+        if block.is_empty() {
+            return self.known_beside(alloc, steps, &None);
+        }
+        match node_of(block, steps)? {
+            None => Ok(None),
+            Some(twig) => self.known_beside(alloc, steps, &Some(twig)),
+        }
+    }
+
+    /// The entries that are known once a node, or none, stands at a path.
+    #[tactic(auto, using(crate::proofs::Tallying::keeps_tally))]
+    fn known_beside(
+        &self,
+        alloc: Global,
+        steps: &[Step],
+        node: &Option<Twig>,
+    ) -> Result<Option<Tree>, Memory>
+        requires { AreUnder steps.now (option_map_or rows_of node.now []) }
+        ensures { IfOk result (λ it. IfSome it (λ now. KeepsTally self.now.rows steps.now
+            (option_map_or rows_of node.now []) now.rows)) }
+    {
+        let others = self.without(alloc, steps)?;
+        match known_with(alloc, &others, node)? {
+            None => Ok(None),
+            Some(now) => Ok(Some(now)),
+        }
+    }
+
+    /// Rows in the place of all that stand at and below a path, where it is seen where they go; else `None`.
+    /// The rows are those of a tree of the node alone. The entries in it that have a row are known from then
+    /// on.
+    #[tactic(auto, using(crate::proofs::Leading::none_at_all, crate::proofs::Tallying::node_below))]
+    pub fn lay(
+        &self,
+        alloc: Global,
+        schema: &Schema,
+        known: &Tree,
+        path: &Path,
+        place: &Place,
+        block: &Tree,
+    ) -> Result<Option<Laid>, Memory>
+        requires { IsTallied known.now.rows self.now.rows }
+        ensures tree { IfOk result (λ it. IfSome it (λ laid. laid.tree.rows
+            ≡ among schema.now (orders_of schema.now self.now.rows place.now [] path.now.steps) path.now.steps
+            block.now.rows self.now.rows)) }
+        ensures known { IfOk result (λ it. IfSome it (λ laid. IsTallied laid.known.rows laid.tree.rows)) }
+    {
+        let steps = path.steps.as_slice();
+        if block.is_empty() {
+            return self.lay_node(alloc, schema, known, steps, place, None);
+        }
+        match node_of(block, steps)? {
+            None => Ok(None),
+            Some(twig) => self.lay_node(alloc, schema, known, steps, place, Some(twig)),
+        }
+    }
+
+    /// The same for a node with what is below it, or for none.
+    fn lay_node(
+        &self,
+        alloc: Global,
+        schema: &Schema,
+        known: &Tree,
+        steps: &[Step],
+        place: &Place,
+        node: Option<Twig>,
+    ) -> Result<Option<Laid>, Memory>
+        requires tallied { IsTallied known.now.rows self.now.rows }
+        requires under { AreUnder steps.now (option_map_or rows_of node []) }
+        ensures tree { IfOk result (λ it. IfSome it (λ laid. laid.tree.rows
+            ≡ among schema.now (orders_of schema.now self.now.rows place.now [] steps.now) steps.now
+            (option_map_or rows_of node []) self.now.rows)) }
+        ensures known { IfOk result (λ it. IfSome it (λ laid. IsTallied laid.known.rows laid.tree.rows)) }
+    {
+        if self.stays_there(schema, known, steps, place) {
+            return self.lay_kept(alloc, schema, known, steps, place, node);
+        }
+        self.lay_moved(alloc, schema, known, steps, place, node)
+    }
+
+    /// Whether the node at a path keeps its place, or the user does not order it.
+    #[tactic(auto, using(crate::proofs::Laying::kept_system, crate::proofs::Laying::kept_place))]
+    fn stays_there(&self, schema: &Schema, known: &Tree, steps: &[Step], place: &Place) -> bool
+        ensures { result ≡ true → IsKept schema.now place.now steps.now }
+    {
+        let Some(last) = step_at(steps, steps.len().saturating_sub(1)) else {
+            return false;
+        };
+        if !is_by_user(schema, last.node) {
+            return true;
+        }
+        if !keeps(place, &last.keys) {
+            return false;
+        }
+        self.holds(known, steps, known.label_of(steps, 0))
+    }
+
+    /// A node, or none, in the place of what stands at a path.
+    #[tactic(auto, using(crate::proofs::Laying::laid_kept, crate::proofs::Tallying::after_tally))]
+    fn lay_kept(
+        &self,
+        alloc: Global,
+        schema: &Schema,
+        known: &Tree,
+        steps: &[Step],
+        place: &Place,
+        node: Option<Twig>,
+    ) -> Result<Option<Laid>, Memory>
+        requires tallied { IsTallied known.now.rows self.now.rows }
+        requires under { AreUnder steps.now (option_map_or rows_of node []) }
+        requires kept { IsKept schema.now place.now steps.now }
+        ensures tree { IfOk result (λ it. IfSome it (λ laid. laid.tree.rows
+            ≡ among schema.now (orders_of schema.now self.now.rows place.now [] steps.now) steps.now
+            (option_map_or rows_of node []) self.now.rows)) }
+        ensures known { IfOk result (λ it. IfSome it (λ laid. IsTallied laid.known.rows laid.tree.rows)) }
+    {
+        let label = known.label_of(steps, steps.len().saturating_sub(1));
+        let node = labelled(alloc, node, label)?;
+        let Some(now) = known.known_beside(alloc, steps, &node)? else {
+            return Ok(None);
+        };
+        let labels = labels_of(alloc, known, steps)?;
+        let lay = Lay {
+            whole: self,
+            laid: self,
+            known,
+            place,
+            turn: Turn::Kept,
+            beside: steps,
+            labels: labels.as_slice(),
+        };
+        match lay_by(alloc, schema, &lay, steps, node)? {
+            None => Ok(None),
+            Some(tree) => Ok(Some(Laid { tree, known: now })),
+        }
+    }
+
+    /// An entry, or none, where it goes among the others.
+    #[tactic(auto, using(crate::proofs::Laying::laid_moved, crate::proofs::Tallying::after_tally, crate::proofs::Tallying::tallied_rest))]
+    fn lay_moved(
+        &self,
+        alloc: Global,
+        schema: &Schema,
+        known: &Tree,
+        steps: &[Step],
+        place: &Place,
+        node: Option<Twig>,
+    ) -> Result<Option<Laid>, Memory>
+        requires tallied { IsTallied known.now.rows self.now.rows }
+        requires under { AreUnder steps.now (option_map_or rows_of node []) }
+        ensures tree { IfOk result (λ it. IfSome it (λ laid. laid.tree.rows
+            ≡ among schema.now (orders_of schema.now self.now.rows place.now [] steps.now) steps.now
+            (option_map_or rows_of node []) self.now.rows)) }
+        ensures known { IfOk result (λ it. IfSome it (λ laid. IsTallied laid.known.rows laid.tree.rows)) }
+    {
+        let depth = steps.len().saturating_sub(1);
+        let Some(last) = step_at(steps, depth) else {
+            return Ok(None);
+        };
+        if !self.is_new(known, steps, place, &last.keys) {
+            return Ok(None);
+        }
+        let rest = self.without_known(alloc, known, steps)?;
+        let turn = turn_of(place, &last.keys);
+        let beside = path_beside(
+            alloc,
+            head(steps, depth),
+            last.node,
+            anchor_of(alloc, place)?,
+        )?;
+        let anchor = known.label_of(beside.as_slice(), depth);
+        let label = rest.new_label(known, steps, turn, anchor);
+        if label == 0 {
+            return Ok(None);
+        }
+        let node = labelled(alloc, node, label)?;
+        let Some(now) = known.known_beside(alloc, steps, &node)? else {
+            return Ok(None);
+        };
+        let mut labels = labels_of(alloc, known, steps)?;
+        labels.pop();
+        labels.push(anchor)?;
+        let lay = Lay {
+            whole: self,
+            laid: &rest,
+            known,
+            place,
+            turn,
+            beside: beside.as_slice(),
+            labels: labels.as_slice(),
+        };
+        match lay_by(alloc, schema, &lay, steps, node)? {
+            None => Ok(None),
+            Some(tree) => Ok(Some(Laid { tree, known: now })),
+        }
+    }
+
+    /// Whether an entry that is to keep its place has no row.
+    #[tactic(auto, using(crate::proofs::Locating::row_none, crate::proofs::Tallies::none_known))]
+    fn is_new(&self, known: &Tree, steps: &[Step], place: &Place, keys: &Many<Text>) -> bool
+        requires { IsTallied known.now.rows self.now.rows }
+        ensures { result ≡ true → layings.keeps place.now keys.now ≡ true →
+            meant.has_row self.now.rows steps.now ≡ false }
+    {
+        if !keeps(place, keys) {
+            return true;
+        }
+        if !is_entry(steps) {
+            return false;
+        }
+        match known.get(steps) {
+            Some(_) => false,
+            None => true,
+        }
+    }
+}

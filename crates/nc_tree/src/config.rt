@@ -1,16 +1,17 @@
 //! A configuration, seen as the list of its rows.
-ghost use Rattle.std.specs.Prelude.{◌≡◌, ◌↔◌, [], map, length, slice_get, IfOk, IsTrue, OnOk, OnErr};
+ghost use Rattle.std.specs.Prelude.{◌≡◌, ◌↔◌, [], map, length, slice_get, IfOk, IfSome, IsTrue, OnOk, OnErr};
 ghost use Rattle.std.specs.Option.{option_copied};
 ghost use Rattle.nc_names.specs.Same.{is_same_rows};
 ghost use Rattle.nc_schema.specs.Blocks.{row_at, with_block};
 ghost use Rattle.nc_schema.specs.Standing.{block_at};
 ghost use Rattle.nc_branches.specs.Branches.{replaced, without_block};
+ghost use Rattle.nc_branches.specs.Tallies.{IsTallied};
 ghost use Rattle.nc_tree.specs.Rows.{with_row};
 
 use crate::block::{copied_rows, put_block, rows_of_node, shared_rows};
 use crate::standing::orders_of;
-use nc_branches::Tree;
-use nc_names::{Copies, Many, Memory, Path, Place, Row, Shared};
+use nc_branches::{Tree, is_by_user};
+use nc_names::{Copies, Many, Memory, Path, Place, Row, Shared, Step};
 use nc_schema::Schema;
 use std::alloc::Global;
 use std::marker::Model;
@@ -20,6 +21,8 @@ use std::marker::Model;
 pub struct Config {
     alloc: Global,
     tree: Tree,
+    /// The entries of lists and leaf-lists that have a row, where no entry has two: where that is known.
+    known: Option<Tree>,
 }
 
 impl Model for Config {
@@ -29,6 +32,11 @@ impl Model for Config {
     ghost Value = { List Row };
 
     ghost view = { λ c. c.tree.rows };
+
+    ghost use Rattle.std.specs.Prelude.{IfSome};
+    ghost use Rattle.nc_branches.specs.Tallies.{IsTallied};
+
+    ghost invariant = { λ c. IfSome c.known (λ known. IsTallied known.rows c.tree.rows) };
 }
 
 impl Config {
@@ -37,6 +45,16 @@ impl Config {
         ensures { result.now.rows ≡ self.now }
     {
         &self.tree
+    }
+
+    /// The entries that have a row, where that is known.
+    pub(crate) fn known(&self) -> Option<&Tree>
+        ensures { IfSome result (λ known. IsTallied known.now.rows self.now) }
+    {
+        match &self.known {
+            Some(known) => Some(known),
+            None => None,
+        }
     }
 
     /// The allocator with which it grows.
@@ -51,6 +69,7 @@ impl Config {
         Config {
             alloc,
             tree: Tree::empty(),
+            known: None,
         }
     }
 
@@ -62,6 +81,7 @@ impl Config {
         Ok(Config {
             alloc,
             tree: Tree::from_rows(alloc, rows, 0)?,
+            known: None,
         })
     }
 
@@ -114,7 +134,17 @@ impl Config {
     pub fn get(&self, path: &Path) -> Option<&Row>
         ensures { option_copied result ≡ row_at self.now path.now.steps }
     {
-        self.tree.get(path.steps.as_slice())
+        self.row_at(path.steps.as_slice())
+    }
+
+    /// The row at some steps, where there is one.
+    pub(crate) fn row_at(&self, steps: &[Step]) -> Option<&Row>
+        ensures { option_copied result ≡ row_at self.now steps.now }
+    {
+        match &self.known {
+            Some(known) => self.tree.get_known(known, steps),
+            None => self.tree.get(steps),
+        }
     }
 
     /// Puts a row: where its path stands the row gets the value, and else it goes to its place, an
@@ -138,9 +168,27 @@ impl Config {
         ensures err { OnErr result (self.new ≡ self.old) }
     {
         let row = Shared::new(self.alloc, row)?;
-        let tree = self.tree.replaced(self.alloc, &row)?;
-        self.tree = tree;
+        *self = self.with_row(&row)?;
         Ok(())
+    }
+
+    /// The configuration with a row in the place of the first one at its path.
+    #[tactic(auto, using(nc_branches::proofs::Tallying::tallied_replaced))]
+    fn with_row(&self, row: &Shared<Row>) -> Result<Config, Memory>
+        ensures { IfOk result (λ it. it ≡ replaced self.now row.now) }
+    {
+        match &self.known {
+            Some(known) => Ok(Config {
+                alloc: self.alloc,
+                tree: self.tree.replaced_known(self.alloc, known, row)?,
+                known: Some(known.copy()?),
+            }),
+            None => Ok(Config {
+                alloc: self.alloc,
+                tree: self.tree.replaced(self.alloc, row)?,
+                known: None,
+            }),
+        }
     }
 
     /// Puts rows in the place of all that stand at or below a path. Rows of other cases go (RFC 7950
@@ -155,8 +203,10 @@ impl Config {
         ensures ok { OnOk result (self.new ≡ with_block schema.now self.old path.now place.now block) }
         ensures err { OnErr result (self.new ≡ self.old) }
     {
-        let tree = with_block(self.alloc, &self.tree, schema, path, place, block)?;
-        self.tree = tree;
+        let depth = path.steps.len().saturating_sub(1);
+        let block = Tree::from_rows(self.alloc, block, depth)?;
+        let ready = self.ready(schema, path.steps.as_slice())?;
+        *self = ready.with_tree(schema, path, place, &block)?;
         Ok(())
     }
 
@@ -171,7 +221,8 @@ impl Config {
         ensures ok { OnOk result (self.new ≡ with_block schema.now self.old path.now place.now part.now) }
         ensures err { OnErr result (self.new ≡ self.old) }
     {
-        self.tree = with_tree(self.alloc, &self.tree, schema, path, place, &part.tree)?;
+        let ready = self.ready(schema, path.steps.as_slice())?;
+        *self = ready.with_tree(schema, path, place, &part.tree)?;
         Ok(())
     }
 
@@ -179,9 +230,15 @@ impl Config {
     pub fn part(&self, path: &Path) -> Result<Config, Memory>
         ensures { IfOk result (λ it. it ≡ block_at self.now path.now.steps) }
     {
+        let steps = path.steps.as_slice();
+        let tree = match &self.known {
+            Some(known) => self.tree.part_known(self.alloc, known, steps)?,
+            None => self.tree.part(self.alloc, steps)?,
+        };
         Ok(Config {
             alloc: self.alloc,
-            tree: self.tree.part(self.alloc, path.steps.as_slice())?,
+            tree,
+            known: None,
         })
     }
 
@@ -193,31 +250,129 @@ impl Config {
         ensures count { IfOk result (λ n. n ≡ length (block_at self.old path.now.steps)) }
         ensures err { OnErr result (self.new ≡ self.old) }
     {
-        let before = self.tree.len();
-        let tree = self.tree.without(self.alloc, path.steps.as_slice())?;
-        let dropped = before - tree.len();
-        self.tree = tree;
+        let before = self.len();
+        let rest = self.without(path.steps.as_slice())?;
+        let dropped = before - rest.len();
+        *self = rest;
         Ok(dropped)
+    }
+
+    /// The configuration without the rows at some steps and below them.
+    #[tactic(auto, using(nc_branches::proofs::Tallying::tallied_without))]
+    fn without(&self, steps: &[Step]) -> Result<Config, Memory>
+        ensures { IfOk result (λ it. it ≡ without_block self.now steps.now) }
+    {
+        match &self.known {
+            Some(known) => Ok(Config {
+                alloc: self.alloc,
+                tree: self.tree.without_known(self.alloc, known, steps)?,
+                known: Some(known.without(self.alloc, steps)?),
+            }),
+            None => Ok(Config {
+                alloc: self.alloc,
+                tree: self.tree.without(self.alloc, steps)?,
+                known: None,
+            }),
+        }
+    }
+}
+
+/// Whether the user orders a list or leaf-list in a path (RFC 7950 7.7.7).
+fn is_ordered(schema: &Schema, steps: &[Step]) -> bool {
+    steps.iter().any(|step| is_by_user(schema, step.node))
+}
+
+impl Config {
+    /// The configuration with the rows of a tree in the place of all that stand at and below a path: where it
+    /// is seen where they go by the entries that are known, and else by a list of all entries beside each
+    /// step.
+    fn with_tree(
+        &self,
+        schema: &Schema,
+        path: &Path,
+        place: &Place,
+        block: &Tree,
+    ) -> Result<Config, Memory>
+        ensures { IfOk result (λ it. it ≡ with_block schema.now self.now path.now place.now block.now.rows) }
+    {
+        match &self.known {
+            None => self.listed(schema, path, place, block),
+            Some(known) => {
+                let laid = laid_in(self.alloc, schema, &self.tree, known, path, place, block)?;
+                match laid {
+                    Some(config) => Ok(config),
+                    None => self.listed(schema, path, place, block),
+                }
+            }
+        }
+    }
+
+    /// The same by lists.
+    #[tactic(auto, using(crate::proofs::OrdersLemmas::known_listed))]
+    fn listed(
+        &self,
+        schema: &Schema,
+        path: &Path,
+        place: &Place,
+        block: &Tree,
+    ) -> Result<Config, Memory>
+        ensures { IfOk result (λ it. it ≡ with_block schema.now self.now path.now place.now block.now.rows) }
+    {
+        let tree = with_tree(self.alloc, &self.tree, schema, path, place, block)?;
+        let known = match &self.known {
+            None => None,
+            Some(known) => known.known_after(self.alloc, path.steps.as_slice(), block)?,
+        };
+        Ok(Config {
+            alloc: self.alloc,
+            tree,
+            known,
+        })
+    }
+
+    /// The same rows. It is known which entries have a row where the user orders a list in a path.
+    fn ready(&self, schema: &Schema, steps: &[Step]) -> Result<Config, Memory>
+        ensures { IfOk result (λ it. it ≡ self.now) }
+    {
+        if self.known.is_some() || !is_ordered(schema, steps) {
+            return self.copy();
+        }
+        let tree = self.tree.with_labels(self.alloc)?;
+        let known = tree.known(self.alloc)?;
+        Ok(Config {
+            alloc: self.alloc,
+            tree,
+            known,
+        })
+    }
+}
+
+/// The same in a tree of which it is known which entries have a row.
+fn laid_in(
+    alloc: Global,
+    schema: &Schema,
+    tree: &Tree,
+    known: &Tree,
+    path: &Path,
+    place: &Place,
+    block: &Tree,
+) -> Result<Option<Config>, Memory>
+    requires { IsTallied known.now.rows tree.now.rows }
+    ensures { IfOk result (λ it. IfSome it (λ config. config
+        ≡ with_block schema.now tree.now.rows path.now place.now block.now.rows)) }
+{
+    match tree.lay(alloc, schema, known, path, place, block)? {
+        None => Ok(None),
+        Some(laid) => Ok(Some(Config {
+            alloc,
+            tree: laid.tree,
+            known: Some(laid.known),
+        })),
     }
 }
 
 /// Other rows at and below a path: in the tree, where it is known on which side of its siblings each
 /// step of the path stands, and else in a list of all rows.
-fn with_block(
-    alloc: Global,
-    tree: &Tree,
-    schema: &Schema,
-    path: &Path,
-    place: &Place,
-    block: Many<Row>,
-) -> Result<Tree, Memory>
-    ensures { IfOk result (λ it. it.rows ≡ with_block schema.now tree.now.rows path.now place.now block) }
-{
-    let block = Tree::from_rows(alloc, block, path.steps.len().saturating_sub(1))?;
-    with_tree(alloc, tree, schema, path, place, &block)
-}
-
-/// The same with the rows of a tree.
 fn with_tree(
     alloc: Global,
     tree: &Tree,
@@ -243,6 +398,7 @@ impl Copies for Config {
         Ok(Config {
             alloc: self.alloc,
             tree: self.tree.copy()?,
+            known: self.known.copy()?,
         })
     }
 }

@@ -6,8 +6,8 @@ use Rattle.nc_tree.proofs.config.Config.remove.Goals as goal
 pub overflow_sub-dropped : goal.overflow_sub-dropped
 overflow_sub-dropped c =
     let both = dropped c.args.self.now c.args.path.now.steps in
-    let before : c.len-before.result ≡ length c.args.self.now = c.len-before.ensures ∙ ap length c.self.view_is in
+    let before : c.len-before.result ≡ length c.args.self.now = c.len-before.ensures in
     let path : c.as_slice.result.now ≡ c.args.path.now.steps = c.as_slice.ensures in
-    let rest : c.in_ok-tree.tree.rows ≡ without_block c.args.self.now c.args.path.now.steps = c.in_ok-tree.ensures ∙ (λ i. without_block (c.self.view_is i) (path i)) in
+    let rest : c.in_ok-rest.rest ≡ without_block c.args.self.now c.args.path.now.steps = c.in_ok-rest.ensures ∙ ap (without_block c.args.self.now) path in
     let after : c.len.result ≡ length (without_block c.args.self.now c.args.path.now.steps) = c.len.ensures ∙ ap length rest in
     omega (arith, both, before, after)

@@ -96,7 +96,7 @@ found_first highest (first ∷ before) after row above is =
     (apart highest row first above (not_true (is_above highest first) (first_true (not (is_above highest first)) (are_below highest before) is)))
     ∙ found_first highest before after row above (second_true (not (is_above highest first)) (are_below highest before) is)
 
-unmoved : (tables : Tables) (old new : List Row) (steps : List Step) → is_ordered tables steps ≡ false → has_moved tables old new steps ≡ false
+pub unmoved : (tables : Tables) (old new : List Row) (steps : List Step) → is_ordered tables steps ≡ false → has_moved tables old new steps ≡ false
 unmoved tables old new steps none = by (last_or None steps) none
   where
     by : (last : Option Step) → option_map_or (λ node. node.by_user) (option_and_then (λ step. slice_get tables.nodes step.node) last) false ≡ false →
@@ -165,7 +165,7 @@ all_taken tables highest rows at asked more last past =
 pub all_asked : (tables : Tables) (front gone come back none one two three : List Row) (low middle high : List Step) → none ≡ [] →
     AddsAsked tables [] front none one low → ((before : List Row) → are_below low before ≡ true → are_below middle (before ++ gone) ≡ true) →
     two ≡ one ++ come → AddsAsked tables middle back two three high → AreAsked tables front gone come back three
-all_asked tables front gone come back none one two three low middle high empty first raises joined last new =
+all_asked tables front gone come back none one two three low middle high empty first raises joined last =
     (last old new (front ++ gone) [] (sym (append_assoc front gone back) ∙ ap (λ (list : List Row). front ++ gone ++ list) (sym (append-nil back)))
     (raises front so_far.0)).1
     ∙ filter-append p two back
@@ -177,6 +177,9 @@ all_asked tables front gone come back none one two three low middle high empty f
   where
     old : List Row
     old = front ++ (gone ++ back)
+
+    new : List Row
+    new = front ++ (come ++ back)
 
     p : Row → Bool
     p = is_updated tables old new

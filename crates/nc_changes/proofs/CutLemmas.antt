@@ -53,8 +53,8 @@ cut_changes tables old new front gone come back asked created updated deleted wa
   created =
       (one ∙ ap paths_of (missing_in old front gone come back was ∙ ap (filter (is_missing old)) (sym is))) i;
   updated =
-      (two ∙ ap paths_of (ap (λ (list : List Row). filter (is_updated tables list new) asked) was ∙ are new
-      ∙ ap (λ (list : List Row). filter (is_updated tables list new) (front ++ (come ++ back))) (sym was) ∙ ap (filter (is_updated tables old new)) (sym is))) i;
+      (two ∙ ap paths_of ((λ j. filter (is_updated tables (was j) (is j)) asked) ∙ are
+      ∙ (λ j. filter (is_updated tables (sym was j) (sym is j)) (sym is j)))) i;
   deleted =
       (three ∙ ap paths_of (missing_in new front come gone back is ∙ ap (filter (is_missing new)) (sym was))) i;
 }

@@ -4,4 +4,5 @@ pub mod CutLemmas
 pub mod EntryLemmas
 pub mod FoundLemmas
 pub mod KnownLemmas
+pub mod MarkLemmas
 pub mod RankLemmas

@@ -1,4 +1,5 @@
 pub mod Asked
 pub mod Common
 pub mod Entries
+pub mod Marks
 pub mod Ranks

@@ -127,8 +127,7 @@ impl<'a> Differing<'a> {
         if !is_by_user(schema, step.node) {
             return Ok(self);
         }
-        let known = self.ranks.has_moved(above, step.node, &step.keys);
-        if known.is_some() {
+        if self.ranks.knows(above, step.node) {
             return Ok(self);
         }
         let Differing { old, new, ranks } = self;
@@ -227,7 +226,7 @@ fn changes_among<'a>(
     let gone = behind(before, first);
     let come = behind(after, first);
     let below = behind(old_rows, left);
-    let asked = rows_asked(alloc, schema, above, gone, come, below)?;
+    let asked = rows_asked(alloc, schema, old_rows, above, gone, come, below)?;
     let stood = Found::of(alloc, old, old_rows, asked.len())?;
     let stand = Found::of(alloc, new, new_rows, gone.len())?;
     Ok(Changes {

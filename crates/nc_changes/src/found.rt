@@ -4,13 +4,11 @@ ghost use Rattle.std.specs.Option.{option_copied};
 ghost use Rattle.nc_schema.specs.Blocks.{row_at};
 ghost use Rattle.nc_tree.specs.Finding.{Finds};
 
+use crate::asked::FEW;
 use nc_names::{Memory, Row};
 use nc_tree::{Config, RowsByPath};
 use std::alloc::Global;
 use std::marker::Model;
-
-/// So many rows are looked up in the tree; for more a table is made.
-const FEW: usize = 256;
 
 /// The rows of a configuration, to be looked up by their paths: in its tree, or in a table of all of them.
 /// Contracts see the list of the rows.
@@ -32,7 +30,7 @@ impl<'a> Model for Found<'a> {
     ghost invariant = { λ f. IfSome f.table (λ table. Finds table f.config.now) };
 }
 
-// A table of the rows, for more than a few look-ups.
+// A table of the rows, for more than a few look-ups; a few are made in the tree.
 fn table<'a>(alloc: Global, rows: &[&'a Row], asks: usize) -> Result<Option<RowsByPath<'a>>, Memory>
     ensures { IfOk result (λ it. IfSome it (λ table. Finds table (map (λ row. row.now) rows.now))) }
 {

@@ -11,6 +11,7 @@ mod asked;
 mod common;
 mod differ;
 mod found;
+mod marks;
 mod moved;
 mod ranks;
 

@@ -172,6 +172,14 @@ impl<'a> Ranks<'a> {
         }
     }
 
+    /// Whether the moves of a list are known.
+    pub(crate) fn knows(&self, above: &'a [Step], number: u32) -> bool {
+        match self.table.get(&above) {
+            Some(listed) => listed.number == number,
+            None => false,
+        }
+    }
+
     /// Whether an entry of a list has moved, where the moves of the list are known.
     pub(crate) fn has_moved(
         &self,

@@ -1,7 +1,7 @@
 -- Rows that are asked whether they are updated.
-use Rattle.std.specs.Prelude.{◌≡◌, ◌++◌, Bool, true, false, not, List}
+use Rattle.std.specs.Prelude.{◌≡◌, ◌++◌, ◌||◌, if◌then◌else◌, Bool, true, false, not, List}
 use Rattle.std.specs.Cmp.Lexicographic.{slice_cmp}
-use Rattle.std.specs.List.{filter, list_all}
+use Rattle.std.specs.List.{filter, list_all, list_any}
 use Rattle.std.specs.Option.{option_map_or}
 use Rattle.std.specs.Ordering.{is_lt}
 use Rattle.std.specs.declared.cmp.Ordering.{Ordering}
@@ -38,6 +38,18 @@ AddsAsked tables highest rows asked more last =
 -- the updated rows are among those that are asked
 abbrev pub AreAsked : Tables → List Row → List Row → List Row → List Row → List Row → Type 0
 AreAsked tables front gone come back asked =
-    (new : List Row) →
-    filter (is_updated tables (front ++ (gone ++ back)) new) asked
-    ≡ filter (is_updated tables (front ++ (gone ++ back)) new) (front ++ (come ++ back))
+    filter (is_updated tables (front ++ (gone ++ back)) (front ++ (come ++ back))) asked
+    ≡ filter (is_updated tables (front ++ (gone ++ back)) (front ++ (come ++ back))) (front ++ (come ++ back))
+
+-- a row is an entry that the user orders
+abbrev pub is_placed : Tables → Row → Bool
+is_placed tables row = is_ordered tables row.path.steps
+
+-- such an entry goes or comes
+abbrev pub may_move : Tables → List Row → List Row → Bool
+may_move tables gone come = list_any (is_placed tables) gone || list_any (is_placed tables) come
+
+-- the rows that are asked where no two rows that stood have one path
+abbrev pub asked_apart : Tables → List Row → List Row → List Row → List Row → List Row
+asked_apart tables front gone come back =
+    if may_move tables gone come then filter (is_placed tables) front ++ (come ++ filter (is_placed tables) back) else come

@@ -1,8 +1,9 @@
 //! The writing of messages (RFC 6242 4.2 and 4.3).
-ghost use Rattle.std.specs.Prelude.{◌≡◌, ◌<◌, ◌≤◌, ◌++◌, length, OnOk, OnErr};
-ghost use Rattle.nc_frames.specs.Framing.{with_mark, chunk};
+ghost use Rattle.std.specs.Prelude.{◌≡◌, ◌<◌, ◌≤◌, ◌++◌, ◌∷◌, [], length, OnOk, OnErr};
+ghost use Rattle.nc_frames.specs.Framing.{announced, chunk, with_mark};
 ghost use Rattle.nc_frames.specs.Writing.{AppendsChunks, written_chunk};
 ghost use Rattle.nc_names.specs.Appending.{Extends, Appends};
+ghost use Rattle.nc_names.specs.Signs.{line_feed};
 
 use crate::marks::MARK;
 use itoa::Buffer;
@@ -68,9 +69,16 @@ fn push_chunks(body: &[u8], size: usize, out: &mut Bytes) -> Result<(), Memory>
 fn push_chunk(octets: &[u8], out: &mut Bytes) -> Result<(), Memory>
     ensures { Appends result out.old out.new (chunk octets.now) }
 {
+    write_header(octets.len(), out)?;
+    out.push_slice(octets)
+}
+
+/// Appends what stands before so many octets of a chunk (RFC 6242 4.2). `Memory` may leave a beginning of it.
+pub fn write_header(size: usize, out: &mut Bytes) -> Result<(), Memory>
+    ensures { Appends result out.old out.new (announced size ++ line_feed ∷ []) }
+{
     let mut buffer = Buffer::new();
     out.push_slice(b"\n#")?;
-    out.push_slice(buffer.format(octets.len()).as_bytes())?;
-    out.push_slice(b"\n")?;
-    out.push_slice(octets)
+    out.push_slice(buffer.format(size).as_bytes())?;
+    out.push_slice(b"\n")
 }

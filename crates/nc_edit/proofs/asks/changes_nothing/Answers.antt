@@ -1,6 +1,11 @@
 use Rattle.std.proofs.Common.{◌∙◌, rules, sym}
-use Rattle.nc_edit.proofs.StillLemmas.{single_none}
+use Rattle.nc_edit.proofs.StillLemmas.{single_marked, single_none}
 use Rattle.nc_edit.proofs.asks.changes_nothing.Goals as goal
+
+pub returns-then-branch : goal.returns-then-branch
+returns-then-branch c = λ is rights.
+    single_marked c.args.schema.now c.args.config.now c.args.edit.now (c.keeps_rows.ensures.kept (search rules))
+    (sym c.is_ordered.ensures ∙ c.if-is_ordered.false) (c.in_ok-is_single_at.ensures c.if-branch.true) rights
 
 pub returns : goal.returns
 returns c =

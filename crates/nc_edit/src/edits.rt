@@ -121,19 +121,13 @@ fn run_whole<A: Asks>(
         ≡ applied.applied schema.now (A.decided asks.now) Rollback config.old edits.now) }
     ensures err { OnErr result (config.new ≡ config.old) }
 {
-    let before = config.copy()?;
-    match run(alloc, schema, config, edits, false, asks) {
-        Ok(causes) => {
-            if !causes.is_empty() {
-                *config = before;
-            }
-            Ok(causes)
-        }
-        Err(memory) => {
-            *config = before;
-            Err(memory)
-        }
+    let mut draft = config.copy()?;
+    let causes = run(alloc, schema, &mut draft, edits, false, asks)?;
+    if !causes.is_empty() {
+        return Ok(causes);
     }
+    *config = draft;
+    Ok(causes)
 }
 
 // Makes edits in their order, under an error-option.

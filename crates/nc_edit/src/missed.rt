@@ -7,7 +7,7 @@ ghost use Rattle.nc_schema.specs.Blocks as blocks;
 ghost use Rattle.nc_schema.specs.Kinds as kinds;
 ghost use Rattle.nc_schema.specs.Standing as standing;
 
-use nc_names::{CauseKind, Many, Memory, Path, Place, Text, same_keys};
+use nc_names::{CauseKind, Many, Memory, Path, Place, Text};
 use nc_protocol::{Action, Edit};
 use nc_schema::{Kind, Schema};
 use nc_tree::{Config, node_of};
@@ -86,19 +86,11 @@ fn absent_above(schema: &Schema, config: &Config, path: &Path) -> Option<CauseKi
     None
 }
 
-fn has_entry(keys: &Many<Text>, order: &Many<Many<Text>>) -> bool
-    ensures { result ≡ standing.has_entry keys.now order.now }
-{
-    order.as_slice().iter().any(|entry| same_keys(entry, keys))
-}
-
 fn lacks_entry(config: &Config, path: &Path, anchor: &Many<Text>) -> Result<bool, Memory>
     ensures { IfOk result (λ it. it ≡ not (standing.has_entry anchor.now
         (blocks.entries_beside config.now path.now.steps))) }
 {
-    let order = config.entries_beside(path)?;
-    let has = has_entry(anchor, &order);
-    Ok(!has)
+    Ok(!config.has_beside(path, anchor)?)
 }
 
 /// Whether the anchor of a place does not stand.

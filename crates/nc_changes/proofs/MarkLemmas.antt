@@ -19,7 +19,8 @@ use Rattle.nc_schema.specs.Tables.{Tables}
 use Rattle.nc_protocol.specs.Changes.{entries_among, entry_above, has_moved, is_same_entry, is_updated, moves_between}
 use Rattle.nc_changes.specs.inner.Asked.{AreAsked, asked_apart, is_ordered, is_placed}
 use Rattle.nc_changes.specs.inner.Common.{rows_of}
-use Rattle.nc_changes.specs.inner.Marks.{AreApart, HasMarks, mark_of}
+use Rattle.nc_changes.specs.Apart.{AreApart}
+use Rattle.nc_changes.specs.inner.Marks.{HasMarks, mark_of}
 use Rattle.nc_changes.proofs.AskedLemmas.{rows_more, unmoved}
 
 -- ---- marks
@@ -99,7 +100,7 @@ passed first row found differ = by (is_same_path first.path.steps row.path.steps
     by true e = absurd (differ (same_path first.path.steps row.path.steps e))
     by false e = refl
 
-found_once : (before after : List Row) (row : Row) → AreApart (before ++ row ∷ after) → row_at (before ++ row ∷ after) row.path.steps ≡ Some row
+pub found_once : (before after : List Row) (row : Row) → AreApart (before ++ row ∷ after) → row_at (before ++ row ∷ after) row.path.steps ≡ Some row
 found_once [] after row apart = ap (λ b. cond b (Some row) (row_at after row.path.steps)) (same_itself row.path.steps row.path.steps refl)
 found_once (first ∷ before) after row apart =
     passed first row (row_at (before ++ row ∷ after) row.path.steps) (apart_from first.path.steps before after row apart.0) ∙ found_once before after row apart.1

@@ -4,7 +4,7 @@
 //!
 //! `changes` answers exactly what `changes_between` defines; want of memory alone is free. `Differing`
 //! answers of one row after another what `differs` does, and finds the moves of a list that the user orders
-//! once.
+//! once. `are_apart` tells in one pass that no two rows have one path, in whatever order they come.
 #![tactic(auto)]
 
 mod asked;
@@ -16,3 +16,4 @@ mod moved;
 mod ranks;
 
 pub use differ::{Differing, changes, differs, is_same_value, is_updated};
+pub use marks::are_apart;

@@ -2,7 +2,8 @@
 ghost use Rattle.std.specs.Prelude.{◌≡◌, ◌++◌, ◌∷◌, [], ℕ, List, true, fold, map, IfOk};
 ghost use Rattle.nc_names.specs.declared.path.Row.{Row};
 ghost use Rattle.nc_changes.specs.inner.Marks as inner;
-ghost use Rattle.nc_changes.specs.inner.Marks.{AreApart, HasMarks};
+ghost use Rattle.nc_changes.specs.Apart.{AreApart};
+ghost use Rattle.nc_changes.specs.inner.Marks.{HasMarks};
 
 use nc_names::{Memory, Row, Step, Text};
 use std::alloc::Global;
@@ -67,8 +68,9 @@ fn with_mark(known: BTreeSet<u64>, mark: u64) -> Result<BTreeSet<u64>, Memory>
     Ok(known)
 }
 
-/// Whether it is seen by their marks that no two rows have one path.
-pub(crate) fn are_apart(alloc: Global, rows: &[&Row]) -> Result<bool, Memory>
+/// Whether it is seen at once that no two rows have one path: no two have one mark. Where two have, they may
+/// still have two paths, as a client could bring about.
+pub fn are_apart(alloc: Global, rows: &[&Row]) -> Result<bool, Memory>
     ensures { IfOk result (λ it. it ≡ true → AreApart (map (λ row. row.now) rows.now)) }
 {
     let mut known = BTreeSet::new(alloc);

@@ -1,7 +1,7 @@
 -- Marks of paths: two rows of different marks have different paths.
-use Rattle.std.specs.Prelude.{◌≡◌, ◌≢◌, ◌+◌, ◌*◌, ◌%◌, ◌^◌, ◌==◌, ◌∷◌, [], ℕ, List, fold}
+use Rattle.std.specs.Prelude.{◌≡◌, ◌+◌, ◌*◌, ◌%◌, ◌^◌, ◌==◌, ℕ, List, fold}
 use Rattle.std.specs.BTreeSet.{BTreeSet, contains}
-use Rattle.std.specs.List.{All, list_any}
+use Rattle.std.specs.List.{list_any}
 use Rattle.std.specs.Ordering.{nat_cmp}
 use Rattle.nc_names.specs.declared.path.Row.{Row}
 use Rattle.nc_names.specs.declared.path.Step.{Step}
@@ -24,8 +24,3 @@ mark_of steps = fold with_step 0 steps
 -- the marks in the set are those of these rows
 abbrev pub HasMarks : BTreeSet ℕ → List Row → Type 0
 HasMarks known rows = (mark : ℕ) → contains nat_cmp known mark ≡ list_any (λ row. mark_of row.path.steps == mark) rows
-
--- no two rows have one path
-abbrev pub AreApart : List Row → Type 0
-AreApart [] = Unit {0}
-AreApart (row ∷ rows) = All (λ other. row.path.steps ≢ other.path.steps) rows × AreApart rows

@@ -1,6 +1,7 @@
 use Rattle.std.proofs.Common.{take}
 use Rattle.nc_changes.specs.inner.Common.{rows_of}
-use Rattle.nc_changes.specs.inner.Marks.{AreApart, HasMarks}
+use Rattle.nc_changes.specs.Apart.{AreApart}
+use Rattle.nc_changes.specs.inner.Marks.{HasMarks}
 use Rattle.nc_changes.proofs.marks.are_apart.Given as goal
 
 abbrev pub invariant-loop-row : goal.invariant-loop-row

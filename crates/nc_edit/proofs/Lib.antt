@@ -1,3 +1,4 @@
+pub mod ApartLemmas
 pub mod CaseLemmas
 pub mod FirstDenied
 pub mod FreeLemmas

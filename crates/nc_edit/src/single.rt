@@ -6,7 +6,7 @@ ghost use Rattle.nc_names.specs.declared.path.Row.{Row};
 ghost use Rattle.nc_tree.specs.Finding.{Finds};
 ghost use Rattle.nc_edit.specs.inner.Single as inner;
 
-use nc_changes::is_same_value;
+use nc_changes::{are_apart, is_same_value};
 use nc_names::{Memory, Row, Step};
 use nc_tree::RowsByPath;
 use std::alloc::Global;
@@ -68,13 +68,17 @@ fn have_their_values<'a>(found: &RowsByPath<'a>, rows: &[&'a Row]) -> bool
 }
 
 /// Whether rows have one value at each path. Rows that rise from a depth on, as those of a configuration in
-/// which the user orders nothing, are gone over once.
-#[tactic(auto, using(crate::proofs::StillLemmas::risen_all))]
+/// which the user orders nothing, are gone over once, and others of which no two have one path.
+#[tactic(auto, using(crate::proofs::StillLemmas::risen_all, crate::proofs::ApartLemmas::apart_all))]
 pub(crate) fn are_single<'a>(alloc: Global, depth: usize, rows: &[&'a Row]) -> Result<bool, Memory>
     ensures { IfOk result (λ it. it ≡ true → list_all
         (inner.has_its_value (map (λ row. row.now) rows.now)) (map (λ row. row.now) rows.now) ≡ true) }
 {
     if are_rising(depth, rows) {
+        return Ok(true);
+    }
+    let apart = are_apart(alloc, rows)?;
+    if apart {
         return Ok(true);
     }
     let found = RowsByPath::new(alloc, rows)?;

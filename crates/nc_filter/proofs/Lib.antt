@@ -27,3 +27,4 @@ pub mod LoneLemmas
 pub mod RangeLemmas
 pub mod EntryLemmas
 pub mod AimLemmas
+pub mod ShortLemmas

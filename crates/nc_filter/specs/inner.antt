@@ -11,3 +11,4 @@ pub mod Names
 pub mod Labels
 pub mod Front
 pub mod Entries
+pub mod Short

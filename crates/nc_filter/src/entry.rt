@@ -25,6 +25,9 @@ use nc_schema::{Kind, Node, Schema};
 use nc_tree::Config;
 use std::alloc::Global;
 
+/// So many octets a namespace may have that is looked up.
+const MOST_SPACE: usize = 1_024;
+
 /// So often a range of places is halved.
 const MOST_HALVES: usize = 64;
 
@@ -39,11 +42,14 @@ pub(crate) struct Aim<'a> {
     list: u32,
 }
 
-// The data node that an element names with its namespace.
+// The data node that an element names with its namespace, unless that is long.
 fn child_of(schema: &Schema, parent: Option<u32>, elem: &Elem) -> Option<u32>
     ensures { IfSome result (inner.NamesChild schema.now parent elem.now) }
 {
     if elem.name.space.is_empty() {
+        return None;
+    }
+    if elem.name.space.len() > MOST_SPACE {
         return None;
     }
     schema.child(parent, &elem.name)

@@ -35,6 +35,7 @@ mod reach;
 mod rows;
 mod runs;
 mod selection;
+mod short;
 mod slots;
 mod spots;
 mod table;

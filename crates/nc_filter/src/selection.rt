@@ -12,6 +12,7 @@ use crate::element::last_step;
 use crate::front::met_rows;
 use crate::index::{Index, above_last};
 use crate::places::Places;
+use crate::short::shortened;
 use crate::walk::pick_within;
 use nc_message::Elem;
 use nc_names::{Copies, Many, Memory, Row, Step};
@@ -132,6 +133,18 @@ fn selected_rows<'a>(
     Ok(out)
 }
 
+fn rows_of(
+    alloc: Global,
+    schema: &Schema,
+    filter: &Elem,
+    config: &Config,
+) -> Result<Many<Row>, Memory>
+    ensures { IfOk result (λ it. it ≡ meant.selected schema.now filter.now config.now) }
+{
+    let rows = met_rows(alloc, schema, filter, config)?;
+    selected_rows(alloc, schema, filter, rows.as_slice())
+}
+
 /// The rows of a configuration that a subtree filter keeps, in their order (RFC 6241 6). The
 /// children of `filter` are its elements at the top.
 pub fn select(
@@ -142,6 +155,8 @@ pub fn select(
 ) -> Result<Many<Row>, Memory>
     ensures { IfOk result (λ it. it ≡ meant.selected schema.now filter.now config.now) }
 {
-    let rows = met_rows(alloc, schema, filter, config)?;
-    selected_rows(alloc, schema, filter, rows.as_slice())
+    match shortened(alloc, schema, filter)? {
+        Some(short) => rows_of(alloc, schema, &short, config),
+        None => rows_of(alloc, schema, filter, config),
+    }
 }

@@ -51,6 +51,23 @@ def prefixes(count, elements):
     return get_config(top("users", "<a/>" * elements, bound))
 
 
+def long_namespaces(by):
+    """Names in a namespace of megabytes, which each name under its prefix has in a few octets."""
+    space, count = "u" * (1_900_000 // by), 160_000 // by
+    bound = f' xmlns:p="{space}"'
+    elements = "".join(f"<p:a{at}/>" for at in range(count))
+    yield f"{count:,} elements of a filter in a namespace of {len(space):,} octets", USERS, None, [], [get_config(top("users", elements, bound))]
+    matches = "".join(f"<p:a{at}>b</p:a{at}>" for at in range(count // 2))
+    yield (f"{count // 2:,} content matches in it", USERS, users(100), [],
+           [get_config(top("users", f"<user>{matches}</user>", bound))])
+    attributes = "".join(f' p:a{at}=""' for at in range(count))
+    yield f"{count:,} attributes in it", USERS, None, [], [f"<get{bound}{attributes}/>"]
+    half = space[: len(space) // 2]
+    pairs = "".join(f' p:a{at}="" q:a{at}=""' for at in range(count // 2))
+    yield (f"{count // 2:,} pairs of attributes in two namespaces of {len(half):,} octets that differ at their ends", USERS, None, [],
+           [f'<get xmlns:p="{half}p" xmlns:q="{half}q"{pairs}/>'])
+
+
 def messages(by):
     """The messages, each with the modules and the configuration that it meets, and what comes before it."""
     attributes = "".join(f' a{at}=""' for at in range(300_000 // by))
@@ -60,6 +77,7 @@ def messages(by):
            [get_config('<a xmlns="b">' * 55 + '<a xmlns="b"/>' * count + "</a>" * 55)])
     yield f"{300_000 // by:,} attributes", USERS, None, [], [f"<get{attributes}/>"]
     yield f"{90_000 // by:,} prefixes above {400_000 // by:,} elements", USERS, None, [], [prefixes(90_000 // by, 400_000 // by)]
+    yield from long_namespaces(by)
     yield (f"a filter of {60_000 // by:,} overlapping matches", TAGGED, users(100, tags), [],
            [get_config(top("users", triples("", 60_000 // by)))])
     for count in [1_000 // by, 10_000 // by, 60_000 // by]:

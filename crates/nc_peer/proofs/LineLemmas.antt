@@ -9,8 +9,7 @@ use Rattle.std.specs.Io.KnownBytes.{prepend_known}
 use Rattle.nc_outside.proofs.Known.{prepend_twice}
 use Rattle.nc_peer.specs.declared.fault.PeerFault.{PeerFault}
 use Rattle.nc_peer.specs.declared.fault.PeerFault.TheVariants.{BadPeer, InputEnded, ReadFault, Memory}
-use Rattle.nc_peer.specs.Faults.{Stops}
-use Rattle.nc_names.specs.Counts.{Rose}
+use Rattle.nc_peer.specs.Faults.{Counts, Stops}
 use Rattle.nc_peer.specs.inner.Underway.{IsUnderway, Takes, NamesReadAs, ReadsNames}
 
 record Cut (a b : List ℕ) (x y : ℕ) (s t : List ℕ) : Type 0 where
@@ -219,9 +218,6 @@ pub one_more : {bytes : List ℕ} {names : List (List ℕ)} {word : List ℕ} (b
 one_more {bytes} b u =
     let short = u.short in (omega (arith, short, length-append bytes (b ∷ [])), last_stops bytes b (underway_plain u))
 
-rose_since : (before between now : ℕ) → before ≤ between → Rose between now → Rose before now
-rose_since before between now later rose = omega (arith, later, rose)
-
 -- a line that is being read goes on
 underway_goes_on : {bytes : List ℕ} {names : List (List ℕ)} {word : List ℕ} → IsUnderway bytes names word → GoesOn bytes
 underway_goes_on {bytes} {names} {word} u = record {
@@ -239,54 +235,56 @@ goes_on_to : {bytes : List ℕ} {names : List (List ℕ)} {word : List ℕ} (b :
 goes_on_to {bytes} b u = record { front = bytes; last = b; bytes_are = refl; goes_on = underway_goes_on u }
 
 -- no byte came, and the line that is being read has no end
-unread_as : (bytes : List ℕ) (left : Option (List ℕ)) (before between now : ℕ) (fault : PeerFault) → GoesOn bytes →
-    before ≤ between → Stops left between now fault → NamesReadAs bytes left before now (Err fault)
-unread_as bytes left before between now (BadPeer at) all later stops = absurd stops
-unread_as bytes left before between now Memory all later stops = absurd stops
-unread_as bytes left before between now InputEnded all later stops = (stops, all)
-unread_as bytes left before between now ReadFault all later stops = (rose_since before between now later stops, all)
+unread_as : (bytes : List ℕ) (left : Option (List ℕ)) (before now : Counts) (fault : PeerFault) → GoesOn bytes →
+    Stops left before now fault → NamesReadAs bytes left before now (Err fault)
+unread_as bytes left before now (BadPeer at) all stops = absurd stops
+unread_as bytes left before now Memory all stops = absurd stops
+unread_as bytes left before now InputEnded all stops = (stops.0, all, stops.1)
+unread_as bytes left before now ReadFault all stops = (all, stops)
 
 pub unread : (first last : Option (List ℕ)) {bytes : List ℕ} {names : List (List ℕ)} {word : List ℕ}
-    (before between now : ℕ) (fault : PeerFault) → first ≡ prepend_known bytes last → IsUnderway bytes names word →
-    before ≤ between → Stops last between now fault → ReadsNames first last before now (Err fault)
-unread first last {bytes} before between now fault e u later stops =
+    (before between now : Counts) (fault : PeerFault) → first ≡ prepend_known bytes last → IsUnderway bytes names word →
+    between ≡ before → Stops last between now fault → ReadsNames first last before now (Err fault)
+unread first last {bytes} before between now fault e u same stops =
     let all = underway_plain u in
     let short = u.short in record {
       bytes = bytes;
       taken = e;
       few = omega (arith, short);
       stops = plain_stops bytes all;
-      reads = unread_as bytes last before between now fault (underway_goes_on u) later stops;
+      reads = unread_as bytes last before now fault (underway_goes_on u)
+          (subst (λ (c : Counts). Stops last c now fault) same stops);
     }
 
 -- a byte that ends the line
 pub whole : (first last : Option (List ℕ)) {bytes : List ℕ} {names : List (List ℕ)} {word : List ℕ} (part : List ℕ)
-    (b : ℕ) (all : List (List ℕ)) (before now : ℕ) → first ≡ prepend_known (bytes ++ b ∷ []) last →
-    IsUnderway bytes names word → (ends : Bool) → ends ≡ true → Takes (bytes ++ b ∷ []) all part (Ok ends) →
-    ReadsNames first last before now (Ok all)
-whole first last {bytes} part b all before now e u over is takes =
-    let more = one_more b u in record {
+    (b : ℕ) (all : List (List ℕ)) (before now : Counts) → first ≡ prepend_known (bytes ++ b ∷ []) last →
+    IsUnderway bytes names word → now ≡ before → (ends : Bool) → ends ≡ true →
+    Takes (bytes ++ b ∷ []) all part (Ok ends) → ReadsNames first last before now (Ok all)
+whole first last {bytes} part b all before now e u same over is takes =
+    let more = one_more b u in
+    let line = subst (λ (f : Bool). Takes (bytes ++ b ∷ []) all part (Ok f)) is takes in record {
       bytes = bytes ++ b ∷ [];
       taken = e;
       few = more.0;
       stops = more.1;
-      reads = subst (λ (f : Bool). Takes (bytes ++ b ∷ []) all part (Ok f)) is takes;
+      reads = (line.0, line.1, same);
     }
 
-stops_as : (bytes : List ℕ) (names : List (List ℕ)) (word : List ℕ) (left : Option (List ℕ)) (before now : ℕ)
-    (fault : PeerFault) → GoesOnToLast bytes → Takes bytes names word (Err fault)
+stops_as : (bytes : List ℕ) (names : List (List ℕ)) (word : List ℕ) (left : Option (List ℕ)) (before now : Counts)
+    (fault : PeerFault) → GoesOnToLast bytes → now ≡ before → Takes bytes names word (Err fault)
     → NamesReadAs bytes left before now (Err fault)
-stops_as bytes names word left before now (BadPeer at) there t = (t.0, there, t.1)
-stops_as bytes names word left before now Memory there t = t
-stops_as bytes names word left before now InputEnded there t = absurd t
-stops_as bytes names word left before now ReadFault there t = absurd t
+stops_as bytes names word left before now (BadPeer at) there same t = (t.0, there, t.1, same)
+stops_as bytes names word left before now Memory there same t = same
+stops_as bytes names word left before now InputEnded there same t = absurd t
+stops_as bytes names word left before now ReadFault there same t = absurd t
 
 -- a byte that ends the reading by a fault
 pub stopped : (first last : Option (List ℕ)) {bytes : List ℕ} {old : List (List ℕ)} {part : List ℕ} (b : ℕ)
-    (names : List (List ℕ)) (word : List ℕ) (before now : ℕ) (fault : PeerFault) →
-    first ≡ prepend_known (bytes ++ b ∷ []) last → IsUnderway bytes old part →
+    (names : List (List ℕ)) (word : List ℕ) (before now : Counts) (fault : PeerFault) →
+    first ≡ prepend_known (bytes ++ b ∷ []) last → IsUnderway bytes old part → now ≡ before →
     Takes (bytes ++ b ∷ []) names word (Err fault) → ReadsNames first last before now (Err fault)
-stopped first last {bytes} b names word before now fault e u t =
+stopped first last {bytes} b names word before now fault e u same t =
     let more = one_more b u in
     record {
       bytes = bytes
@@ -294,5 +292,5 @@ stopped first last {bytes} b names word before now fault e u t =
       taken = e;
       few = more.0;
       stops = more.1;
-      reads = stops_as (bytes ++ b ∷ []) names word last before now fault (goes_on_to b u) t;
+      reads = stops_as (bytes ++ b ∷ []) names word last before now fault (goes_on_to b u) same t;
     }

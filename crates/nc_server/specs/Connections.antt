@@ -1,7 +1,7 @@
 -- A connection: the line that names its peer, and then the session of that peer.
 use Rattle.std.specs.Prelude.{◌≡◌, ℕ, false, List, ◌∷◌}
 use Rattle.std.specs.Io.KnownBytes.{prepend_known}
-use Rattle.nc_outside.specs.Streams.{Streams}
+use Rattle.nc_outside.specs.Streams.{SameCounts, Streams}
 use Rattle.nc_schema.specs.Tables.{Tables}
 use Rattle.nc_model.specs.declared.entry.Entry.{Entry}
 use Rattle.nc_protocol.specs.declared.peer.Peer.{Peer}
@@ -10,14 +10,14 @@ use Rattle.nc_session.specs.declared.end.SessionEnd.{SessionEnd}
 use Rattle.nc_session.specs.Serves.{Serves, called}
 use Rattle.nc_peer.specs.Lines.{IsPeerLine}
 
--- these bytes were read, which name the peer, and nothing was written
+-- these bytes were read, which name the peer, and nothing was written; the end of input was not met, and no read failed
 pub record NamesPeer (peer : Peer) (before between : Streams) : Type 0 where
   pub bytes : List ℕ
   pub read : before.left ≡ prepend_known bytes between.left
   pub line : IsPeerLine (peer.user ∷ peer.groups) bytes
   pub plain : peer.recovery ≡ false
   pub taken : between.taken ≡ before.taken
-  pub writes : between.writes_failed ≡ before.writes_failed
+  pub same : SameCounts before between
 
 -- a peer was read, and its session was served on what stands behind its line
 pub record ServesConnection (schema : Tables) (Before Now : Home → List Entry → List Entry → Type 0)

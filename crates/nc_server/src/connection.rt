@@ -6,7 +6,7 @@ ghost use Rattle.nc_model.specs.declared.entry.Entry.{Entry};
 ghost use Rattle.nc_session.specs.Serves.{Serves, called};
 ghost use Rattle.nc_server.specs.Connections.{ServesConnection};
 ghost use Rattle.nc_server.specs.Homes.{KeepsHome};
-ghost use Rattle.nc_peer.specs.Faults.{ReadsPeer};
+ghost use Rattle.nc_peer.specs.Faults.{ReadsPeer, counts};
 
 use nc_model::Desk;
 use nc_outside::{Sink, Source};
@@ -60,7 +60,8 @@ pub fn serve_connection<Q: Desk, S: Source, K: Sink>(
         (K.taken sink.new) (K.faults sink.new))) }
     ensures fault { IfErr result (λ fault. (desk.new ≡ desk.old) × (sink.new ≡ sink.old)
         × ReadsPeer (S.left source.old) (S.left source.new)
-        (S.faults source.old) (S.faults source.new) (Err fault)) }
+        (counts (S.ends source.old) (S.faults source.old))
+        (counts (S.ends source.new) (S.faults source.new)) (Err fault)) }
 {
     let peer = read_peer(alloc, source)?;
     Ok(serve_peer(alloc, desk, schema, peer, source, sink))

@@ -1,9 +1,9 @@
 -- A peer's line that is being read.
 use Rattle.std.specs.Prelude.{◌≡◌, ◌<◌, ◌≤◌, ◌+◌, ℕ, Bool, true, false, List, ◌++◌, length, All, Option, Result, Ok, Err}
 use Rattle.std.specs.Io.KnownBytes.{prepend_known, IsAtEnd}
-use Rattle.nc_names.specs.Counts.{Rose}
 use Rattle.std.specs.List.{flat_map}
 use Rattle.nc_peer.specs.Lines.{peer_limit, and_space, IsName, IsNameByte, IsPeerLine, BeginsNone, GoesOn, GoesOnToLast, StopsAtFeed, bad_place}
+use Rattle.nc_peer.specs.Faults.{Counts, HasEnded, HasFailed}
 use Rattle.nc_peer.specs.declared.fault.PeerFault.{PeerFault}
 use Rattle.nc_peer.specs.declared.fault.PeerFault.TheVariants.{BadPeer, InputEnded, ReadFault, Memory}
 
@@ -24,16 +24,17 @@ Takes bytes names word (Err InputEnded) = ⊥
 Takes bytes names word (Err ReadFault) = ⊥
 
 -- what reading the names came to, as `ReadsAs` says it of the peer
-abbrev pub NamesReadAs : (bytes : List ℕ) → (left : Option (List ℕ)) → (failed_before failed_now : ℕ) →
+abbrev pub NamesReadAs : (bytes : List ℕ) → (left : Option (List ℕ)) → (before now : Counts) →
     Result (List (List ℕ)) PeerFault → Type 0
-NamesReadAs bytes left before now (Ok names) = IsPeerLine names bytes × (0 < length names)
-NamesReadAs bytes left before now (Err (BadPeer at)) = BeginsNone bytes × GoesOnToLast bytes × (at ≡ bad_place bytes)
-NamesReadAs bytes left before now (Err InputEnded) = IsAtEnd left × GoesOn bytes
-NamesReadAs bytes left before now (Err ReadFault) = Rose before now × GoesOn bytes
-NamesReadAs bytes left before now (Err Memory) = Unit {0}
+NamesReadAs bytes left before now (Ok names) = IsPeerLine names bytes × (0 < length names) × (now ≡ before)
+NamesReadAs bytes left before now (Err (BadPeer at)) =
+    BeginsNone bytes × GoesOnToLast bytes × (at ≡ bad_place bytes) × (now ≡ before)
+NamesReadAs bytes left before now (Err InputEnded) = IsAtEnd left × GoesOn bytes × HasEnded before now
+NamesReadAs bytes left before now (Err ReadFault) = GoesOn bytes × HasFailed before now
+NamesReadAs bytes left before now (Err Memory) = now ≡ before
 
 -- these bytes were taken of the source, and the names come of them
-pub record ReadsNames (left_before left_now : Option (List ℕ)) (before now : ℕ)
+pub record ReadsNames (left_before left_now : Option (List ℕ)) (before now : Counts)
     (result : Result (List (List ℕ)) PeerFault) : Type 0 where
   pub bytes : List ℕ
   pub taken : left_before ≡ prepend_known bytes left_now

@@ -1,5 +1,6 @@
-use Rattle.std.proofs.Common.{refl}
+use Rattle.std.proofs.Common.{ap, refl}
 use Rattle.nc_outside.specs.Streams.{streams}
+use Rattle.nc_peer.specs.Faults.{Counts}
 use Rattle.nc_server.proofs.connection.serve_connection.Goals as goal
 
 pub returns-clause-served : goal.returns-clause-served
@@ -16,7 +17,11 @@ returns-clause-served g c =
         line = peer.ensures.reads.0;
         plain = peer.ensures.reads.1;
         taken = refl;
-        writes = refl;
+        same = record {
+          ends = ap (λ (c : Counts). c.ends) peer.ensures.reads.2;
+          reads = ap (λ (c : Counts). c.faults) peer.ensures.reads.2;
+          writes = refl;
+        };
       };
       serves = c.serve_peer.ensures.serves;
     }

@@ -15,8 +15,8 @@ use nc_print::write_reply;
 use nc_protocol::Reply;
 use std::alloc::Global;
 
-// How many octets the chunks have, but for the last of a reply.
-const CHUNK: usize = 65_536;
+/// How many octets the chunks have, but for the last of a reply.
+pub(crate) const CHUNK: usize = 65_536;
 
 // Appends a body in chunks.
 fn push_chunks(body: &[u8], out: &mut Bytes) -> Result<(), Memory>

@@ -174,7 +174,7 @@ fn conclude<Q: Desk>(desk: &mut Q, session: u32, met: Met) -> SessionEnd
 /// The requests that are entered are the first that the bytes read ask for, each once and in order; what
 /// is written is the hello and the replies of the session's own entries, and where a write failed or
 /// memory ended a beginning of that. Input is read in pieces of at most 16,384 bytes; one message, one
-/// piece and one reply are kept.
+/// piece and, while it is written, one reply are kept.
 pub fn serve_session<Q: Desk, S: Source, K: Sink>(
     alloc: Global,
     desk: &mut Q,

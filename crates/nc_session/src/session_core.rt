@@ -15,7 +15,7 @@ ghost use Rattle.nc_session.specs.inner.Unseen.{Unseen, Gives};
 
 use crate::client_hello::base_of;
 use crate::inbox::Inbox;
-use crate::reply::{push_reply, send_reply};
+use crate::reply::{CHUNK, push_reply, send_reply};
 use crate::requests::{read, read_request};
 use crate::{Base, SessionEnd};
 use nc_frames::FrameFault;
@@ -131,6 +131,14 @@ impl SessionCore {
             return Ok(());
         };
         send_reply(self.alloc, base, reply, out, sink)
+    }
+
+    /// Gives the room of a text that was written back, where it is longer than a chunk: an idle session does
+    /// not keep that of its largest reply.
+    pub(crate) fn let_go(&self, out: &mut Bytes) {
+        if out.len() > CHUNK {
+            *out = Bytes::new(self.alloc);
+        }
     }
 
     /// Takes the next piece of the bytes. After a stop it is let go.

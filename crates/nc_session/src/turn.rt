@@ -48,7 +48,7 @@ fn settle<K: Sink>(
     Ok(())
 }
 
-// The same, and lets the entry go.
+// The same, and lets the entry go, and the room of a long reply.
 fn finish<K: Sink>(
     core: &SessionCore,
     entry: Entry,
@@ -58,7 +58,9 @@ fn finish<K: Sink>(
     ensures { (schema : Tables) (base : Base) → core.now.phase ≡ Serving base → Settles schema base entry
         (K.taken sink.old) (K.taken sink.new) (K.faults sink.old) (K.faults sink.new) result }
 {
-    settle(core, &entry, out, sink)
+    let settled = settle(core, &entry, out, sink);
+    core.let_go(out);
+    settled
 }
 
 // Hands in a request and answers it.

@@ -7,8 +7,7 @@ ghost use Rattle.nc_session.specs.declared.base.Base.TheVariants.{Base11};
 ghost use Rattle.nc_session.specs.inner.Turns.{Writes};
 
 use crate::{Base, SessionEnd};
-use itoa::Buffer;
-use nc_frames::{write_chunks, write_eom};
+use nc_frames::{write_chunks, write_eom, write_header};
 use nc_names::{Bytes, Memory, tail};
 use nc_outside::{Sink, write_all};
 use nc_print::write_reply;
@@ -61,10 +60,7 @@ fn header(alloc: Global, size: usize) -> Result<Bytes, Memory>
     ensures { IfOk result (λ it. it ≡ announced size ++ line_feed ∷ []) }
 {
     let mut bytes = Bytes::new(alloc);
-    let mut buffer = Buffer::new();
-    bytes.push_slice(b"\n#")?;
-    bytes.push_slice(buffer.format(size).as_bytes())?;
-    bytes.push_slice(b"\n")?;
+    write_header(size, &mut bytes)?;
     Ok(bytes)
 }
 

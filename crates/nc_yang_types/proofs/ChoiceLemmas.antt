@@ -1,5 +1,5 @@
 -- Names that types choose among those of others, in sets and maps.
-use Rattle.std.proofs.Common.{◌≡◌, ◌<◌, ◌≤◌, ◌+◌, ◌&&◌, ◌||◌, ◌++◌, ℕ, Bool, true, false, cond, if◌then◌else◌, List, [], ◌∷◌, length, drop, get_or, Some, None, refl, sym, ap, ◌∙◌, arith, Bor}
+use Rattle.std.proofs.Common.{◌≡◌, ◌<◌, ◌≤◌, ◌+◌, ◌&&◌, ◌||◌, ◌++◌, ℕ, Bool, true, false, cond, if◌then◌else◌, List, [], ◌∷◌, length, drop, map, get_or, Some, None, refl, sym, ap, ◌∙◌, arith, Bor}
 use Rattle.std.specs.Prelude.{ℤ}
 use Rattle.std.specs.BTreeMap.{BTreeMap, get}
 use Rattle.std.specs.BTreeSet.{BTreeSet, contains}
@@ -21,7 +21,7 @@ use Rattle.nc_yang_types.specs.declared.member.Listed.{Listed}
 use Rattle.nc_yang_types.specs.declared.member.Listed.TheVariants.{Enums, Flags}
 use Rattle.nc_yang_types.specs.declared.member.Named.{Named}
 use Rattle.nc_yang_types.specs.Entries.{lists, names_left}
-use Rattle.nc_yang_types.specs.Members.{chosen, gives_name, has_name, ill_choice, ill_choices, is_chosen, is_member, member_word, number_in, number_with, renamed, still_listed, unlike}
+use Rattle.nc_yang_types.specs.Members.{chosen, gives_name, guarded_by, has_name, ill_choice, ill_choices, is_chosen, is_guarded, is_member, member_word, number_in, number_with, renamed, still_listed, unlike}
 use Rattle.nc_yang_types.specs.inner.Known.{HasChosen, HasListing, has_text, text_order}
 
 turned : (a b : Bool) → cond a true b ≡ (b || (a || false))
@@ -96,13 +96,16 @@ module _ (stands : Statement → Bool) (listed : Listed) where
   chosen_all ss taken none = ap (λ b. cond b (filter (is_chosen stands listed ss) taken) taken) none
 
 pub listed_is : (listed : Listed) (ss : List Statement) (set : BTreeSet (Bor (List ℕ))) (names kept : List Named) → has (member_word listed) ss ≡ true → HasChosen (λ s. true) listed set ss →
-    kept ≡ filter (λ n. has_text set n.name) names → kept ≡ still_listed listed ss names
-listed_is listed ss set names kept there known is =
-    is ∙ (λ i. filter (λ (n : Named). known (record { ref_ptr = (0, 0); now = n.name }) i) names)
-    ∙ sym (ap (λ b. cond b (filter (λ (n : Named). is_chosen (λ s. true) listed ss n.name) names) names) there)
+    (guarded : BTreeSet (Bor (List ℕ))) (marked : List Named) → HasChosen is_guarded listed guarded ss →
+    kept ≡ filter (λ n. has_text set n.name) names → marked ≡ map (guarded_by (has_text guarded)) kept → marked ≡ still_listed listed ss names
+listed_is listed ss set names kept there known guarded marked conditions is marked_is =
+    marked_is ∙ (λ i. map (λ (n : Named). record n { conditional = n.conditional || conditions (record { ref_ptr = (0, 0); now = n.name }) i }) kept)
+    ∙ ap (map (guarded_by (is_chosen is_guarded listed ss))) (is ∙ (λ i. filter (λ (n : Named). known (record { ref_ptr = (0, 0); now = n.name }) i) names))
+    ∙ sym (ap (λ b. cond b (map (guarded_by (is_chosen is_guarded listed ss)) (filter (λ (n : Named). is_chosen (λ s. true) listed ss n.name) names)) names) there)
 
 pub listed_all : (listed : Listed) (ss : List Statement) (names kept : List Named) → has (member_word listed) ss ≡ false → kept ≡ names → kept ≡ still_listed listed ss names
-listed_all listed ss names kept none is = is ∙ sym (ap (λ b. cond b (filter (λ (n : Named). is_chosen (λ s. true) listed ss n.name) names) names) none)
+listed_all listed ss names kept none is =
+    is ∙ sym (ap (λ b. cond b (map (guarded_by (is_chosen is_guarded listed ss)) (filter (λ (n : Named). is_chosen (λ s. true) listed ss n.name) names)) names) none)
 
 -- a type over another that lists no names has those of the other
 pub names_kept : (base : ValueType) (names : List Named) (ss : List Statement) → lists base ss ≡ false → names_left base names ss ≡ names

@@ -1,5 +1,5 @@
 -- The names of enumerations and of bits with their numbers (RFC 7950 9.6.4, 9.7.4).
-use Rattle.std.specs.Prelude.{ℕ, ◌&&◌, not, Bool, if◌then◌else◌, List, [], ◌∷◌, ◌++◌, map, ℤ, pos, negsuc, true, int_le, int_lt, ◌+ℤ◌, Option, Some, None}
+use Rattle.std.specs.Prelude.{ℕ, ◌&&◌, ◌||◌, not, Bool, if◌then◌else◌, List, [], ◌∷◌, ◌++◌, map, ℤ, pos, negsuc, true, int_le, int_lt, ◌+ℤ◌, Option, Some, None}
 use Rattle.std.specs.List.{filter, flat_map, fold, list_any}
 use Rattle.std.specs.Ordering.{int_cmp, int_eq}
 use Rattle.std.specs.BTreeMap.{insert_entry}
@@ -10,7 +10,7 @@ use Rattle.nc_yang_statements.specs.declared.fault.Fault.{Fault}
 use Rattle.nc_yang_statements.specs.declared.fault.ModuleWhy.{ModuleWhy}
 use Rattle.nc_yang_statements.specs.declared.fault.ModuleWhy.TheVariants.{Missing, Twice, BadArgument}
 use Rattle.nc_yang_statements.specs.declared.keyword.Keyword.{Keyword}
-use Rattle.nc_yang_statements.specs.declared.keyword.Keyword.TheVariants.{EnumName, Bit, Value, Position}
+use Rattle.nc_yang_statements.specs.declared.keyword.Keyword.TheVariants.{EnumName, Bit, IfFeature, Value, Position}
 use Rattle.nc_yang_statements.specs.Keywords.{is_same_keyword}
 use Rattle.nc_yang_statements.specs.Rules.{at_if}
 use Rattle.nc_yang_statements.specs.Statements.{below, has, kind, name, part}
@@ -150,10 +150,14 @@ abbrev pub bit_names : (Statement → Bool) → List Statement → List (List �
 bit_names stands ss = map (λ entry. entry.1) (with_bits stands [] (numbered Flags None ss))
 
 -- ---- types over others that list names
+-- an `if-feature` makes the name of a statement conditional, whether its feature is on or off (RFC 7950 7.20.2)
+abbrev pub is_guarded : Statement → Bool
+is_guarded s = has IfFeature (below s)
+
 -- a name with its number, if it has one
 abbrev pub named_by : Statement × Option ℤ → List Named
 named_by (s, None) = []
-named_by (s, Some number) = record { name = name s; number = number } ∷ []
+named_by (s, Some number) = record { name = name s; number = number; conditional = is_guarded s } ∷ []
 
 -- the names that a built-in type lists, each with its number, whether its conditions hold or not
 abbrev pub listing : Listed → List Statement → List Named
@@ -199,7 +203,13 @@ abbrev pub chosen : (Statement → Bool) → Listed → List Statement → List 
 chosen stands listed ss names =
     if has (member_word listed) ss then filter (is_chosen stands listed ss) names else names
 
--- what is left of those that it lists, whether conditions hold or not
+-- names for which a test holds are conditional too
+abbrev pub guarded_by : (List ℕ → Bool) → Named → Named
+guarded_by test n = record n { conditional = n.conditional || test n.name }
+
+-- what is left of those that it lists, whether conditions hold or not; its own conditions count beside those of the base
 abbrev pub still_listed : Listed → List Statement → List Named → List Named
 still_listed listed ss names =
-    if has (member_word listed) ss then filter (λ n. is_chosen (λ s. true) listed ss n.name) names else names
+    if has (member_word listed) ss
+    then map (guarded_by (is_chosen is_guarded listed ss)) (filter (λ n. is_chosen (λ s. true) listed ss n.name) names)
+    else names

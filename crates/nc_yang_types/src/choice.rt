@@ -1,14 +1,17 @@
 //! The names of types over enumerations and bits (RFC 7950 9.6.3, 9.7.3).
-ghost use Rattle.std.specs.Prelude.{◌≡◌, ◌++◌, ◌∷◌, [], if◌then◌else◌, List, Some, IfOk, OnOk, unwrap_or};
+ghost use Rattle.std.specs.Prelude.{◌≡◌, ◌||◌, ◌++◌, ◌∷◌, [], if◌then◌else◌, List, map, Some, IfOk, OnOk, unwrap_or};
 ghost use Rattle.std.specs.List.{filter, flat_map};
 ghost use Rattle.nc_yang_words.specs.declared.statement.Statement.{Statement as Seen};
 ghost use Rattle.nc_yang_statements.specs.Rules as rules;
 ghost use Rattle.nc_yang_types.specs.declared.member.Named.{Named as TheNamed};
 ghost use Rattle.nc_yang_types.specs.Members as members;
 ghost use Rattle.nc_yang_types.specs.inner.Known.{HasChosen, HasListing, has_text};
+ghost use Rattle.nc_yang_types.specs.Members.{guarded_by};
 
-use crate::conditions::{Always, Conditions};
-use crate::member::{Listed, Named, higher, is_member, member_word, number_at, number_part};
+use crate::conditions::{Always, Conditions, Guarded};
+use crate::member::{
+    Listed, Named, higher, is_guarded, is_member, member_word, number_at, number_part,
+};
 use crate::names::renamed;
 use crate::part::fault;
 use nc_names::{Copies, Many, Memory, Text};
@@ -105,6 +108,7 @@ fn copy_of(named: &Named) -> Result<Named, Memory>
     Ok(Named {
         name: named.name.copy()?,
         number: named.number,
+        conditional: named.conditional,
     })
 }
 
@@ -147,6 +151,42 @@ fn named_in(alloc: Global, set: &BTreeSet<&str>, names: &[Named]) -> Result<Many
     Ok(kept)
 }
 
+// Whether a name is conditional, or in a set.
+fn is_guarded_by(set: &BTreeSet<&str>, named: &Named) -> bool
+    ensures { result ≡ (named.now.conditional || has_text set.now named.now.name) }
+{
+    if named.conditional {
+        return true;
+    }
+    set.contains(named.name.as_str())
+}
+
+// A name once more, conditional too where it is in a set.
+fn guarded_copy(set: &BTreeSet<&str>, named: &Named) -> Result<Named, Memory>
+    ensures { IfOk result (λ it. it ≡ guarded_by (has_text set.now) named.now) }
+{
+    Ok(Named {
+        name: named.name.copy()?,
+        number: named.number,
+        conditional: is_guarded_by(set, named),
+    })
+}
+
+// All of them once more, those in a set as conditional.
+fn guarded_copies(
+    alloc: Global,
+    set: &BTreeSet<&str>,
+    names: &[Named],
+) -> Result<Many<Named>, Memory>
+    ensures { IfOk result (λ it. it ≡ map (guarded_by (has_text set.now)) names.now) }
+{
+    let mut all = Many::new(alloc);
+    for named in names {
+        all.push(guarded_copy(set, named)?)?;
+    }
+    Ok(all)
+}
+
 /// What is left of the names that a base lists, whether conditions hold or not.
 pub(crate) fn still_listed(
     alloc: Global,
@@ -162,7 +202,9 @@ pub(crate) fn still_listed(
     }
     let set = chosen_names(alloc, &Always, listed, below)?;
     let left = named_in(alloc, &set, names)?;
-    Ok(left)
+    let guarded = chosen_names(alloc, &Guarded, listed, below)?;
+    let marked = guarded_copies(alloc, &guarded, left.as_slice())?;
+    Ok(marked)
 }
 
 // The names with their numbers, and one more, which has this number.
@@ -277,6 +319,7 @@ fn push_named(
         Some(number) => names.push(Named {
             name: Text::from_text(alloc, name(statement))?,
             number,
+            conditional: is_guarded(statement),
         }),
         None => Ok(()),
     }

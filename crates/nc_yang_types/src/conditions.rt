@@ -1,6 +1,8 @@
 //! Which names stand under conditions that hold (RFC 7950 7.20.2).
 ghost use Rattle.std.specs.Prelude.{◌≡◌, true};
+ghost use Rattle.nc_yang_types.specs.Members as members;
 
+use crate::member::is_guarded;
 use nc_yang_words::Statement;
 
 /// Whether the `if-feature` statements of an `enum` or a `bit` all hold, so that it is there (RFC 7950
@@ -25,5 +27,17 @@ impl<'a> Conditions<'a> for Always {
 
     fn holds(&self, statement: &'a Statement) -> bool {
         true
+    }
+}
+
+/// Those names are there that an `if-feature` makes conditional.
+#[derive(Clone, Copy)]
+pub(crate) struct Guarded;
+
+impl<'a> Conditions<'a> for Guarded {
+    ghost stands = { λ _. members.is_guarded };
+
+    fn holds(&self, statement: &'a Statement) -> bool {
+        is_guarded(statement)
     }
 }

@@ -6,7 +6,7 @@ ghost use Rattle.nc_yang_types.specs.Members as members;
 
 use nc_names::Text;
 use nc_schema::read_number;
-use nc_yang_statements::{Keyword, is_same_keyword, kind, name, part};
+use nc_yang_statements::{Keyword, has, is_same_keyword, kind, name, part};
 use nc_yang_words::Statement;
 
 /// What a type lists names of.
@@ -25,6 +25,9 @@ pub struct Named {
     pub name: Text,
     /// Its value or position.
     pub number: i128,
+    /// Whether an `if-feature` stands below it, in this type or in one on which it rests, whether the feature
+    /// is on or off (RFC 7950 7.20.2).
+    pub conditional: bool,
 }
 
 /// The statement of a name.
@@ -72,6 +75,13 @@ pub(crate) fn is_member(listed: Listed, statement: &Statement) -> bool
     ensures { result ≡ members.is_member listed statement.now }
 {
     is_same_keyword(member_word(listed), kind(statement))
+}
+
+/// Whether an `if-feature` stands below the statement of a name.
+pub(crate) fn is_guarded(statement: &Statement) -> bool
+    ensures { result ≡ members.is_guarded statement.now }
+{
+    has(statement.below.as_slice(), Keyword::IfFeature)
 }
 
 /// The statement that gives the number of a name, where one does.

@@ -6,3 +6,4 @@ pub mod CheckLemmas
 pub mod FoundLemmas
 pub mod DefaultLemmas
 pub mod MemberLemmas
+pub mod ConditionalLemmas

@@ -1,18 +1,23 @@
 -- The rules on types over all `type` statements of modules.
-use Rattle.std.specs.Prelude.{◌≡◌, ◌⊎◌, ℕ, Bool, true, false, List, Some}
+use Rattle.std.specs.Prelude.{◌≡◌, ◌⊎◌, ◌&&◌, ℕ, Bool, true, false, List, Some}
+use Rattle.std.specs.List.{list_any}
+use Rattle.nc_names.specs.Ends.{trimmed}
+use Rattle.nc_names.specs.Same.{is_same_text}
+use Rattle.nc_schema.specs.Values.{words_of}
 use Rattle.nc_schema.specs.declared.value_type.ValueType.{ValueType}
-use Rattle.nc_schema.specs.declared.value_type.ValueType.TheVariants.{Leafref as LeafrefType, Instance}
+use Rattle.nc_schema.specs.declared.value_type.ValueType.TheVariants.{Bits, Enumeration, Leafref as LeafrefType, Instance}
 use Rattle.nc_yang_words.specs.declared.statement.Statement.{Statement}
 use Rattle.nc_yang_statements.specs.declared.built_in.BuiltIn.TheVariants.{Union}
 use Rattle.nc_yang_statements.specs.declared.fault.Fault.{Fault}
-use Rattle.nc_yang_statements.specs.declared.fault.ModuleWhy.TheVariants.{Unsupported}
-use Rattle.nc_yang_statements.specs.declared.keyword.Keyword.TheVariants.{TypeName}
+use Rattle.nc_yang_statements.specs.declared.fault.ModuleWhy.TheVariants.{BadArgument, Unsupported}
+use Rattle.nc_yang_statements.specs.declared.keyword.Keyword.TheVariants.{Default, TypeName}
 use Rattle.nc_yang_statements.specs.Keywords.{is_same_keyword}
-use Rattle.nc_yang_statements.specs.Statements.{kind, line}
+use Rattle.nc_yang_statements.specs.Statements.{kind, line, name}
 use Rattle.nc_yang_scopes.specs.Scopes.{Located, child, root}
 use Rattle.nc_yang_scopes.specs.Names.{StandsIn}
-use Rattle.nc_yang_meanings.specs.Meanings.{Breaks, Meaning, Means, shape}
-use Rattle.nc_yang_meanings.specs.Places.{built_in}
+use Rattle.nc_yang_types.specs.declared.member.Named.{Named}
+use Rattle.nc_yang_meanings.specs.Meanings.{Breaks, Meaning, Means, names_of, shape}
+use Rattle.nc_yang_meanings.specs.Places.{built_in, part_of}
 
 -- values of such a type refer to other data (RFC 7950 9.9, 9.13)
 abbrev pub is_reference : ValueType → Bool
@@ -37,11 +42,43 @@ pub record RefersInUnion (on : ℕ → List ℕ → Bool) (texts : List Statemen
   pub refers : MeansReference on texts member
   pub at : fault ≡ record { line = line member.statement; why = Unsupported }
 
--- a `type` statement breaks a rule by its parts, or by what a member of it means
-abbrev pub BreaksOne : (on : ℕ → List ℕ → Bool) → List Statement → Located → Fault → Type 0
-BreaksOne on texts l fault = Breaks on texts l fault ⊎ RefersInUnion on texts l fault
+-- one of these names, which an `if-feature` makes conditional (RFC 7950 7.20.2)
+abbrev pub is_conditional : List Named → List ℕ → Bool
+is_conditional names word = list_any (λ n. n.conditional && is_same_text n.name word) names
 
--- a `type` statement that stands in another, and in none that is passed over, breaks a rule
+-- a text of a type that lists these names has one in it that is conditional: an enumeration has one name, bits have one
+-- in each word (RFC 7950 9.6.1, 9.7.2)
+abbrev pub names_conditional : ValueType → List Named → List ℕ → Bool
+names_conditional (Enumeration taken) names text = is_conditional names (trimmed text)
+names_conditional (Bits taken) names text = list_any (is_conditional names) (words_of text)
+names_conditional entry names text = false
+
+-- a text has one in it of the names that a `type` statement lists, by itself or through typedefs
+pub record TakesConditional (on : ℕ → List ℕ → Bool) (texts : List Statement) (l : Located)
+    (text : List ℕ) : Type 0 where
+  pub meaning : Meaning
+  pub means : Means on texts l meaning
+  pub conditional : names_conditional (shape meaning) (names_of meaning) text ≡ true
+
+-- a `default` beside a `type` names an enum or a bit that is conditional, whether its feature is on or off; so it is
+-- with typedefs, leafs and leaf-lists (RFC 7950 7.3.4, 7.6.4, 7.7.4). Of the members of a union nothing is asked
+pub record DefaultsToConditional (on : ℕ → List ℕ → Bool) (texts : List Statement) (l : Located)
+    (fault : Fault) : Type 0 where
+  pub of_type : Located
+  pub is_type : part_of TypeName l ≡ Some of_type
+  pub place : ℕ
+  pub default : Located
+  pub there : child place l ≡ Some default
+  pub is_default : is_same_keyword Default (kind default.statement) ≡ true
+  pub takes : TakesConditional on texts of_type (name default.statement)
+  pub at : fault ≡ record { line = line default.statement; why = BadArgument }
+
+-- a statement breaks a rule by its parts as a type, by what a member of it means, or by a `default` beside its type
+abbrev pub BreaksOne : (on : ℕ → List ℕ → Bool) → List Statement → Located → Fault → Type 0
+BreaksOne on texts l fault =
+    Breaks on texts l fault ⊎ (RefersInUnion on texts l fault ⊎ DefaultsToConditional on texts l fault)
+
+-- a statement that stands in another, and in none that is passed over, breaks a rule
 pub record BreaksType (on : ℕ → List ℕ → Bool) (texts : List Statement) (l : Located) (fault : Fault) : Type 0 where
   pub statement : Located
   pub stands : StandsIn l statement

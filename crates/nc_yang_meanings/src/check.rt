@@ -5,6 +5,7 @@ ghost use Rattle.nc_yang_meanings.specs.Faults.{BreaksTypes, KeepsTypes};
 ghost use Rattle.nc_yang_meanings.specs.Plans.{AreMeanings};
 ghost use Rattle.nc_yang_meanings.specs.inner.Judging.{Judges, JudgesOne, JudgesText, fault_in};
 
+use crate::conditional::conditional_default;
 use crate::member::referring_member;
 use crate::planned::{Finding, Meanings};
 use nc_yang_scopes::{Scopes, TextFault};
@@ -21,7 +22,7 @@ fn fault_of(meanings: &Meanings, number: usize) -> Option<Fault>
     }
 }
 
-// A rule that the statement of a number breaks, or that a member of it does.
+// A rule that the statement of a number breaks, or that a member or a `default` of it does.
 fn own_fault(
     scopes: &Scopes,
     meanings: &Meanings,
@@ -34,7 +35,10 @@ fn own_fault(
     if let Some(fault) = fault_of(meanings, number) {
         return Some(fault);
     }
-    referring_member(scopes, meanings, number, statement)
+    if let Some(fault) = referring_member(scopes, meanings, number, statement) {
+        return Some(fault);
+    }
+    conditional_default(scopes, meanings, number, statement)
 }
 
 // A rule that the statement of a number breaks, or one that stands in it.

@@ -1,22 +1,22 @@
 -- What an answer says of the statement of a number and of those in it.
-use Rattle.std.specs.Prelude.{◌≡◌, ℕ, ◌&&◌, Bool, true, false, List, Option, Some, None, slice_get, MatchOption}
+use Rattle.std.specs.Prelude.{◌≡◌, ℕ, ◌&&◌, Bool, true, false, List, [], ◌∷◌, filter, length, nat_lt, Option, Some, None, slice_get, MatchOption}
 use Rattle.std.specs.Option.{option_map_or}
 use Rattle.nc_yang_words.specs.declared.statement.Statement.{Statement}
 use Rattle.nc_yang_statements.specs.declared.built_in.BuiltIn.{BuiltIn}
 use Rattle.nc_yang_statements.specs.declared.built_in.BuiltIn.TheVariants.{Union}
-use Rattle.nc_yang_statements.specs.declared.keyword.Keyword.TheVariants.{TypeName}
+use Rattle.nc_yang_statements.specs.declared.keyword.Keyword.TheVariants.{Default, TypeName}
 use Rattle.nc_yang_statements.specs.BuiltIns.{built_in_of}
 use Rattle.nc_yang_statements.specs.Keywords.{is_same_keyword}
 use Rattle.nc_yang_statements.specs.Statements.{kind, name}
 use Rattle.nc_yang_statements.specs.declared.fault.Fault.{Fault}
 use Rattle.nc_yang_scopes.specs.Scopes.{Located, Scoping}
-use Rattle.nc_yang_meanings.specs.Faults.{BreaksOne, BreaksType, BreaksTypes, RefersInUnion, is_reference}
+use Rattle.nc_yang_meanings.specs.Faults.{BreaksOne, BreaksType, BreaksTypes, DefaultsToConditional, RefersInUnion, is_reference, names_conditional}
 use Rattle.nc_yang_meanings.specs.Plans.{AreMeanings}
 use Rattle.nc_yang_meanings.specs.declared.planned.Finding.{Finding}
 use Rattle.nc_yang_meanings.specs.declared.planned.Finding.TheVariants.{Broken, Plan}
 use Rattle.nc_yang_meanings.specs.declared.planned.Meanings.{Meanings}
 use Rattle.nc_yang_meanings.specs.declared.planned.Planned.{Planned}
-use Rattle.nc_yang_meanings.specs.inner.Planning.{shape_of}
+use Rattle.nc_yang_meanings.specs.inner.Planning.{names_in, shape_of}
 
 abbrev pub fault_in : Option Finding → Option Fault
 fault_in (Some (Broken fault)) = Some fault
@@ -48,6 +48,31 @@ JudgesMembers scoping meanings number result =
     (on : ℕ → List ℕ → Bool) → AreMeanings on scoping meanings → (l : Located) → slice_get scoping.located number
     ≡ Some l →
     MatchOption result ((fault : Fault) → RefersInUnion on scoping.texts l fault → ⊥) (RefersInUnion on scoping.texts l)
+
+-- a word, or none where it is empty
+abbrev pub some_word : List ℕ → List (List ℕ)
+some_word word = filter (λ one. nat_lt 0 (length one)) (word ∷ [])
+
+-- a text has one of the names in it that a type lists of which this was found, and it is conditional
+abbrev pub names_by : List Planned → List ℕ → Option Finding → Bool
+names_by plans text (Some (Plan place)) =
+    option_map_or (λ p. names_conditional (shape_of p) (names_in p) text) (slice_get plans place) false
+names_by plans text finding = false
+
+abbrev pub names_at : Meanings → ℕ → List ℕ → Bool
+names_at meanings number text = names_by meanings.plans text (slice_get meanings.findings number)
+
+-- a `default` beside the type of that number
+abbrev pub is_conditional_default : Meanings → ℕ → Statement → Bool
+is_conditional_default meanings number s = is_same_keyword Default (kind s) && names_at meanings number (name s)
+
+-- a `default` in the statement of a number that names what is conditional, or that there is none
+abbrev pub JudgesDefaults : Scoping → Meanings → ℕ → Option Fault → Type 0
+JudgesDefaults scoping meanings number result =
+    (on : ℕ → List ℕ → Bool) → AreMeanings on scoping meanings → (l : Located) → slice_get scoping.located number
+    ≡ Some l →
+    MatchOption result ((fault : Fault) → DefaultsToConditional on scoping.texts l fault → ⊥)
+    (DefaultsToConditional on scoping.texts l)
 
 -- what is wrong with the statement of a number by itself, or that nothing is
 abbrev pub JudgesOne : Scoping → Meanings → ℕ → Option Fault → Type 0

@@ -1,13 +1,14 @@
 -- Faults that are handed on.
-use Rattle.std.proofs.Common.{◌≡◌, ℕ, nat_eq, List, Option, Result, Ok, Err, sym, ◌∙◌, ap, subst}
+use Rattle.std.proofs.Common.{◌≡◌, ℕ, nat_eq, List, Option, Result, Ok, Err, OnErr, sym, ◌∙◌, ap, subst}
 use Rattle.nc_journal.specs.declared.fault.JournalFault.{JournalFault}
 use Rattle.nc_journal.specs.declared.fault.JournalFault.TheVariants.{DiskFault, Damaged, OtherHeader, Memory}
-use Rattle.nc_outside.specs.Disks.{Told, Within}
-use Rattle.nc_journal.specs.Refusing.{IsDamaged, IsRefused, IsLeftAlone, HasNoRecord, bad_record}
+use Rattle.nc_outside.specs.Disks.{After, Same, Told}
+use Rattle.nc_journal.specs.Refusing.{HasNoReading, HasNoRecord, IsAsItWas, IsDamaged, IsLeftAlone, IsRefused, bad_record}
+use Rattle.nc_journal.proofs.Standing.{only_as}
 use Rattle.nc_journal.specs.inner.Headers.{IsStuck}
 use Rattle.nc_journal.specs.inner.Reading.{OnlyReads}
 use Rattle.nc_journal.specs.Opening.{IsFront, IsSoFar}
-use Rattle.nc_journal.specs.inner.Faults.{OnDamaged, OnRefused}
+use Rattle.nc_journal.specs.inner.Faults.{OnDamaged, OnRefused, OnStopped}
 
 refused_err : (T S : Type 0) (e : JournalFault) (P Q : JournalFault → Type 0)
     → (let r : Result T JournalFault = Err e in OnRefused r P) → ((f : JournalFault) → P f → Q f)
@@ -77,29 +78,48 @@ stuck_refused header byte place (Damaged at) file front stuck = bad_record byte 
 stuck_refused header byte place (OtherHeader at) file front stuck = absurd stuck
 stuck_refused header byte place Memory file front stuck = tt
 
-pub on_refused : (T : Type 0) (result : Result T JournalFault) (P : Type 0) → P → OnRefused result (λ _. P)
-on_refused T (Ok it) P p = tt
-on_refused T (Err DiskFault) P p = tt
-on_refused T (Err (Damaged at)) P p = p
-on_refused T (Err (OtherHeader at)) P p = p
-on_refused T (Err Memory) P p = tt
+pub on_stopped : (T : Type 0) (result : Result T JournalFault) (P : Type 0) → P → OnStopped result P
+on_stopped T (Ok it) P p = tt
+on_stopped T (Err DiskFault) P p = tt
+on_stopped T (Err (Damaged at)) P p = p
+on_stopped T (Err (OtherHeader at)) P p = p
+on_stopped T (Err Memory) P p = p
+
+pub stopped_map : (T : Type 0) (result : Result T JournalFault) (P Q : Type 0) → OnStopped result P → (P → Q)
+    → OnStopped result Q
+stopped_map T (Ok it) P Q p also = tt
+stopped_map T (Err DiskFault) P Q p also = tt
+stopped_map T (Err (Damaged at)) P Q p also = also p
+stopped_map T (Err (OtherHeader at)) P Q p also = also p
+stopped_map T (Err Memory) P Q p also = also p
+
+pub err_map : {T E : Type 0} (result : Result T E) (P Q : Type 0) → OnErr result P → (P → Q) → OnErr result Q
+err_map (Ok it) P Q p also = tt
+err_map (Err e) P Q p also = also p
 
 -- calls that only read leave a file alone
 reads_alone : {D : Type 0} (seen : D → Option (List ℕ)) (may_leave : D → List ℕ → Type 0) (moment : D → ℕ)
     (left_since : D → ℕ → List ℕ → Type 0) (start end : D) → OnlyReads seen may_leave moment left_since start end
-    → (seen end ≡ seen start) × Within (may_leave start) (may_leave end)
-reads_alone seen may_leave moment left_since start end reads = (
-  reads.same,
-  λ c left. let after = reads.passes.outcomes c left in subst (may_leave start) (sym after.did) after.was,
-)
+    → IsAsItWas seen may_leave moment left_since start end
+reads_alone seen may_leave moment left_since start end reads = record {
+  same = reads.same;
+  images = λ c left. was c (reads.passes.outcomes c left);
+  moments = only_as moment left_since start end (After Same (may_leave start)) (may_leave start) was reads.passes.moments;
+}
+  where
+    was : (c : List ℕ) → After Same (may_leave start) c → may_leave start c
+    was c after = subst (may_leave start) (sym after.did) after.was
 
-pub left_alone : {D : Type 0} (T : Type 0) (e : JournalFault) (seen : D → Option (List ℕ))
+pub left_alone : {D : Type 0} (T : Type 0) (e : JournalFault) (header : List ℕ) (seen : D → Option (List ℕ))
     (may_leave : D → List ℕ → Type 0) (moment : D → ℕ) (left_since : D → ℕ → List ℕ → Type 0) (start end : D)
-    → (let r : Result T JournalFault = Err e in OnRefused r (λ _. OnlyReads seen may_leave moment left_since start end))
-    → IsLeftAlone seen may_leave e start end
-left_alone T DiskFault seen may_leave moment left_since start end p = tt
-left_alone T (Damaged at) seen may_leave moment left_since start end p =
-    reads_alone seen may_leave moment left_since start end p
-left_alone T (OtherHeader at) seen may_leave moment left_since start end p =
-    reads_alone seen may_leave moment left_since start end p
-left_alone T Memory seen may_leave moment left_since start end p = tt
+    → (let r : Result T JournalFault = Err e in OnStopped r (OnlyReads seen may_leave moment left_since start end))
+    → Told (seen start) (λ file. HasNoReading header file → OnlyReads seen may_leave moment left_since start end)
+    → IsLeftAlone header seen may_leave moment left_since e start end
+left_alone T DiskFault header seen may_leave moment left_since start end left spared =
+    λ file told none. reads_alone seen may_leave moment left_since start end (spared file told none)
+left_alone T (Damaged at) header seen may_leave moment left_since start end left spared =
+    reads_alone seen may_leave moment left_since start end left
+left_alone T (OtherHeader at) header seen may_leave moment left_since start end left spared =
+    reads_alone seen may_leave moment left_since start end left
+left_alone T Memory header seen may_leave moment left_since start end left spared =
+    reads_alone seen may_leave moment left_since start end left

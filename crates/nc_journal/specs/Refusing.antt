@@ -1,11 +1,11 @@
 -- Why a file is refused, and at which place.
 use Rattle.std.specs.Prelude.{◌≡◌, ◌≢◌, ◌⊎◌, ℕ, ◌<◌, ◌≤◌, ◌^◌, nat_eq, List, ◌∷◌, length, take, slice_get, Option, Some}
-use Rattle.nc_outside.specs.Disks.{Within}
+use Rattle.nc_outside.specs.Disks.{LeavesOnly, Told, Within}
 use Rattle.nc_journal.specs.Format.{mark, number, slot_place, areas_begin, chooser_place, recorded}
 use Rattle.nc_names.specs.Limits.{body_limit}
 use Rattle.nc_journal.specs.Files.{At, IsNew}
 use Rattle.nc_journal.specs.Header.{IsHeader, HasHeader, DiffersAt}
-use Rattle.nc_journal.specs.Opening.{IsFront, IsSoFar}
+use Rattle.nc_journal.specs.Opening.{IsFront, IsSoFar, Opens}
 use Rattle.nc_journal.specs.declared.fault.JournalFault.{JournalFault}
 use Rattle.nc_journal.specs.declared.fault.JournalFault.TheVariants.{DiskFault, Damaged, OtherHeader, Memory}
 
@@ -59,11 +59,26 @@ IsRefused header (Damaged at) file = IsDamaged header at file
 IsRefused header (OtherHeader at) file = HasOtherHeader header at file
 IsRefused header Memory file = Unit {0}
 
--- a file that is refused is left as it was: a read gives what it gave, and a crash leaves nothing else than before
-abbrev pub IsLeftAlone : {D : Type 0} (seen : D → Option (List ℕ)) (may_leave : D → List ℕ → Type 0)
-    → JournalFault → (start end : D) → Type 0
-IsLeftAlone seen may_leave DiskFault start end = Unit {0}
-IsLeftAlone seen may_leave (Damaged at) start end = (seen end ≡ seen start) × Within (may_leave start) (may_leave end)
-IsLeftAlone seen may_leave (OtherHeader at) start end =
-    (seen end ≡ seen start) × Within (may_leave start) (may_leave end)
-IsLeftAlone seen may_leave Memory start end = Unit {0}
+-- no start with this header begins with a file: it is neither new nor has a reading
+abbrev pub HasNoReading : List ℕ → List ℕ → Type 0
+HasNoReading header file = (bodies : List (List ℕ)) → ¬ Opens header bodies file
+
+-- a file is as it was: a read gives what it gave, and a crash leaves nothing else than before, at no moment
+pub record IsAsItWas {D : Type 0} (seen : D → Option (List ℕ)) (may_leave : D → List ℕ → Type 0) (moment : D → ℕ)
+    (left_since : D → ℕ → List ℕ → Type 0) (start end : D) : Type 0 where
+  pub same : seen end ≡ seen start
+  pub images : Within (may_leave start) (may_leave end)
+  pub moments : LeavesOnly moment left_since start end (may_leave start)
+
+-- A file that is not opened is left as it was. Where the disk failed, a new file may have been made in part, and a torn
+-- byte written anew; a file without a reading is as it was there too.
+abbrev pub IsLeftAlone : {D : Type 0} (header : List ℕ) (seen : D → Option (List ℕ)) (may_leave : D → List ℕ → Type 0)
+    (moment : D → ℕ) (left_since : D → ℕ → List ℕ → Type 0) → JournalFault → (start end : D) → Type 0
+IsLeftAlone header seen may_leave moment left_since DiskFault start end =
+    Told (seen start) (λ file. HasNoReading header file → IsAsItWas seen may_leave moment left_since start end)
+IsLeftAlone header seen may_leave moment left_since (Damaged at) start end =
+    IsAsItWas seen may_leave moment left_since start end
+IsLeftAlone header seen may_leave moment left_since (OtherHeader at) start end =
+    IsAsItWas seen may_leave moment left_since start end
+IsLeftAlone header seen may_leave moment left_since Memory start end =
+    IsAsItWas seen may_leave moment left_since start end

@@ -1,13 +1,13 @@
 //! A file is opened.
-ghost use Rattle.std.specs.Prelude.{◌≡◌, ◌+◌, ◌<◌, ◌^◌, [], ℕ, List, Option, is_some, IfOk};
+ghost use Rattle.std.specs.Prelude.{◌≡◌, ◌+◌, ◌<◌, ◌^◌, [], ℕ, List, Option, is_some, IfOk, OnErr};
 ghost use Rattle.nc_outside.specs.Disks.{Told, LeavesOnly};
 ghost use Rattle.nc_journal.specs.Files.{IsNew, Holds};
 ghost use Rattle.nc_journal.specs.Journal.{allowed};
 ghost use Rattle.nc_journal.specs.Opening.{IsRead, Opens, StartsAmong, StartsFresh};
 ghost use Rattle.nc_journal.specs.inner.Reading.{IsOpened, OnlyReads};
-ghost use Rattle.nc_journal.specs.inner.Faults.{OnRefused, HasFault};
+ghost use Rattle.nc_journal.specs.inner.Faults.{OnRefused, OnStopped, HasFault};
 ghost use Rattle.nc_journal.specs.Header.{IsHeader};
-ghost use Rattle.nc_journal.specs.Refusing.{IsRefused};
+ghost use Rattle.nc_journal.specs.Refusing.{HasNoReading, IsRefused};
 
 use crate::JournalFault;
 use crate::blank::blank_of;
@@ -36,8 +36,10 @@ pub(crate) fn open<D: Disk>(
     ensures fits { IfOk result (λ it. it.gate + 1 < 2 ^ 64) }
     ensures read { IfOk result (λ it. Told (D.seen disk.old) (Opens header.now it.bodies)) }
     ensures why { OnRefused result (λ fault. Told (D.seen disk.old) (IsRefused header.now fault)) }
-    ensures left { OnRefused result (λ _.
-        OnlyReads D.seen D.may_leave D.moment D.left_since disk.old disk.new) }
+    ensures left { OnStopped result
+        (OnlyReads D.seen D.may_leave D.moment D.left_since disk.old disk.new) }
+    ensures spared { OnErr result (Told (D.seen disk.old) (λ file. HasNoReading header.now file →
+        OnlyReads D.seen D.may_leave D.moment D.left_since disk.old disk.new)) }
     ensures moments_fresh { Told (D.seen disk.old) (λ file. IsNew header.now file →
         LeavesOnly D.moment D.left_since disk.old disk.new (StartsFresh D.may_leave disk.old header.now)) }
     ensures moments_held { Told (D.seen disk.old) (λ file.

@@ -20,7 +20,8 @@ impl<D: Disk> Journal<D> {
     /// # Errors
     ///
     /// The disk is handed back with the fault: `DiskFault` where a call of it failed, `Damaged` and
-    /// `OtherHeader` where the file has no reading with this header, `Memory` where no memory was found.
+    /// `OtherHeader` where the file has no reading with this header, `Memory` where no memory was found. A
+    /// file without a reading is left as it was whatever the fault is, and any file but where the disk failed.
     pub fn begin(
         alloc: Global,
         disk: D,
@@ -31,7 +32,7 @@ impl<D: Disk> Journal<D> {
             (HasBegun D.seen D.may_leave header.now it.0 it.1)) }
         // The fault tells why a file is refused, and the place; the file is left as it was.
         ensures refused { IfErr result (λ it. Told (D.seen disk) (IsRefused header.now it.1) ×
-            IsLeftAlone D.seen D.may_leave it.1 disk it.0) }
+            IsLeftAlone header.now D.seen D.may_leave D.moment D.left_since it.1 disk it.0) }
         ensures moments { Told (D.seen disk) (λ file.
             IfOk result (λ it.
             BeginsSafely D.may_leave D.moment D.left_since header.now disk (disk_of it.0) file) ×

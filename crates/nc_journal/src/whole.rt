@@ -1,5 +1,5 @@
 //! A file is read whole, and what was torn is written anew.
-ghost use Rattle.std.specs.Prelude.{◌≡◌, ◌<◌, ◌≤◌, ℕ, List, Option, Some, length, slice_get, nat_eq, is_some, IfOk};
+ghost use Rattle.std.specs.Prelude.{◌≡◌, ◌<◌, ◌≤◌, ℕ, List, Option, Some, length, slice_get, nat_eq, is_some, IfOk, OnErr};
 ghost use Rattle.nc_outside.specs.Disks.{Told, LeavesOnly, IsSettled, largest_size};
 ghost use Rattle.nc_journal.specs.Format.{gate_place};
 ghost use Rattle.nc_journal.specs.Files.{IsNew, Holds, HoldsAt, HoldsAmong, HasArea};
@@ -7,7 +7,7 @@ ghost use Rattle.nc_journal.specs.Images.{IsClean};
 ghost use Rattle.nc_journal.specs.Journal.{allowed};
 ghost use Rattle.nc_journal.specs.Opening.{IsRead};
 ghost use Rattle.nc_journal.specs.inner.Reading.{OnlyReads};
-ghost use Rattle.nc_journal.specs.inner.Faults.{OnRefused, HasFault};
+ghost use Rattle.nc_journal.specs.inner.Faults.{OnRefused, OnStopped, HasFault};
 ghost use Rattle.nc_journal.specs.Header.{IsHeader};
 ghost use Rattle.nc_journal.specs.Refusing.{IsRefused};
 
@@ -98,8 +98,11 @@ pub(crate) fn mend<D: Disk>(
         IsRead header.now it.bodies file)) }
     ensures why { OnRefused result (λ fault. Told (D.seen disk.old) (λ file. length file ≡ size →
         ¬ IsNew header.now file → IsRefused header.now fault file)) }
-    ensures left { OnRefused result (λ _.
-        OnlyReads D.seen D.may_leave D.moment D.left_since disk.old disk.new) }
+    ensures left { OnStopped result
+        (OnlyReads D.seen D.may_leave D.moment D.left_since disk.old disk.new) }
+    ensures spared { OnErr result (Told (D.seen disk.old) (λ file. length file ≡ size →
+        ((bodies : List (List ℕ)) → ¬ IsRead header.now bodies file) →
+        OnlyReads D.seen D.may_leave D.moment D.left_since disk.old disk.new)) }
     ensures moments { Told (D.seen disk.old) (λ file.
         IsSettled D.seen D.may_leave disk.old file → length file ≡ size →
         (bodies : List (List ℕ)) (doubt : Option (List (List ℕ))) → Holds header.now bodies doubt file →

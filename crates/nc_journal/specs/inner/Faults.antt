@@ -20,6 +20,14 @@ OnDamaged (Err (Damaged at)) P = P
 OnDamaged (Err (OtherHeader at)) P = P
 OnDamaged (Err Memory) P = Unit {0}
 
+-- so where the file is not opened, though no call of the disk failed
+abbrev pub OnStopped : {T : Type 0} → Result T JournalFault → Type 0 → Type 0
+OnStopped (Ok it) P = Unit {0}
+OnStopped (Err DiskFault) P = Unit {0}
+OnStopped (Err (Damaged at)) P = P
+OnStopped (Err (OtherHeader at)) P = P
+OnStopped (Err Memory) P = P
+
 -- an Ok leaves the count of faults as it was, and a fault of the disk comes only where it rose
 pub record HasFault {T : Type 0} (before now : ℕ) (result : Result T JournalFault) : Type 0 where
   pub later : before ≤ now

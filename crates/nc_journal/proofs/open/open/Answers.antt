@@ -4,13 +4,13 @@ use Rattle.nc_outside.specs.Disks.{LeavesOnly, IsSettled}
 use Rattle.nc_outside.proofs.DiskFiles.{told_before}
 use Rattle.nc_journal.specs.Files.{HoldsAmong}
 use Rattle.nc_journal.specs.Journal.{allowed}
-use Rattle.nc_journal.proofs.Standing.{only_as, only_then}
+use Rattle.nc_journal.proofs.Standing.{on_err, only_as, only_then}
 use Rattle.nc_journal.specs.Opening.{StartsNew, StartsAmong, StartsFresh, left_before, stands, left_before_making, fresh, as_new, as_read}
 use Rattle.nc_journal.specs.inner.Reading.{OnlyReads, IsOpened}
 use Rattle.nc_journal.specs.declared.whole.Whole.{Whole}
-use Rattle.nc_journal.proofs.FaultLemmas.{refused_map}
+use Rattle.nc_journal.proofs.FaultLemmas.{err_map, on_stopped, refused_map, stopped_map}
 use Rattle.nc_journal.proofs.Fronts.{holds_not_new}
-use Rattle.nc_journal.proofs.Looking.{looks_then, if_ok_also}
+use Rattle.nc_journal.proofs.Looking.{looks_none, looks_then, if_ok_also}
 use Rattle.nc_journal.proofs.Settled.{looked_settled, first_moments}
 use Rattle.nc_journal.proofs.open.open.Goals as goal
 
@@ -187,10 +187,47 @@ returns-then-not-branch-clause-why g c = refused_map Whole c.mend.result _ _ c.m
     let rest = c.as_slice.ensures ∙ c.in_ok-rest.ensures in
     why file two long (c.in_ok-is_new.ensures.no c.if-not-branch.true file one long c.args.header.now rest))
 
+pub returns-in_err-rest-clause-left : goal.returns-in_err-rest-clause-left
+returns-in_err-rest-clause-left g c = on_stopped _ c.from_residual.result _
+    (looks_none g.D.Disk.seen g.D.Disk.may_leave g.D.Disk.moment g.D.Disk.left_since g.met.D.Disk.only_now c.args.disk.now)
+
+pub returns-in_err-rest-clause-spared : goal.returns-in_err-rest-clause-spared
+returns-in_err-rest-clause-spared g c = on_err c.from_residual.result _ (λ file told none.
+    looks_none g.D.Disk.seen g.D.Disk.may_leave g.D.Disk.moment g.D.Disk.left_since g.met.D.Disk.only_now c.args.disk.now)
+
+pub returns-in_err-size-clause-spared : goal.returns-in_err-size-clause-spared
+returns-in_err-size-clause-spared g c = on_err c.from_residual-in_err-size.result _ (λ file told none.
+    record { same = c.settle.ensures.seen; passes = c.settle.ensures.passes })
+
+pub returns-in_err-is_new-clause-spared : goal.returns-in_err-is_new-clause-spared
+returns-in_err-is_new-clause-spared g c = on_err c.from_residual-in_err-is_new.result _ (λ file told none.
+    let first : OnlyReads g.D.Disk.seen g.D.Disk.may_leave g.D.Disk.moment g.D.Disk.left_since c.args.disk.now c.settle.new.disk =
+    record { same = c.settle.ensures.seen; passes = c.settle.ensures.passes } in
+    looks_then g.D.Disk.seen g.D.Disk.may_leave g.D.Disk.moment g.D.Disk.left_since g.met.D.Disk.only_now c.args.disk.now c.settle.new.disk c.is_new.new.disk
+    first c.is_new.ensures.only_reads)
+
+pub returns-in_err-make-clause-spared : goal.returns-in_err-make-clause-spared
+returns-in_err-make-clause-spared g c = on_err c.from_residual-in_err-make.result _ (λ file told none.
+    let one = c.settle.ensures.seen ∙ told in
+    let long = sym (c.in_ok-size.ensures.done file told).0 in
+    let rest = c.as_slice.ensures ∙ c.in_ok-rest.ensures in
+    absurd (none [] (as_new (c.in_ok-is_new.ensures.yes c.if-not-branch.false file one long c.args.header.now rest) refl)))
+
 pub returns-then-not-branch-clause-left : goal.returns-then-not-branch-clause-left
-returns-then-not-branch-clause-left g c = refused_map Whole c.mend.result _ _ c.mend.ensures.left (λ f reads.
+returns-then-not-branch-clause-left g c = stopped_map Whole c.mend.result _ _ c.mend.ensures.left (λ reads.
     let first : OnlyReads g.D.Disk.seen g.D.Disk.may_leave g.D.Disk.moment g.D.Disk.left_since c.args.disk.now c.settle.new.disk =
     record { same = c.settle.ensures.seen; passes = c.settle.ensures.passes } in
     looks_then g.D.Disk.seen g.D.Disk.may_leave g.D.Disk.moment g.D.Disk.left_since g.met.D.Disk.only_now c.args.disk.now c.is_new.new.disk c.mend.new.disk
     (looks_then g.D.Disk.seen g.D.Disk.may_leave g.D.Disk.moment g.D.Disk.left_since g.met.D.Disk.only_now c.args.disk.now c.settle.new.disk c.is_new.new.disk first c.is_new.ensures.only_reads)
     reads)
+
+pub returns-then-not-branch-clause-spared : goal.returns-then-not-branch-clause-spared
+returns-then-not-branch-clause-spared g c = err_map c.mend.result _ _ c.mend.ensures.spared (λ spared file told none.
+    let one = c.settle.ensures.seen ∙ told in
+    let two = c.is_new.ensures.only_reads.same ∙ one in
+    let long = sym (c.in_ok-size.ensures.done file told).0 in
+    let first : OnlyReads g.D.Disk.seen g.D.Disk.may_leave g.D.Disk.moment g.D.Disk.left_since c.args.disk.now c.settle.new.disk =
+    record { same = c.settle.ensures.seen; passes = c.settle.ensures.passes } in
+    looks_then g.D.Disk.seen g.D.Disk.may_leave g.D.Disk.moment g.D.Disk.left_since g.met.D.Disk.only_now c.args.disk.now c.is_new.new.disk c.mend.new.disk
+    (looks_then g.D.Disk.seen g.D.Disk.may_leave g.D.Disk.moment g.D.Disk.left_since g.met.D.Disk.only_now c.args.disk.now c.settle.new.disk c.is_new.new.disk first c.is_new.ensures.only_reads)
+    (spared file two long (λ bodies read. none bodies (as_read read))))

@@ -2,11 +2,11 @@ use Rattle.std.proofs.Common.{◌≡◌, ℕ, List, length, map, Option, Some, i
 use Rattle.nc_outside.specs.Disks.{LeavesOnly, IsSettled}
 use Rattle.nc_journal.specs.Files.{HoldsAmong}
 use Rattle.nc_journal.specs.Journal.{allowed}
-use Rattle.nc_journal.proofs.Standing.{only_then}
+use Rattle.nc_journal.proofs.Standing.{on_err, only_then}
 use Rattle.nc_journal.proofs.Settled.{holds_among, looked_settled, looked_moments}
 use Rattle.std.proofs.lemmas.Result.{err_from_is_err_and}
 use Rattle.nc_journal.specs.declared.whole.Whole.{Whole}
-use Rattle.nc_journal.proofs.FaultLemmas.{on_refused, refused_on}
+use Rattle.nc_journal.proofs.FaultLemmas.{on_stopped, refused_on}
 use Rattle.nc_journal.proofs.whole.mend.Goals as goal
 
 pub returns-in_err-whole-clause-moments : goal.returns-in_err-whole-clause-moments
@@ -59,4 +59,12 @@ returns-in_err-whole-clause-why g c =
     refused_on Whole _ c.from_residual.result c.in_err-whole.field-0.0 p.0 _ _ p.1 p.2 c.in_err-whole.ensures.why (λ f why. why)
 
 pub returns-in_err-whole-clause-left : goal.returns-in_err-whole-clause-left
-returns-in_err-whole-clause-left g c = on_refused _ c.from_residual.result _ c.read_whole.ensures.only_reads
+returns-in_err-whole-clause-left g c = on_stopped _ c.from_residual.result _ c.read_whole.ensures.only_reads
+
+pub returns-in_err-whole-clause-spared : goal.returns-in_err-whole-clause-spared
+returns-in_err-whole-clause-spared g c =
+    on_err c.from_residual.result _ (λ file told long none. c.read_whole.ensures.only_reads)
+
+pub returns-in_err-repair-clause-spared : goal.returns-in_err-repair-clause-spared
+returns-in_err-repair-clause-spared g c = on_err c.from_residual-in_err-repair.result _ (λ file told long none.
+    absurd (none c.in_ok-whole.whole.bodies (c.in_ok-whole.ensures.read file told long)))

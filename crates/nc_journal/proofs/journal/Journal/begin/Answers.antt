@@ -38,6 +38,6 @@ returns-in-Err-clause-moments g c = λ file told. (
 pub returns-in-Err-clause-refused : goal.returns-in-Err-clause-refused
 returns-in-Err-clause-refused g c = (
   refused_told Whole c.in-Err.fault c.args.header.now (g.D.Disk.seen c.args.disk) c.in-Err.ensures.why,
-  left_alone Whole c.in-Err.fault g.D.Disk.seen g.D.Disk.may_leave g.D.Disk.moment g.D.Disk.left_since c.args.disk c.open.new.disk
-      c.in-Err.ensures.left,
+  left_alone Whole c.in-Err.fault c.args.header.now g.D.Disk.seen g.D.Disk.may_leave g.D.Disk.moment g.D.Disk.left_since c.args.disk
+      c.open.new.disk c.in-Err.ensures.left c.in-Err.ensures.spared,
 )

@@ -15,7 +15,7 @@ use Rattle.nc_journal.specs.Laws.{damaged_file, new_file, other_file, whole_file
 use Rattle.nc_journal.specs.declared.journal.Journal.{Journal}
 use Rattle.nc_journal.specs.Beginning.{BeginsSafely, HasBegun}
 use Rattle.nc_journal.specs.Opening.{IsRead, Opens, StartsAmong, StartsFresh, as_new as opens_new, as_read, fresh, left_before, left_before_making, made, stands, still_new}
-use Rattle.nc_journal.specs.Refusing.{HasOtherHeader, IsDamaged, IsLeftAlone, IsRefused as IsNotRead}
+use Rattle.nc_journal.specs.Refusing.{HasNoReading, HasOtherHeader, IsAsItWas, IsDamaged, IsLeftAlone, IsRefused as IsNotRead}
 use Rattle.nc_journal.specs.declared.fault.JournalFault.{JournalFault}
 use Rattle.nc_journal.specs.declared.fault.JournalFault.TheVariants.{DiskFault, Damaged, OtherHeader, Memory}
 use Rattle.nc_journal.proofs.Numbers.{gate-push}
@@ -58,18 +58,28 @@ same_bytes : {one other : List ℕ} → Some one ≡ Some other → one ≡ othe
 same_bytes is = cc
 
 -- why the journal refuses a file is why the store does
-pub refused_by : {D : Type 0} (seen : D → Option (List ℕ)) (may_leave : D → List ℕ → Type 0) (start end : D) (setup : Setup) (fault : JournalFault) (before after : List ℕ)
-    → seen start ≡ Some before → seen end ≡ Some after → IsNotRead setup.header fault before → IsLeftAlone seen may_leave fault start end
+pub refused_by : {D : Type 0} (seen : D → Option (List ℕ)) (may_leave : D → List ℕ → Type 0) (moment : D → ℕ) (left_since : D → ℕ → List ℕ → Type 0)
+    (start end : D) (h : List ℕ) (setup : Setup) (fault : JournalFault) (before after : List ℕ)
+    → seen start ≡ Some before → seen end ≡ Some after → IsNotRead setup.header fault before → IsLeftAlone h seen may_leave moment left_since fault start end
     → IsRefused setup (fault_by fault) before after
-refused_by seen may_leave start end setup DiskFault before after told told_too it left = tt
-refused_by seen may_leave start end setup (Damaged at) before after told told_too it left =
-    inl (it, same_bytes (sym told_too ∙ left.0 ∙ told))
-refused_by seen may_leave start end setup (OtherHeader at) before after told told_too it left =
+refused_by seen may_leave moment left_since start end h setup DiskFault before after told told_too it left = tt
+refused_by seen may_leave moment left_since start end h setup (Damaged at) before after told told_too it left =
+    inl (it, same_bytes (sym told_too ∙ left.same ∙ told))
+refused_by seen may_leave moment left_since start end h setup (OtherHeader at) before after told told_too it left =
     let within = it.differs.within_ours in
     let few = it.is_ours.few in
     let same : at ≡ min at (2 ^ 32 - 1) = omega (arith, within, few) in
-    (subst (λ n. HasOtherHeader setup.header n before) same it, same_bytes (sym told_too ∙ left.0 ∙ told))
-refused_by seen may_leave start end setup Memory before after told told_too it left = tt
+    (subst (λ n. HasOtherHeader setup.header n before) same it, same_bytes (sym told_too ∙ left.same ∙ told))
+refused_by seen may_leave moment left_since start end h setup Memory before after told told_too it left = tt
+
+-- a file without a reading is left alone whatever the fault is
+pub spared_by : {D : Type 0} (seen : D → Option (List ℕ)) (may_leave : D → List ℕ → Type 0) (moment : D → ℕ) (left_since : D → ℕ → List ℕ → Type 0)
+    (start end : D) (h : List ℕ) (fault : JournalFault) → IsLeftAlone h seen may_leave moment left_since fault start end
+    → Told (seen start) (λ file. HasNoReading h file → IsAsItWas seen may_leave moment left_since start end)
+spared_by seen may_leave moment left_since start end h DiskFault left = left
+spared_by seen may_leave moment left_since start end h (Damaged at) left = λ file told none. left
+spared_by seen may_leave moment left_since start end h (OtherHeader at) left = λ file told none. left
+spared_by seen may_leave moment left_since start end h Memory left = λ file told none. left
 
 pub unread_by : (setup : Setup) (modules : List (List ℕ)) (features : List ℕ) (fault : JournalFault) (file : List ℕ) (among : List (List Row)) → IsHeader modules features setup.header → IsNotRead setup.header fault file
     → IsUnread (fault_by fault) → ¬ Reopens setup among file
@@ -169,6 +179,10 @@ module _ {D : Type 0} (seen : D → Option (List ℕ)) (may_leave : D → List �
   -- what was begun, by the header of the setup
   pub begun_at : (journal : Journal D) (found : List (List ℕ)) (file : List ℕ) → HasBegun seen may_leave h journal found file → HasBegun seen may_leave setup.header journal found file
   begun_at journal found file begun = subst (λ (x : List ℕ). HasBegun seen may_leave x journal found file) is begun
+
+  -- so the file has a reading
+  pub reads_at : (journal : Journal D) (found : List (List ℕ)) (file : List ℕ) → HasBegun seen may_leave h journal found file → ¬ HasNoReading setup.header file
+  reads_at journal found file begun none = none found (begun_at journal found file begun).opens
 
   pub keeping_at : (start : D) (journal : Journal D) (found : List (List ℕ)) (rows : List Row) → Told (seen start) (HasBegun seen may_leave h journal found) → FindsBase setup.tables setup.initial found (Some rows)
       → is_some (seen journal.disk) ≡ is_some (seen start) → Told (seen journal.disk) (λ _. IsKeeping seen may_leave setup journal rows None)

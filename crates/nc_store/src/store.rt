@@ -9,6 +9,7 @@ ghost use Rattle.nc_schema.specs.Violations.{IsValid};
 ghost use Rattle.nc_store.specs.inner.Finding.{gate_before};
 ghost use Rattle.nc_outside.specs.Disks.{Told, LeavesOnly};
 ghost use Rattle.nc_journal.specs.Header.{IsHeader};
+ghost use Rattle.nc_journal.specs.Refusing.{HasNoReading, IsAsItWas};
 ghost use Rattle.nc_tree.specs.Keeping.{Adds, Keeps, standing};
 ghost use Rattle.nc_store.specs.Reopening.{Setup, Reopens};
 
@@ -87,7 +88,7 @@ impl<D: Disk> Store<D> {
     /// # Errors
     ///
     /// The disk is handed back with the fault. A file that is refused is left as it was, but for a byte that
-    /// a crash left torn.
+    /// a crash left torn; one that has no reading is left as it was whatever the fault is.
     pub fn begin(
         alloc: Global,
         disk: D,
@@ -114,6 +115,9 @@ impl<D: Disk> Store<D> {
         ensures unread { IfErr result (λ it. IsUnread it.1 →
             Told (D.seen disk) (λ file. (among : List (List Row)) →
             ¬ Reopens (record { header = header; tables = schema.value; initial = initial }) among file)) }
+        // A file that has no reading is left as it was, whatever the fault is.
+        ensures spared { IfErr result (λ it. Told (D.seen disk) (λ file. HasNoReading header file →
+            IsAsItWas D.seen D.may_leave D.moment D.left_since disk it.0)) }
         // Whatever a crash within the call leaves, the next start begins with one that was there before it.
         ensures moments { Told (D.seen disk) (λ _. (among : List (List Row)) →
             ((c : List ℕ) → D.may_leave disk c →

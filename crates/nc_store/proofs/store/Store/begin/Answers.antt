@@ -2,14 +2,14 @@ use Rattle.std.proofs.Common.{◌≡◌, ◌∙◌, ◌∷◌, [], inr, ap, ℕ,
 use Rattle.nc_names.specs.declared.path.Row.{Row}
 use Rattle.nc_schema.specs.Tables.{Tables}
 use Rattle.nc_outside.specs.Disks.{LeavesOnly}
-use Rattle.nc_journal.specs.Refusing.{IsRefused as IsNotRead}
+use Rattle.nc_journal.specs.Refusing.{HasNoReading, IsRefused as IsNotRead}
 use Rattle.nc_store.specs.Keeping.{StoreLeaves}
 use Rattle.nc_store.specs.Opening.{BeginsWith, IsRefused, IsUnread}
 use Rattle.nc_store.specs.Reopening.{Reopens, Setup}
 use Rattle.nc_store.specs.declared.fault.StoreFault.{StoreFault}
 use Rattle.nc_store.specs.inner.Finding.{FindsBase, gate_before}
 use Rattle.nc_store.proofs.Bounds.{storing}
-use Rattle.nc_store.proofs.Opened.{bad_at, begins_with, begun_at, keeping_at, moments_at, no_base, refused_by, unread_by}
+use Rattle.nc_store.proofs.Opened.{bad_at, begins_with, begun_at, keeping_at, moments_at, no_base, reads_at, refused_by, spared_by, unread_by}
 use Rattle.nc_store.proofs.Settling.{settled_leaves}
 use Rattle.nc_store.proofs.store.Store.begin.Goals as goal
 
@@ -17,8 +17,13 @@ pub returns-in-Err-clause-refused : goal.returns-in-Err-clause-refused
 returns-in-Err-clause-refused g c = λ before told after told_too.
     let setup : Setup = record { header = c.args.header; tables = c.args.schema.value; initial = c.args.initial } in
     subst (λ (f : StoreFault). IsRefused setup f before after) (sym c.fault_of.ensures)
-    (refused_by g.D.Disk.seen g.D.Disk.may_leave c.args.disk c.in-Err.disk setup c.in-Err.fault before after told told_too
+    (refused_by g.D.Disk.seen g.D.Disk.may_leave g.D.Disk.moment g.D.Disk.left_since c.args.disk c.in-Err.disk c.as_slice.result.now setup c.in-Err.fault before after told told_too
     (subst (λ (h : List ℕ). IsNotRead h c.in-Err.fault before) c.as_slice.ensures (c.in-Err.ensures.refused.0 before told)) c.in-Err.ensures.refused.1)
+
+pub returns-in-Err-clause-spared : goal.returns-in-Err-clause-spared
+returns-in-Err-clause-spared g c = λ file told none.
+    spared_by g.D.Disk.seen g.D.Disk.may_leave g.D.Disk.moment g.D.Disk.left_since c.args.disk c.in-Err.disk c.as_slice.result.now c.in-Err.fault
+    c.in-Err.ensures.refused.1 file told (subst (λ (h : List ℕ). HasNoReading h file) (sym c.as_slice.ensures) none)
 
 pub returns-in-Err-clause-unread : goal.returns-in-Err-clause-unread
 returns-in-Err-clause-unread g c = λ unread file told among.
@@ -100,3 +105,21 @@ pub returns-clause-moments : goal.returns-clause-moments
 returns-clause-moments g c = λ file told among all.
     let setup : Setup = record { header = c.args.header; tables = c.args.schema.value; initial = c.args.initial } in
     (moments_at g.D.Disk.seen g.D.Disk.may_leave g.D.Disk.moment g.D.Disk.left_since g.met.D.Disk.seen_is_left c.as_slice.result.now setup c.as_slice.ensures among c.args.disk c.in-Ok.opened.0.disk all file told (c.in-Ok.ensures.moments file told).0, tt)
+
+pub returns-in-Ok-None-clause-spared : goal.returns-in-Ok-None-clause-spared
+returns-in-Ok-None-clause-spared g c = λ file told none.
+    let setup : Setup = record { header = c.args.header; tables = c.args.schema.value; initial = c.args.initial } in
+    absurd (reads_at g.D.Disk.seen g.D.Disk.may_leave g.D.Disk.moment g.D.Disk.left_since g.met.D.Disk.seen_is_left c.as_slice.result.now setup c.as_slice.ensures
+    c.in-Ok.opened.0 c.in-Ok.opened.1 file (c.in-Ok.ensures.begun file told) none)
+
+pub returns-in-Err-base_of-clause-spared : goal.returns-in-Err-base_of-clause-spared
+returns-in-Err-base_of-clause-spared g c = λ file told none.
+    let setup : Setup = record { header = c.args.header; tables = c.args.schema.value; initial = c.args.initial } in
+    absurd (reads_at g.D.Disk.seen g.D.Disk.may_leave g.D.Disk.moment g.D.Disk.left_since g.met.D.Disk.seen_is_left c.as_slice.result.now setup c.as_slice.ensures
+    c.in-Ok.opened.0 c.in-Ok.opened.1 file (c.in-Ok.ensures.begun file told) none)
+
+pub returns-in-Err-copy-clause-spared : goal.returns-in-Err-copy-clause-spared
+returns-in-Err-copy-clause-spared g c = λ file told none.
+    let setup : Setup = record { header = c.args.header; tables = c.args.schema.value; initial = c.args.initial } in
+    absurd (reads_at g.D.Disk.seen g.D.Disk.may_leave g.D.Disk.moment g.D.Disk.left_since g.met.D.Disk.seen_is_left c.as_slice.result.now setup c.as_slice.ensures
+    c.in-Ok.opened.0 c.in-Ok.opened.1 file (c.in-Ok.ensures.begun file told) none)

@@ -175,7 +175,8 @@ module _ {D : Type 0} (seen : D → Option (List ℕ)) (may_leave : D → List �
       → IsSpared seen may_leave moment left_since disk now files folder
   given_back files folder now makes same = OpenedFor device makes (WasOpened
       (subst (λ (d : D). Told (seen disk) (λ _. (among : List (List Row)) → BeginsAmong device (may_leave disk) among
-      → LeavesOnly moment left_since disk d (Reopens (begun_with device) among))) (sym same) begun.moments))
+      → LeavesOnly moment left_since disk d (Reopens (begun_with device) among))) (sym same) begun.moments)
+      (λ file told none. absurd (begun.read file told none)))
 
 -- ---- a run that made no server
 module _ {D : Type 0} (seen : D → Option (List ℕ)) (may_leave : D → List ℕ → Type 0) (moment : D → ℕ)
@@ -193,5 +194,5 @@ module _ {D : Type 0} (seen : D → Option (List ℕ)) (may_leave : D → List �
       → Spares (crashing seen may_leave moment left_since held old new) files folder
   spares_so known (Unmoved only) = Untouched only
   spares_so known (OpenedFor device makes (NotMoved only)) = Untouched only
-  spares_so known (OpenedFor device makes (WasOpened moments)) =
-      Opened device makes (λ file told. still device held (known device makes) (moments file told))
+  spares_so known (OpenedFor device makes (WasOpened moments spared)) =
+      Opened device makes (λ file told. still device held (known device makes) (moments file told)) spared

@@ -13,6 +13,7 @@ use Rattle.nc_model.specs.State.{State, opening}
 use Rattle.nc_names.specs.declared.path.Row.{Row}
 use Rattle.nc_outside.specs.declared.files.NamedFile.{NamedFile}
 use Rattle.nc_names.specs.Counts.{Rose}
+use Rattle.nc_journal.specs.Refusing.{HasNoReading}
 use Rattle.nc_outside.specs.Disks.{LeavesOnly, Told}
 use Rattle.nc_schema.specs.Configuration.{IsConfiguration}
 use Rattle.nc_schema.specs.Proper.{IsProperSchema}
@@ -152,6 +153,7 @@ pub begun_by : {D : Type 0} (seen : D → Option (List ℕ)) (may_leave : D → 
     (left_since : D → ℕ → List ℕ → Type 0) (disk : D) (device : Device) (tables : Tables) (store : Storing D)
     (running : List Row) (machine : Serving (Storing D)) → tables ≡ device.schema
     → HasBegun (record { header = device.header; tables = tables; initial = device.initial }) store running
+    → Told (seen disk) (BeginsWith (record { header = device.header; tables = tables; initial = device.initial }) running)
     → machine.keeper ≡ store → machine.state.running ≡ running → is_some (seen store.disk) ≡ is_some (seen disk)
     → StoreLeaves seen left_since store (moment store.disk) (running ∷ [])
     → Told (seen disk) (λ _. (among : List (List Row))
@@ -160,10 +162,11 @@ pub begun_by : {D : Type 0} (seen : D → Option (List ℕ)) (may_leave : D → 
     → ((home : Home) → IsHomeOf (store_words seen moment left_since) machine home
     → StandsFor (store_words seen moment left_since) home machine [])
     → IsBegun seen may_leave moment left_since disk device machine
-begun_by {D} seen may_leave moment left_since disk device tables store running machine same begun keeper is tells now moments stands = record {
+begun_by {D} seen may_leave moment left_since disk device tables store running machine same begun reads keeper is tells now moments stands = record {
   setup_is = ap (λ (s : Storing D). s.setup) keeper ∙ begun.setup_is
       ∙ ap (λ (t : Tables). record { header = device.header; tables = t; initial = device.initial }) same;
   tells = ap (λ (s : Storing D). is_some (seen s.disk)) keeper ∙ tells;
+  read = λ file told none. let it = reads file told in none it.bodies it.opens;
   now = subst (λ (z : Storing D × List Row). StoreLeaves seen left_since z.0 (moment z.0.disk) (z.1 ∷ []))
       (λ i. (sym keeper i, sym is i)) now;
   moments = subst (λ (z : Storing D × Tables). Told (seen disk) (λ _. (among : List (List Row))
@@ -176,12 +179,14 @@ begun_by {D} seen may_leave moment left_since disk device tables store running m
 -- and the disk of a store that was not opened, or is given back
 pub kept_by : {D : Type 0} (seen : D → Option (List ℕ)) (may_leave : D → List ℕ → Type 0) (moment : D → ℕ)
     (left_since : D → ℕ → List ℕ → Type 0) (old new now : D) (device : Device) (tables : Tables) → tables ≡ device.schema
-    → now ≡ new → Told (seen old) (λ _. (among : List (List Row))
+    → now ≡ new → Told (seen old) (λ file. HasNoReading device.header file → LeavesOnly moment left_since old new (may_leave old))
+    → Told (seen old) (λ _. (among : List (List Row))
     → ((c : List ℕ) → may_leave old c → Reopens (record { header = device.header; tables = tables; initial = device.initial }) among c)
     → LeavesOnly moment left_since old new (Reopens (record { header = device.header; tables = tables; initial = device.initial }) among))
     → IsKept seen may_leave moment left_since old now device
-kept_by {D} seen may_leave moment left_since old new now device tables same is moments = WasOpened
+kept_by {D} seen may_leave moment left_since old new now device tables same is spared moments = WasOpened
     (subst (λ (z : D × Tables). Told (seen old) (λ _. (among : List (List Row))
     → ((c : List ℕ) → may_leave old c → Reopens (record { header = device.header; tables = z.1; initial = device.initial }) among c)
     → LeavesOnly moment left_since old z.0 (Reopens (record { header = device.header; tables = z.1; initial = device.initial }) among)))
     (λ i. (sym is i, same i)) moments)
+    (λ file told none c left. (spared file told none).each c (subst (λ (d : D). left_since d (moment old) c) is left))

@@ -1,5 +1,6 @@
 -- What of a server's history lasts over a crash, at any moment of the run.
 use Rattle.std.specs.Prelude.{◌≤◌, ◌++◌, ℕ, List, [], Option, IfSome}
+use Rattle.nc_journal.specs.Refusing.{HasNoReading}
 use Rattle.nc_names.specs.declared.path.Row.{Row}
 use Rattle.nc_model.specs.History.{Survives, returning}
 use Rattle.nc_model.specs.State.{State}
@@ -67,7 +68,9 @@ Unharmed crashes = (c : List ℕ) → crashes.left_since crashes.began c → cra
 
 -- Where a run made no server of a folder's store, the store keeps what it held: nothing was done to the disk; or it was
 -- opened for this device, and a crash at any moment of the run leaves one of those that it held, where these are known.
+-- Where its file has no reading, since it is damaged or of other modules, nothing was done to it.
 pub data Spares (crashes : Crashing) (files : Filing) (folder : List ℕ) : Type 0 where
   Untouched : Unharmed crashes → Spares crashes files folder
   Opened : (device : Device) → Makes files folder device
-      → Told crashes.seen (λ _. IfSome crashes.held (Leaves crashes device crashes.began)) → Spares crashes files folder
+      → Told crashes.seen (λ _. IfSome crashes.held (Leaves crashes device crashes.began))
+      → Told crashes.seen (λ file. HasNoReading device.header file → Unharmed crashes) → Spares crashes files folder

@@ -24,7 +24,7 @@ returns-in-Ok-begin-clause-begun g c =
     → StandsFor (store_words g.D.Disk.seen g.D.Disk.moment g.D.Disk.left_since) home it.machine [])
     (λ it. IsBegun g.D.Disk.seen g.D.Disk.may_leave g.D.Disk.moment g.D.Disk.left_since c.args.disk c.args.device it.machine) c.with_machine.result
     (λ it keeper is stands. begun_by g.D.Disk.seen g.D.Disk.may_leave g.D.Disk.moment g.D.Disk.left_since c.args.disk c.args.device
-    c.in-Ok.owners.store.value c.in-Ok-begin.store c.in-Ok-begin.running it.machine c.in-Ok.ensures.store c.in-Ok-begin.ensures.begun keeper
+    c.in-Ok.owners.store.value c.in-Ok-begin.store c.in-Ok-begin.running it.machine c.in-Ok.ensures.store c.in-Ok-begin.ensures.begun c.in-Ok-begin.ensures.reads keeper
     (ap (λ s. s.running) is) c.in-Ok-begin.ensures.tells.0 c.in-Ok-begin.ensures.now
     (λ file told among known. (c.in-Ok-begin.ensures.moments file told among known).0) stands)
     c.with_machine.ensures.keeper c.with_machine.ensures.opening c.with_machine.ensures.stands
@@ -38,11 +38,13 @@ pub returns-in-Ok-begin-clause-kept : goal.returns-in-Ok-begin-clause-kept
 returns-in-Ok-begin-clause-kept g c =
     err_so (λ it. it.disk ≡ c.in-Ok-begin.store.disk) (λ it. IsKept g.D.Disk.seen g.D.Disk.may_leave g.D.Disk.moment g.D.Disk.left_since c.args.disk it.disk c.args.device) c.with_machine.result
     (λ it back. kept_by g.D.Disk.seen g.D.Disk.may_leave g.D.Disk.moment g.D.Disk.left_since c.args.disk c.in-Ok-begin.store.disk it.disk c.args.device c.in-Ok.owners.store.value c.in-Ok.ensures.store back
+    (λ file told none. let reads = c.in-Ok-begin.ensures.reads file told in absurd (none reads.bodies reads.opens))
     (λ file told among known. (c.in-Ok-begin.ensures.moments file told among known).0)) c.with_machine.ensures.back
 
 pub returns-in-Err-clause-kept : goal.returns-in-Err-clause-kept
 returns-in-Err-clause-kept g c =
     kept_by g.D.Disk.seen g.D.Disk.may_leave g.D.Disk.moment g.D.Disk.left_since c.args.disk c.in-Err.disk c.in-Err.disk c.args.device c.in-Ok.owners.store.value c.in-Ok.ensures.store refl
+    (λ file told none. (c.in-Err.ensures.spared file told none).moments)
     (λ file told among known. (c.in-Err.ensures.moments file told among known).1)
 
 pub returns-in-Err-clause-unopened : goal.returns-in-Err-clause-unopened

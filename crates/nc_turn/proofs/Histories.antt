@@ -13,7 +13,7 @@ use Rattle.nc_model.specs.History.{IsLegal, IsMineIn}
 use Rattle.nc_model.specs.State.{State}
 use Rattle.std.specs.List.{Contains, All, AllPairs}
 use Rattle.std.proofs.Common.{get_or}
-use Rattle.std.proofs.lemmas.List.Elements.{Contains-append_left, Contains-push, Contains-push_cases, Contains-get_or, All-push}
+use Rattle.std.proofs.lemmas.List.Elements.{Contains-append_left, Contains-push, Contains-push_cases, Contains-get_or, All-push, filter-append}
 use Rattle.std.proofs.lemmas.List.Quantifiers.{all_pairs_push}
 use Rattle.nc_model.specs.Desks.{is_own, own_of}
 use Rattle.nc_turn.specs.declared.view.View.{View}
@@ -140,6 +140,18 @@ mine_and_one mine seen e own low = by (is_own e.event)
       there = All-push (Contains (seen ++ e ∷ [])) mine e before.there (Contains-push seen e);
     }
     by false = subst (λ (x : List Entry). IsMineIn x (seen ++ e ∷ [])) (sym (append-nil mine)) before
+
+-- what is written is gathered, unless it is a reading of the clock
+pub gathers : (h gathered : List Entry) (e f : Entry) → Contains (own_of (h ++ e ∷ [])) f
+    → Contains (own_of h) f ⊎ Contains (gathered ++ own_of (e ∷ [])) f
+gathers h gathered e f there =
+    by (is_own e.event) (subst (λ (x : List Entry). Contains x f) (filter-append (λ (x : Entry). is_own x.event) h (e ∷ [])) there)
+  where
+    by : (t : Bool) → Contains (own_of h ++ (if t then e ∷ [] else [])) f
+        → Contains (own_of h) f ⊎ Contains (gathered ++ (if t then e ∷ [] else [])) f
+    by true has = ⊎_elim (λ (old : Contains (own_of h) f). inl old)
+        (λ (same : e ≡ f). inr (subst (Contains (gathered ++ e ∷ [])) same (Contains-push gathered e))) (Contains-push_cases (own_of h) e f has)
+    by false has = inl (subst (λ (x : List Entry). Contains x f) (append-nil (own_of h)) has)
 
 pub none_in : (h : List Entry) → IsMineIn [] h
 none_in h = record { rise = λ i j d low high. absurd (omega arith); there = λ k d low. absurd (omega arith) }

@@ -8,6 +8,7 @@ use native.Mathlib.Decide.{ℕ_discrete, dec_le}
 use lib.ListN.{get_elem?}
 use lib.Seq.{set-get_or}
 use prog.Atomic.{either}
+use Rattle.std.proofs.lemmas.List.Elements.{Contains-append_left, Contains-append_right}
 use Rattle.std.specs.List.{Contains}
 use Rattle.atomic_table.specs.Table.{State, Me, step, Act, keeps, takes, gives, Valid, carried_after, homes_after, Final, Seen, stepped, Allows, Splits, Joins, opening}
 use Rattle.atomic_table.proofs.Lists.{at_set, set_here, set_else, set_again, at_snoc, at_longer, exchanged}
@@ -19,7 +20,7 @@ use Rattle.nc_turn.specs.declared.view.View.{View}
 use Rattle.nc_turn.specs.inner.Turning.{Board, parts_of, Knows, IsHome, Seats, IsTurning}
 use Rattle.nc_turn.specs.inner.Steps.{saw_ticket, drew, Takes, saw_serving, wrote, gave_on, has_compared}
 use Rattle.nc_turn.specs.Views.{all_parts, Begins, AreApart, longer, shorter, first_view, found_at, drawn_at, holding, written, given_on, compared, less_one, newcomer, together, gone}
-use Rattle.nc_turn.proofs.Histories.{begins_none, begins_same, begins_more, begins_length, begins_whole, of_both, set_there, parts_set, parts_more, parts_two, keeps_seat, mine_in_longer, mine_and_one, contains_own, none_in}
+use Rattle.nc_turn.proofs.Histories.{begins_none, begins_same, begins_more, begins_length, begins_whole, of_both, set_there, parts_set, parts_more, parts_two, keeps_seat, mine_in_longer, mine_and_one, contains_own, gathers, none_in}
 
 abbrev pick : {P : Type 0} → Dec P → ℕ → ℕ → ℕ
 pick (yes _) a b = a
@@ -89,9 +90,9 @@ module _ {T : Type 0} (home : T → Home) (stands : T → List Entry → Type 0)
   Rule = IsTurning home stands key
 
   -- a load of the word i, by a seat whose view becomes w, while the board stays
-  unmoved : (s : St) (r : Rule s) (i id : ℕ) (v w : View T) → get_elem? s.views id ≡ some v → Knows r.board id w → w.parts ≡ v.parts → w.seen ≡ v.seen → w.holds ≡ v.holds
+  unmoved : (s : St) (r : Rule s) (i id : ℕ) (v w : View T) → get_elem? s.views id ≡ some v → Knows r.board id w → w.parts ≡ v.parts → w.seen ≡ v.seen → w.holds ≡ v.holds → w.gathered ≡ v.gathered
       → Rule record { words = set s.words i (get_or s.words i 0); homes = s.homes; views = set s.views id w }
-  unmoved s r i id v w at known parts seen holds =
+  unmoved s r i id v w at known parts seen holds gathered =
       subst (λ (ws : List ℕ). Rule record { words = ws; homes = s.homes; views = set s.views id w }) (sym (set-get_or s.words i 0)) record {
         board = r.board;
         words = r.words;
@@ -101,6 +102,8 @@ module _ {T : Type 0} (home : T → Home) (stands : T → List Entry → Type 0)
         still = r.still;
         out = λ seat e. keeps_seat s.views id v w _ _ at (λ p. (p.0, holds ∙ p.1)) (λ j u p. p) (r.out seat e);
         last = keeps_seat s.views id v w _ _ at (λ p. (subst (λ (n : ℕ). 0 < n) (sym parts) p.0, seen ∙ p.1)) (λ j u p. p) r.last;
+        gathered = λ e there. keeps_seat s.views id v w (λ k u. (0 < u.parts) × Contains u.gathered e) (λ k u. (0 < u.parts) × Contains u.gathered e) at
+            (λ p. (subst (λ (n : ℕ). 0 < n) (sym parts) p.0, subst (λ (h : List Entry). Contains h e) (sym gathered) p.1)) (λ j u p. p) (r.gathered e there);
         parts = (let e = parts_set s.views id v w at in let t = r.parts in omega arith);
         first = r.first;
         order = r.order;
@@ -111,7 +114,7 @@ module _ {T : Type 0} (home : T → Home) (stands : T → List Entry → Type 0)
 
   -- nothing changes
   stays : (s : St) (r : Rule s) (i id : ℕ) (v : View T) → get_elem? s.views id ≡ some v → Rule record { words = set s.words i (get_or s.words i 0); homes = s.homes; views = set s.views id v }
-  stays s r i id v at = unmoved s r i id v v at (r.each id v at) refl refl refl
+  stays s r i id v at = unmoved s r i id v v at (r.each id v at) refl refl refl refl
 
   pub sees_ticket : (slots id : ℕ) (me : M) → Allows Rule slots id me 0 (λ n. n) (saw_ticket (step slots 0 0 0 none) me)
   sees_ticket slots id me s r wide at _ =
@@ -132,7 +135,7 @@ module _ {T : Type 0} (home : T → Home) (stands : T → List Entry → Type 0)
           found = omega arith;
           drawn = k.drawn;
           holds = k.holds;
-        } refl refl refl,
+        } refl refl refl refl,
         (refl, subst (λ (n : ℕ). 1 ≤ n) (sym is) first, subst (λ (n : ℕ). n ≤ last_ticket) (sym is) bound),
       )
 
@@ -151,7 +154,7 @@ module _ {T : Type 0} (home : T → Home) (stands : T → List Entry → Type 0)
           found = k.found;
           drawn = k.drawn;
           holds = k.holds;
-        } refl refl refl,
+        } refl refl refl refl,
         (refl, k.met, k.apart),
       )
 
@@ -159,9 +162,10 @@ module _ {T : Type 0} (home : T → Home) (stands : T → List Entry → Type 0)
   moved : (s : St) (r : Rule s) (b' : Board) (ws : List ℕ) (hs : List (maybe.Option (Option T))) (id : ℕ) (v w : View T) → get_elem? s.views id ≡ some v
       → ws ≡ b'.ticket ∷ b'.serving ∷ length b'.history ∷ [] → IsLegal 0 (home key).opening b'.history → Knows b' id w → Others T r.board b' id
       → (b'.holder ≡ 0 → IsHome home stands key b'.history hs) → (b'.holder ≡ 0 → b'.wrote ≡ 0) → ((seat : ℕ) → b'.holder ≡ suc seat → Seats (set s.views id w) (λ k u. (k ≡ seat) × (u.holds ≡ true)))
-      → Seats (set s.views id w) (λ k u. (0 < u.parts) × (u.seen ≡ b'.history)) → w.parts ≡ v.parts → 1 ≤ b'.ticket → b'.serving ≤ b'.ticket → b'.ticket ≤ last_ticket
+      → Seats (set s.views id w) (λ k u. (0 < u.parts) × (u.seen ≡ b'.history))
+      → ((e : Entry) → Contains (own_of b'.history) e → Seats (set s.views id w) (λ k u. (0 < u.parts) × Contains u.gathered e)) → w.parts ≡ v.parts → 1 ≤ b'.ticket → b'.serving ≤ b'.ticket → b'.ticket ≤ last_ticket
       → length b'.history ≤ 2 * b'.serving + b'.wrote → b'.wrote ≤ 2 → Rule record { words = ws; homes = hs; views = set s.views id w }
-  moved s r b' ws hs id v w at words legal known others at_home still out last parts first order bound room few = record {
+  moved s r b' ws hs id v w at words legal known others at_home still out last gathered parts first order bound room few = record {
     board = b';
     words = words;
     legal = legal;
@@ -170,6 +174,7 @@ module _ {T : Type 0} (home : T → Home) (stands : T → List Entry → Type 0)
     still = still;
     out = out;
     last = last;
+    gathered = gathered;
     parts = (let e = parts_set s.views id v w at in let t = r.parts in omega arith);
     first = first;
     order = order;
@@ -234,6 +239,8 @@ module _ {T : Type 0} (home : T → Home) (stands : T → List Entry → Type 0)
             r.still
             (λ seat e. keeps_seat s.views id me.0 w _ _ at (λ p. p) (λ j u p. p) (r.out seat e))
             (keeps_seat s.views id me.0 w _ _ at (λ p. p) (λ j u p. p) r.last)
+            (λ f there. keeps_seat s.views id me.0 w (λ j u. (0 < u.parts) × Contains u.gathered f) (λ j u. (0 < u.parts) × Contains u.gathered f) at
+            (λ p. p) (λ j u p. p) (r.gathered f there))
             refl (omega arith) (omega arith) (omega arith) r.room r.few,
         ((λ _. ap (λ (z : ℕ). (drawn_at z me.0, me.1)) (sym hit)), λ miss. absurd (miss hit)),
       ))
@@ -302,6 +309,8 @@ module _ {T : Type 0} (home : T → Home) (stands : T → List Entry → Type 0)
             (λ _. refl)
             (λ seat e. record { seat = id; view = w; there = set_there s.views id me.0 w at; so = ((let z : id ≡ seat = omega arith in z), refl) })
             (keeps_seat s.views id me.0 w _ _ at (λ p. (p.0, refl)) (λ j u p. p) r.last)
+            (λ f there. keeps_seat s.views id me.0 w (λ j u. (0 < u.parts) × Contains u.gathered f) (λ j u. (0 < u.parts) × Contains u.gathered f) at
+            (λ p. p) (λ j u p. p) (r.gathered f there))
             refl r.first r.order r.bound (omega arith) (omega arith)),
         (
           (λ _. record {
@@ -387,6 +396,11 @@ module _ {T : Type 0} (home : T → Home) (stands : T → List Entry → Type 0)
             (λ z. absurd (omega arith))
             (λ seat z. keeps_seat s.views id me.0 w _ _ at (λ p. p) (λ j u p. p) (r.out seat z))
             record { seat = id; view = w; there = set_there s.views id me.0 w at; so = (h.0, ap (λ (z : List Entry). z ++ e ∷ []) seen) }
+            (λ f there. ⊎_elim
+            (λ (old : Contains (own_of b.history) f). keeps_seat s.views id me.0 w (λ j u. (0 < u.parts) × Contains u.gathered f) (λ j u. (0 < u.parts) × Contains u.gathered f) at
+            (λ p. (p.0, Contains-append_left me.0.gathered (own_of (e ∷ [])) f p.1)) (λ j u p. p) (r.gathered f old))
+            (λ (mine : Contains w.gathered f). record { seat = id; view = w; there = set_there s.views id me.0 w at; so = (h.0, mine) })
+            (gathers b.history me.0.gathered e f there))
             refl r.first r.order r.bound (omega arith) (omega arith),
         (λ f same. let z : e ≡ f = cc in (ap (λ (x : Entry). (written x me.0, me.1)) z, own, short)),
       )
@@ -451,6 +465,8 @@ module _ {T : Type 0} (home : T → Home) (stands : T → List Entry → Type 0)
             (λ _. refl)
             (λ seat z. absurd (omega arith))
             (keeps_seat s.views id me.0 w _ _ at (λ p. p) (λ j u p. p) r.last)
+            (λ f there. keeps_seat s.views id me.0 w (λ j u. (0 < u.parts) × Contains u.gathered f) (λ j u. (0 < u.parts) × Contains u.gathered f) at
+            (λ p. p) (λ j u p. p) (r.gathered f there))
             refl r.first (omega arith) r.bound (omega arith) (omega arith),
         refl,
       )
@@ -493,6 +509,9 @@ module _ {T : Type 0} (home : T → Home) (stands : T → List Entry → Type 0)
         still = r.still;
         out = λ seat e. longer_seats (set s.views id left) right _ (keeps_seat s.views id v left _ _ at (λ p. p) (λ j u p. p) (r.out seat e));
         last = longer_seats (set s.views id left) right _ (keeps_seat s.views id v left _ _ at (λ p. ((let g : 0 < v.parts - 1 = omega arith in g), p.1)) (λ j u p. p) r.last);
+        gathered = λ e there. longer_seats (set s.views id left) right _
+            (keeps_seat s.views id v left (λ j u. (0 < u.parts) × Contains u.gathered e) (λ j u. (0 < u.parts) × Contains u.gathered e) at
+            (λ p. ((let g : 0 < v.parts - 1 = omega arith in g), p.1)) (λ j u p. p) (r.gathered e there));
         parts = (let e = parts_set s.views id v left at in let t = r.parts in let m = parts_more (set s.views id left) right in omega arith);
         first = r.first;
         order = r.order;
@@ -541,6 +560,24 @@ module _ {T : Type 0} (home : T → Home) (stands : T → List Entry → Type 0)
             (λ else_where. keeps_seat vs other w gone (λ j u. (j ≢ other) × (0 < u.parts) × (u.seen ≡ b.history)) _ there (λ p. absurd (p.0 refl)) (λ j u p. (p.1, p.2))
             (keeps_seat s.views id v both (λ j u. (j ≢ other) × (0 < u.parts) × (u.seen ≡ b.history)) _ at (λ p. (p.0, (let g : 0 < v.parts + w.parts = omega arith in g), of.2 p.2)) (λ j u p. p)
             record { seat = r.last.seat; view = r.last.view; there = r.last.there; so = (else_where, r.last.so.0, r.last.so.1) }));
+        gathered = λ e has.
+            let it = r.gathered e has in
+            dite (ℕ_discrete it.seat other)
+            (λ here. record {
+              seat = id;
+              view = both;
+              there = set_else vs other id gone (λ z. apart (sym z)) ∙ set_there s.views id v both at;
+              so = (
+                (let g : 0 < v.parts + w.parts = omega arith in g),
+                Contains-append_right v.gathered w.gathered e
+                    (subst (λ (u : View T). Contains u.gathered e) (some-injective it.view w (sym it.there ∙ (ap (get_elem? s.views) here ∙ there'))) it.so.1),
+              );
+            })
+            (λ else_where. keeps_seat vs other w gone (λ j u. (j ≢ other) × (0 < u.parts) × Contains u.gathered e) (λ j u. (0 < u.parts) × Contains u.gathered e) there
+            (λ p. absurd (p.0 refl)) (λ j u p. (p.1, p.2))
+            (keeps_seat s.views id v both (λ j u. (j ≢ other) × (0 < u.parts) × Contains u.gathered e) (λ j u. (j ≢ other) × (0 < u.parts) × Contains u.gathered e) at
+            (λ p. (p.0, (let g : 0 < v.parts + w.parts = omega arith in g), Contains-append_left v.gathered w.gathered e p.2)) (λ j u p. p)
+            record { seat = it.seat; view = it.view; there = it.there; so = (else_where, it.so.0, it.so.1) }));
         parts = (let e = parts_set s.views id v both at in let f = parts_set vs other w gone there in let t = r.parts in omega arith);
         first = r.first;
         order = r.order;
@@ -559,6 +596,7 @@ module _ {T : Type 0} (home : T → Home) (stands : T → List Entry → Type 0)
     still = λ _. refl;
     out = λ seat e. absurd (omega arith);
     last = record { seat = 0; view = first_view key; there = refl; so = (omega arith, refl) };
+    gathered = λ e there. absurd (omega (arith, there.1));
     parts = refl;
     first = omega arith;
     order = omega arith;
@@ -583,14 +621,27 @@ module _ {T : Type 0} (home : T → Home) (stands : T → List Entry → Type 0)
       one zero v e = subst (Knows _ zero) (some-injective (first_view key) v e) (first_known _ zero)
       one (suc seat) v e = absurd (some-ne-none v (sym e))
 
-  -- what a seat that has all parts, and no turn, knows at the end
+  -- what a seat that has all parts knows at the end: it has seen all
+  saw_all : (id : ℕ) (v : View T) (s : St) (r : Rule s) → get_elem? s.views id ≡ some v → v.parts ≡ all_parts → v.seen ≡ r.board.history
+  saw_all id v s r at all =
+      let it = r.last in
+      dite (ℕ_discrete it.seat id)
+      (λ here. ap (λ (u : View T). u.seen) (some-injective v it.view (sym at ∙ (ap (get_elem? s.views) (sym here) ∙ it.there))) ∙ it.so.1)
+      (λ apart. absurd (omega (arith, parts_two s.views it.seat id it.view v apart it.there at, it.so.0, r.parts, all)))
+
+  -- and what was entered by any seat, it has gathered
+  pub gathered_all : (id : ℕ) (v : View T) (s : St) → Rule s → get_elem? s.views id ≡ some v → v.parts ≡ all_parts
+      → (e : Entry) → Contains (own_of v.seen) e → Contains v.gathered e
+  gathered_all id v s r at all e has =
+      let it = r.gathered e (subst (λ (h : List Entry). Contains (own_of h) e) (saw_all id v s r at all) has) in
+      dite (ℕ_discrete it.seat id)
+      (λ here. subst (λ (u : View T). Contains u.gathered e) (some-injective it.view v (sym it.there ∙ (ap (get_elem? s.views) here ∙ at))) it.so.1)
+      (λ apart. absurd (omega (arith, parts_two s.views it.seat id it.view v apart it.there at, it.so.0, r.parts, all)))
+
+  -- and where it has no turn, the value is at home
   pub closes : (id : ℕ) (v : View T) (s : St) → Rule s → get_elem? s.views id ≡ some v → v.parts ≡ all_parts → v.holds ≡ false → IsHome home stands key v.seen s.homes
   closes id v s r at all idle =
-      let it = r.last in
-      let whole : v.seen ≡ r.board.history = dite (ℕ_discrete it.seat id)
-      (λ here. ap (λ (u : View T). u.seen) (some-injective v it.view (sym at ∙ (ap (get_elem? s.views) (sym here) ∙ it.there))) ∙ it.so.1)
-      (λ apart. absurd (omega (arith, parts_two s.views it.seat id it.view v apart it.there at, it.so.0, r.parts, all))) in
-      subst (λ (h : List Entry). IsHome home stands key h s.homes) (sym whole) (r.at_home (free r.board.holder refl))
+      subst (λ (h : List Entry). IsHome home stands key h s.homes) (sym (saw_all id v s r at all)) (r.at_home (free r.board.holder refl))
     where
       free : (n : ℕ) → r.board.holder ≡ n → r.board.holder ≡ 0
       free zero is = is

@@ -1,5 +1,5 @@
 -- What a clause says of a turn and of its passes.
-use Rattle.std.specs.Prelude.{◌≡◌, ◌≤◌, ◌<◌, ◌+◌, ℕ, Bool, true, false, List, [], ◌∷◌, length, Option, Some, None}
+use Rattle.std.specs.Prelude.{◌≡◌, ◌≤◌, ◌<◌, ◌+◌, ℕ, Bool, true, false, List, [], ◌∷◌, ◌++◌, length, Option, Some, None}
 use Rattle.atomic_table.specs.declared.shared.Seat.{Seat}
 use Rattle.nc_names.specs.Limits.{most_requests}
 use Rattle.nc_model.specs.declared.desk.Spent.{Spent}
@@ -48,13 +48,14 @@ module _ {T : Type 0} where
     pub slot : pass.me.1 ≡ (0, None) ∷ []
     pub holds : (view pass).holds ≡ true
 
-  -- it is the same pass, with the same parts and the same entries of its own
+  -- it is the same pass, with the same parts and the same entries of its own, and of those that it gathered
   pub record IsSamePass (old new : Pass T) : Type 0 where
     pub table : new.table_id ≡ old.table_id
     pub id : new.id ≡ old.id
     pub first : (view new).first ≡ (view old).first
     pub parts : (view new).parts ≡ (view old).parts
     pub mine : (view new).mine ≡ (view old).mine
+    pub gathered : (view new).gathered ≡ (view old).gathered
 
   -- the value came to this pass, which has seen all of the history, for which the value stands
   pub record HasTaken (home : T → Home) (stands : T → List Entry → Type 0) (turn : Turn T) (old new : Pass T)
@@ -75,13 +76,14 @@ module _ {T : Type 0} where
     pub number : spent.ticket ≡ last_ticket
     pub found : (view new).found ≡ last_ticket
 
-  -- the first pass has what both knew, of which the longer history goes on from the other
+  -- the first pass has what both knew and gathered, of which the longer history goes on from the other
   pub record HasJoined (old other new : Pass T) : Type 0 where
     pub table : new.table_id ≡ old.table_id
     pub id : new.id ≡ old.id
     pub first : (view new).first ≡ (view old).first
     pub parts : (view new).parts ≡ (view old).parts + (view other).parts
     pub mine : (view new).mine ≡ (view old).mine
+    pub gathered : (view new).gathered ≡ (view old).gathered ++ (view other).gathered
     pub seen : (view new).seen ≡ longer (view old).seen (view other).seen
     pub begins : Begins (view old).seen (view new).seen
     pub goes_on : Begins (view other).seen (view new).seen

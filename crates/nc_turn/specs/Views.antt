@@ -32,6 +32,7 @@ module _ {T : Type 0} where
     parts = all_parts;
     seen = [];
     mine = [];
+    gathered = [];
     met = [];
     theirs = [];
     found = 0;
@@ -57,6 +58,7 @@ module _ {T : Type 0} where
   written e v = record v {
     seen = v.seen ++ e ∷ [];
     mine = v.mine ++ own_of (e ∷ []);
+    gathered = v.gathered ++ own_of (e ∷ []);
     met = [];
     theirs = [];
     wrote = v.wrote + 1;
@@ -81,6 +83,7 @@ module _ {T : Type 0} where
     parts = 1;
     seen = v.seen;
     mine = [];
+    gathered = [];
     met = [];
     theirs = [];
     found = v.found;
@@ -94,6 +97,7 @@ module _ {T : Type 0} where
   together v w = record v {
     parts = v.parts + w.parts;
     seen = longer v.seen w.seen;
+    gathered = v.gathered ++ w.gathered;
     met = shorter v.seen w.seen;
     theirs = w.mine;
   }
@@ -105,6 +109,7 @@ module _ {T : Type 0} where
     parts = 0;
     seen = [];
     mine = [];
+    gathered = [];
     met = [];
     theirs = [];
     found = 0;

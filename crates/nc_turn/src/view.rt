@@ -15,6 +15,8 @@ pub struct View<T> {
     pub seen: LinkedList<Entry>,
     /// The entries that this seat wrote but for readings of the clock.
     pub mine: LinkedList<Entry>,
+    /// The same, and those that the seats wrote that were joined to it.
+    pub gathered: LinkedList<Entry>,
     /// What the seat had seen that was joined last, until it is compared.
     pub met: LinkedList<Entry>,
     /// What that seat had written.

@@ -1,5 +1,7 @@
 //! What a seat may ask of the turn.
-ghost use Rattle.std.specs.Prelude.{◌≡◌, ◌<◌, ◌≤◌, ◌++◌, [], ◌∷◌, IfOk, IfErr, MatchResult};
+ghost use Rattle.std.specs.Prelude.{◌≡◌, ◌<◌, ◌≤◌, ◌++◌, [], ◌∷◌, Contains, IfOk, IfErr, MatchResult};
+ghost use Rattle.nc_model.specs.declared.entry.Entry.{Entry};
+ghost use Rattle.nc_model.specs.Desks.{own_of};
 ghost use Rattle.nc_model.specs.History.{IsLegal};
 ghost use Rattle.nc_turn.specs.Passes.{view, first_of, IsOf, IsIdle, IsHolding, IsSamePass, HasTaken, IsSpent, HasJoined};
 ghost use Rattle.nc_turn.specs.Views.{all_parts, first_view, less_one, newcomer, written, given_on};
@@ -102,7 +104,9 @@ impl<T: Stands> Turn<T> {
     /// The value, which stands for all of the history. Every other pass was joined.
     pub fn close(self, pass: Pass<T>) -> T
         requires { IsOf T.home self pass × IsIdle pass × ((view pass).parts ≡ all_parts) }
-        ensures { T.stands result (view pass).seen × (T.home result ≡ T.home (first_of self)) }
+        ensures stands { T.stands result (view pass).seen × (T.home result ≡ T.home (first_of self)) }
+        // What it saw was entered with it, or with a pass that was joined to it, but for readings of the clock.
+        ensures gathered { (e : Entry) → Contains (own_of (view pass).seen) e → Contains (view pass).gathered e }
     {
         let Turn { table } = self;
         let mut closed = table.close_with(pass);

@@ -17,7 +17,6 @@ use nc_session::{SessionEnd, serve_session};
 use std::alloc::Global;
 
 // Serves a session, after which its desk is at its home.
-#[tactic(auto, using(crate::proofs::Homes::served_at_home))]
 fn serve_peer<Q: Desk, S: Source, K: Sink>(
     alloc: Global,
     desk: &mut Q,
@@ -26,6 +25,7 @@ fn serve_peer<Q: Desk, S: Source, K: Sink>(
     source: &mut S,
     sink: &mut K,
 ) -> SessionEnd
+    requires { peer.recovery ≡ false }
     ensures home { KeepsHome (Q.stands desk.old) (Q.stands desk.new) }
     ensures serves { (home : Home) (seen mine : List Entry) → Q.stands desk.old home seen mine
         → Serves schema.now (called peer home seen mine

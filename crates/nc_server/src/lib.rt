@@ -7,8 +7,8 @@
 //! What its calls promise: `serve_connection` serves the session of a peer that the first line names, who
 //! has no recovery, on the bytes after that line; where no peer is read nothing was entered, and nothing
 //! was written. `serve` says by what the listener told last how it ended, and has given back every desk
-//! that it took. That each connection is served, and the clock read, is shown by tests alone. Nothing is
-//! promised of when, nor that `serve` returns.
+//! that it took, at none of which a recovery session was begun. That each connection is served, and the
+//! clock read, is shown by tests alone. Nothing is promised of when, nor that `serve` returns.
 #![tactic(auto)]
 
 mod connection;

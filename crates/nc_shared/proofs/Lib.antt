@@ -4,3 +4,4 @@ pub mod Closing
 pub mod Sent
 pub mod Sharing
 pub mod Returned
+pub mod Plain

@@ -1,10 +1,12 @@
 -- A desk that is given, one that is given back, and the pass that is left, are of the machine.
-use Rattle.std.proofs.Common.{◌≡◌, ◌≤◌, ◌<◌, ◌+◌, ◌-◌, ℕ, refl, sym, ap, ◌∙◌, subst, arith}
+use Rattle.std.proofs.Common.{◌≡◌, ◌≤◌, ◌<◌, ◌+◌, ◌-◌, ◌++◌, ℕ, List, refl, sym, ap, ◌∙◌, subst, arith}
+use Rattle.std.proofs.lemmas.List.Elements.{All-append, All-nil}
 use Rattle.atomic_table.specs.Seated.{TableId}
+use Rattle.nc_model.specs.declared.entry.Entry.{Entry}
 use Rattle.nc_model.specs.Desks.{Home}
 use Rattle.nc_turn.specs.Passes.{Pass, view}
 use Rattle.nc_turn.specs.Views.{all_parts, newcomer}
-use Rattle.nc_server.specs.Homes.{IsAtHome}
+use Rattle.nc_server.specs.Homes.{BeginsNoRecovery, HaveNoRecovery, IsAtHome}
 use Rattle.nc_shared.specs.declared.shared.Shared.{Shared}
 use Rattle.nc_shared.specs.Chairs.{Chair, ChairStands, chair_of, desk_home, IsLeft, IsPassOf}
 use Rattle.nc_shared.proofs.SameDesks.{same_desk, sits}
@@ -83,7 +85,8 @@ module _ {T : Type 0} (home : T → Home) where
           (view other).seen,
           (view other).mine,
           subst (λ (h : Home). ChairStands chair h (view other).seen (view other).mine) same
-              (sits home shared other chair it is),
+              (sits home shared other chair it (ap (λ v. v.gathered) new ∙ sym (ap (λ v. v.mine) new)) is),
+          subst HaveNoRecovery (sym (ap (λ v. v.mine) new)) (All-nil (λ (e : Entry). BeginsNoRecovery e.event)),
         )
 
     -- a desk of that home has one part of this machine's pass
@@ -92,10 +95,22 @@ module _ {T : Type 0} (home : T → Home) where
     given_back chair theirs whole mine left =
         same_desk home shared (as_one pass) chair theirs whole (one_of shared pass mine) left
 
+    -- what was gathered with the pass of a desk, and with this one, begins no recovery session
+    pub plain_together : (chair : Chair) (theirs : Pass T) (gathered : List Entry) (at : Home) →
+        (desk : IsAtHome (ChairStands chair) at) → IsLeft home chair theirs → HaveNoRecovery (view pass).gathered →
+        gathered ≡ (view pass).gathered ++ (view theirs).gathered → HaveNoRecovery gathered
+    plain_together chair theirs gathered at desk left had joined =
+        let stood = desk.2 in
+        let theirs_is : desk.1 ≡ (view theirs).gathered =
+        stood.mine_is ∙ sym stood.alone ∙ ap (λ (c : Chair). c.gathered) left.chair_is in
+        subst HaveNoRecovery (sym joined)
+        (All-append (λ (e : Entry). BeginsNoRecovery e.event) (view pass).gathered (view theirs).gathered had
+        (subst HaveNoRecovery theirs_is desk.3))
+
     -- the pass that is left once no desk is out has all parts
     pub finished : (office : Office) (last : Pass T) → here ≡ office.home → office.out ≡ 0 →
         IsPassOf home shared pass → IsFinished home office last →
-        IsPassOf home shared last × ((view last).parts ≡ all_parts)
+        IsPassOf home shared last × ((view last).parts ≡ all_parts) × HaveNoRecovery (view last).gathered
     finished office last whole none mine done =
         let chair = chair_of home done.shared (as_one last) in
         let same : here ≡ desk_home chair = whole ∙ ap (λ (o : Office). o.home) done.office_is in
@@ -106,4 +121,4 @@ module _ {T : Type 0} (home : T → Home) where
         } in
         let it = same_desk home shared (as_one pass) chair (as_one last) same (one_of shared pass mine) left in
         let out : all_parts - (view last).parts ≡ 0 = sym (ap (λ (o : Office). o.out) done.office_is) ∙ none in
-        (all_of shared last done.of.of.at.live it.0, omega (arith, out, done.few))
+        (all_of shared last done.of.of.at.live it.0, omega (arith, out, done.few), done.plain)

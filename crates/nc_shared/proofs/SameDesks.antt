@@ -50,14 +50,15 @@ placed_same one other a b same place = λ i. record (same i) { place = place i }
 module _ {T : Type 0} (home : T → Home) where
   -- a desk stands for what its pass has seen
   pub sits : (shared : Shared T) (pass : Pass T) (chair : Chair) → IsPassOf home shared pass →
-      chair ≡ chair_of home shared pass →
+      (view pass).gathered ≡ (view pass).mine → chair ≡ chair_of home shared pass →
       ChairStands chair (desk_home (chair_of home shared pass)) (view pass).seen (view pass).mine
-  sits shared pass chair it is =
+  sits shared pass chair it alone is =
       let here : ChairStands (chair_of home shared pass) (desk_home (chair_of home shared pass)) (view pass).seen
       (view pass).mine = record {
         home_is = refl;
         seen_is = refl;
         mine_is = refl;
+        alone = alone;
         legal = it.of.legal;
         own = it.of.own;
         few = it.of.few;

@@ -16,7 +16,7 @@ abbrev pub place_of : TableId → List ℕ
 place_of z = z.words ∷ z.slots ∷ z.views_name ∷ z.atom ∷ z.block ∷ z.offset ∷ z.slot_names
 
 -- a desk: the table and the home of its turn, and of its pass the parts, the largest number found at the tickets, what
--- it has seen and what was entered with it
+-- it has seen, what was entered with it, and what was entered with it or with one that was joined to it
 pub record Chair : Type 0 where
   pub table : TableId
   pub home : Home
@@ -24,6 +24,7 @@ pub record Chair : Type 0 where
   pub found : ℕ
   pub seen : List Entry
   pub mine : List Entry
+  pub gathered : List Entry
 
 module _ {K C A : Type 0} where
   -- the machine as it was handed in
@@ -50,6 +51,7 @@ module _ {T : Type 0} (home : T → Home) where
     found = (view pass).found;
     seen = (view pass).seen;
     mine = (view pass).mine;
+    gathered = (view pass).gathered;
   }
 
   -- the pass with which somebody left a desk
@@ -64,11 +66,12 @@ desk_home chair = record chair.home {
   place = chair.parts ∷ length chair.home.place ∷ (chair.home.place ++ place_of chair.table);
 }
 
--- a desk stands for what its pass has seen, and for what was entered with it
+-- a desk stands for what its pass has seen, and for what was entered with it; no other pass was joined to that
 pub record ChairStands (chair : Chair) (home : Home) (seen mine : List Entry) : Type 0 where
   pub home_is : home ≡ desk_home chair
   pub seen_is : seen ≡ chair.seen
   pub mine_is : mine ≡ chair.mine
+  pub alone : chair.gathered ≡ chair.mine
   pub legal : IsLegal 0 chair.home.opening chair.seen
   pub own : IsMineIn chair.mine chair.seen
   pub few : length chair.seen ≤ most_requests

@@ -6,6 +6,7 @@ use Rattle.nc_model.specs.State.{State}
 use Rattle.nc_machine.specs.Lasting.{Lasting}
 use Rattle.nc_machine.specs.Seats.{Seat}
 use Rattle.nc_machine.specs.Serving.{Serving}
+use Rattle.nc_server.specs.Homes.{HaveNoRecovery}
 use Rattle.nc_turn.specs.Passes.{Pass, view}
 use Rattle.nc_turn.specs.Views.{all_parts}
 use Rattle.nc_shared.specs.declared.shared.Shared.{Shared}
@@ -29,15 +30,18 @@ module _ {T : Type 0} (home : T → Home) where
     out = all_parts - (view pass).parts;
   }
 
+  -- the pass of which desks are split off: what was entered at those that were given back begins no recovery session
   pub record IsOffice (shared : Shared T) (pass : Pass T) : Type 0 where
     pub of : IsPassOf home shared pass
     pub few : (view pass).parts ≤ all_parts
+    pub plain : HaveNoRecovery (view pass).gathered
 
   -- the pass that is left once desks are no longer given
   pub record IsFinished (office : Office) (pass : Pass T) : Type 0 where
     pub shared : Shared T
     pub of : IsPassOf home shared pass
     pub few : (view pass).parts ≤ all_parts
+    pub plain : HaveNoRecovery (view pass).gathered
     pub office_is : office ≡ office_of shared pass
 
 -- where a history begins that a machine in that state makes, whose clock has answered so often and so. It is not alone,
@@ -55,7 +59,8 @@ home_at opening answers heard = record {
 }
 
 -- there is one history, legal from that home, for which the machine and its clock stand, and by which the machine went
--- on from what it was
+-- on from what it was; none of its entries begins a recovery session
 pub record HasServed {K : Type 0} (words : Lasting K) (began : Serving K) (seat : Seat K) (home : Home) : Type 0 where
   pub history : List Entry
   pub stands : SeatStands words began seat home history
+  pub plain : HaveNoRecovery history

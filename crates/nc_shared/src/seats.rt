@@ -1,5 +1,6 @@
 //! A pass, of which desks are split off.
 ghost use Rattle.std.specs.Prelude.{◌≡◌};
+ghost use Rattle.nc_server.specs.Homes.{HaveNoRecovery};
 ghost use Rattle.nc_turn.specs.Passes.{view};
 ghost use Rattle.nc_turn.specs.Views.{all_parts};
 ghost use Rattle.nc_shared.specs.Chairs.{IsPassOf};
@@ -36,9 +37,11 @@ impl<'a, R: Wait, T: Stands> Model for Seats<'a, R, T> {
 }
 
 impl<'a, R: Wait, T: Stands> Seats<'a, R, T> {
-    /// Desks of a machine, whose calls wait by `rt`. None is out where the pass has all parts.
+    /// Desks of a machine, whose calls wait by `rt`. None is out where the pass has all parts. No recovery
+    /// session (RFC 8341 3.3.3) is begun at them, nor was one with the pass.
     pub fn new(rt: &'a R, shared: &'a Shared<T>, pass: Pass<T>) -> Seats<'a, R, T>
-        requires { IsPassOf T.home shared.now pass × ((view pass).parts ≡ all_parts) }
+        requires { IsPassOf T.home shared.now pass × ((view pass).parts ≡ all_parts)
+            × HaveNoRecovery (view pass).gathered }
         ensures { (result ≡ office_of T.home shared.now pass) × (result.out ≡ 0) }
     {
         Seats { rt, shared, pass }

@@ -1,9 +1,10 @@
 //! Serving over one shared machine.
-ghost use Rattle.std.specs.Prelude.{◌≡◌, false, IfErr, IfOk};
+ghost use Rattle.std.specs.Prelude.{◌≡◌, [], false, IfErr, IfOk};
 ghost use Rattle.nc_turn.specs.Passes.{view};
 ghost use Rattle.nc_turn.specs.Views.{all_parts};
 ghost use Rattle.nc_machine.specs.Lasting.{lasting};
 ghost use Rattle.nc_server.specs.Ends.{EndsAs};
+ghost use Rattle.nc_server.specs.Homes.{HaveNoRecovery};
 ghost use Rattle.nc_shared.specs.Chairs.{IsPassOf, began_of, home_of};
 ghost use Rattle.nc_shared.specs.Holding.{held_home};
 ghost use Rattle.nc_shared.specs.Offices.{HasServed, home_at};
@@ -52,12 +53,12 @@ where
     L::Out: Send + Drop,
     L::Line: Send + Drop,
     requires pass { IsPassOf (held_home K.row.coded C.given) shared.now pass
-        × ((view pass).parts ≡ all_parts) }
+        × ((view pass).parts ≡ all_parts) × ((view pass).gathered ≡ []) }
     requires failed { L.failed listener.old ≡ 0 }
     requires over { L.over listener.old ≡ false }
     ensures end { EndsAs result.0 (L.failed listener.new) (L.over listener.new) }
     ensures pass { IsPassOf (held_home K.row.coded C.given) shared.now result.1
-        × ((view result.1).parts ≡ all_parts) }
+        × ((view result.1).parts ≡ all_parts) × HaveNoRecovery (view result.1).gathered }
 {
     let mut seats = Seats::new(rt, shared, pass);
     let end = serve(rt, alloc, listener, &mut seats, schema, gate);
@@ -85,7 +86,7 @@ where
     L::Out: Send + Drop,
     L::Line: Send + Drop,
     requires pass { IsPassOf (held_home K.row.coded C.given) shared pass
-        × ((view pass).parts ≡ all_parts) }
+        × ((view pass).parts ≡ all_parts) × ((view pass).gathered ≡ []) }
     requires failed { L.failed listener.old ≡ 0 }
     requires over { L.over listener.old ≡ false }
     ensures end { EndsAs result.end (L.failed listener.new) (L.over listener.new) }
@@ -108,7 +109,7 @@ where
 
 /// Serves the connections of a listener over one machine that has made no entry, each at a desk of its own,
 /// until serving ends. All that was entered is one history, legal from the machine's state and the clock's
-/// answers as they are handed in. The machine and the clock that are left stand for it, and the machine went
+/// answers as they are handed in, in which no recovery session (RFC 8341 3.3.3) is begun. The machine and the clock that are left stand for it, and the machine went
 /// on by it from the one that was handed in: so what a crash leaves since then is known. The schema is the
 /// machine's.
 ///

@@ -1,5 +1,7 @@
 //! The machine as many threads share it.
-ghost use Rattle.std.specs.Prelude.{◌≡◌, ◌<◌, ◌^◌, [], min, length, ◌+◌, ◌-◌, false, IfOk, IfErr};
+ghost use Rattle.std.specs.Prelude.{◌≡◌, ◌<◌, ◌^◌, [], min, length, ◌+◌, ◌-◌, false, Contains, IfOk, IfErr};
+ghost use Rattle.nc_model.specs.declared.entry.Entry.{Entry};
+ghost use Rattle.nc_model.specs.Desks.{own_of};
 ghost use Rattle.nc_turn.specs.Passes.{view, HasJoined};
 ghost use Rattle.nc_turn.specs.Views.{all_parts, less_one, newcomer};
 ghost use Rattle.nc_machine.specs.Lasting.{lasting};
@@ -46,7 +48,7 @@ impl<K: Keeper, C: Clock> Shared<Held<K, C>> {
         }) }
         ensures began { IfOk result (λ made. began_of made.0 ≡ machine) }
         ensures first { IfOk result (λ made. ((view made.1).parts ≡ all_parts) × ((view made.1).seen ≡ [])
-            × ((view made.1).mine ≡ [])) }
+            × ((view made.1).mine ≡ []) × ((view made.1).gathered ≡ [])) }
         ensures refused { IfErr result (λ back. back ≡ (machine, clock)) }
     {
         let from = clock.answers();
@@ -70,12 +72,14 @@ impl<K: Keeper, C: Clock> Shared<Held<K, C>> {
     /// what a crash leaves is known; and its keeper is the one that was handed in, at a later moment.
     pub fn close(self, pass: Pass<Held<K, C>>) -> (Machine<K>, C)
         requires { IsPassOf (held_home K.row.coded C.given) self pass × ((view pass).parts ≡ all_parts) }
-        ensures { SeatStands (lasting K.doubt K.moment K.leaves K.continues) (began_of self) (record {
+        ensures stands { SeatStands (lasting K.doubt K.moment K.leaves K.continues) (began_of self) (record {
           machine = result.0;
           answers = C.count result.1;
           given = C.given result.1;
           from = (home_of C.given self).answers;
         }) (home_of C.given self) (view pass).seen }
+        // What it saw was entered at a desk of it, or at one whose pass was joined to it, but for readings.
+        ensures gathered { (e : Entry) → Contains (own_of (view pass).seen) e → Contains (view pass).gathered e }
     {
         let Shared { turn } = self;
         let held = turn.close(pass);

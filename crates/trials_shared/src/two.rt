@@ -153,7 +153,7 @@ pub fn serve_two<
 ) -> Together<K, C, S, T>
     requires pass { IsPassOf (held_home K.row.coded C.given) shared pass }
     requires whole { (view pass).parts ≡ all_parts }
-    requires unused { ((view pass).seen ≡ []) × ((view pass).mine ≡ []) }
+    requires unused { ((view pass).seen ≡ []) × ((view pass).mine ≡ []) × ((view pass).gathered ≡ []) }
     ensures { AreTogether (lasting K.doubt K.moment K.leaves K.continues) (began_of shared)
         schema.now (home_of C.given shared) (record {
           machine = result.machine;

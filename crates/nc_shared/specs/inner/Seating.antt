@@ -12,8 +12,9 @@ module _ {T : Type 0} where
     pub seen_is : seen ≡ v.seen
     pub mine_is : mine ≡ v.mine
 
-  -- the pass is one of this turn without a ticket, and has the parts that it had
+  -- the pass is one of this turn without a ticket, has the parts that it had, and is joined to no more than it was
   pub record IsPassOn (home : T → Home) (turn : Turn T) (old new : Pass T) : Type 0 where
     pub of : IsOf home turn new
     pub idle : IsIdle new
     pub parts : (view new).parts ≡ (view old).parts
+    pub alone : (view old).gathered ≡ (view old).mine → (view new).gathered ≡ (view new).mine

@@ -29,10 +29,10 @@ compare-requires g c =
     let given = c.split-other.ensures.given in
     let seen = c.requires.unused.0 in
     let near = rose g.row.K.coded g.C.Clock.given _ _ _ _ _ _ _ kept.0 (ap (λ m. m.0.seen) kept.1 ∙ seen)
-    (ap (λ m. m.0.mine) kept.1 ∙ c.requires.unused.1)
+    (ap (λ m. m.0.mine) kept.1 ∙ c.requires.unused.1) (ap (λ m. m.0.gathered) kept.1 ∙ c.requires.unused.2)
     c.desk-near.ensures c.serve_both-one.ensures.first c.leave-pass.ensures in
     let far = rose g.row.K.coded g.C.Clock.given _ _ _ _ _ _ _ given.0 (ap (λ u. u.seen) given.1 ∙ seen)
-    (ap (λ u. u.mine) given.1) c.desk-far.ensures
+    (ap (λ u. u.mine) given.1) (ap (λ u. u.gathered) given.1) c.desk-far.ensures
     c.serve_both-one.ensures.second c.leave-last.ensures in
     (near.0, far.0)
 
@@ -42,10 +42,10 @@ close-machine-requires g c =
     let given = c.split-other.ensures.given in
     let seen = c.requires.unused.0 in
     let near = rose g.row.K.coded g.C.Clock.given _ _ _ _ _ _ _ kept.0 (ap (λ m. m.0.seen) kept.1 ∙ seen)
-    (ap (λ m. m.0.mine) kept.1 ∙ c.requires.unused.1)
+    (ap (λ m. m.0.mine) kept.1 ∙ c.requires.unused.1) (ap (λ m. m.0.gathered) kept.1 ∙ c.requires.unused.2)
     c.desk-near.ensures c.serve_both-one.ensures.first c.leave-pass.ensures in
     let far = rose g.row.K.coded g.C.Clock.given _ _ _ _ _ _ _ given.0 (ap (λ u. u.seen) given.1 ∙ seen)
-    (ap (λ u. u.mine) given.1) c.desk-far.ensures
+    (ap (λ u. u.mine) given.1) (ap (λ u. u.gathered) given.1) c.desk-far.ensures
     c.serve_both-one.ensures.second c.leave-last.ensures in
     let a = near.1 in
     let b = far.1 in (
@@ -66,12 +66,13 @@ returns g c =
       history = all;
       mine = one.me.0.mine;
       theirs = other.me.0.mine;
-      stands = c.close-machine.ensures;
+      stands = c.close-machine.ensures.stands;
       first = sat_in g.row.K.coded g.C.Clock.given _ _ _ _ _ _ _ all kept.0 (ap (λ m. m.0.seen) kept.1 ∙ seen)
-          (ap (λ m. m.0.mine) kept.1 ∙ c.requires.unused.1) c.desk-near.ensures c.serve_both-one.ensures.first c.leave-pass.ensures
+          (ap (λ m. m.0.mine) kept.1 ∙ c.requires.unused.1) (ap (λ m. m.0.gathered) kept.1 ∙ c.requires.unused.2)
+          c.desk-near.ensures c.serve_both-one.ensures.first c.leave-pass.ensures
           joined.begins;
       second = sat_in g.row.K.coded g.C.Clock.given _ _ _ _ _ _ _ all given.0 (ap (λ u. u.seen) given.1 ∙ seen)
-          (ap (λ u. u.mine) given.1) c.desk-far.ensures
+          (ap (λ u. u.mine) given.1) (ap (λ u. u.gathered) given.1) c.desk-far.ensures
           c.serve_both-one.ensures.second c.leave-last.ensures joined.goes_on;
       apart = joined.apart;
     }

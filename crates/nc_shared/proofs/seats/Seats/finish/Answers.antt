@@ -6,5 +6,6 @@ returns g c = record {
   shared = c.self.inside.shared.now;
   of = c.self.invariant.of;
   few = c.self.invariant.few;
+  plain = c.self.invariant.plain;
   office_is = sym c.self.view_is;
 }

@@ -1,6 +1,6 @@
-use Rattle.std.proofs.Common.{ap, subst, ◌∙◌}
+use Rattle.std.proofs.Common.{ap, subst, sym, ◌∙◌}
 use Rattle.nc_model.specs.Desks.{Home}
-use Rattle.nc_server.specs.Homes.{IsAtHome}
+use Rattle.nc_server.specs.Homes.{HaveNoRecovery, IsAtHome}
 use Rattle.nc_shared.specs.Chairs.{ChairStands}
 use Rattle.nc_shared.specs.Holding.{held_home}
 use Rattle.nc_shared.proofs.Returned.{given_out, has_room, one_out, same_office}
@@ -16,6 +16,7 @@ invariant_of-self g c =
     let less = ap (λ m. m.0.parts) c.split-other.ensures.kept.1 in record {
       of = c.split-other.ensures.kept.0;
       few = (one_out _ _ _ less room c.self.invariant.few (ap (λ o. o.out) c.self.view_is)).1;
+      plain = subst HaveNoRecovery (sym (ap (λ m. m.0.gathered) c.split-other.ensures.kept.1)) c.self.invariant.plain;
     }
 
 pub returns-clause-home : goal.returns-clause-home

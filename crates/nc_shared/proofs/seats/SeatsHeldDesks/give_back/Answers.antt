@@ -1,7 +1,7 @@
 use Rattle.std.proofs.Common.{ap, ◌∙◌, ◌+◌}
 use Rattle.nc_turn.specs.Passes.{view}
 use Rattle.nc_shared.specs.Holding.{held_home}
-use Rattle.nc_shared.proofs.Returned.{given_back, one_back, same_office}
+use Rattle.nc_shared.proofs.Returned.{given_back, one_back, plain_together, same_office}
 use Rattle.nc_shared.proofs.seats.SeatsHeldDesks.give_back.Goals as goal
 
 pub compare-requires : goal.compare-requires
@@ -20,6 +20,8 @@ invariant_of-self g c =
     let more = c.compare.ensures.joined.parts ∙ ap (λ n. (view c.self.inside.pass).parts + n) one in record {
       of = c.compare.ensures.of;
       few = (one_back _ _ _ more c.requires.out (ap (λ o. o.out) c.self.view_is)).1;
+      plain = plain_together (held_home g.row.K.coded g.C.Clock.given) c.self.inside.shared.now c.self.inside.pass c.args.desk
+          c.leave-other.result _ _ c.requires.desk c.leave-other.ensures c.self.invariant.plain c.compare.ensures.joined.gathered;
     }
 
 pub returns-clause-home : goal.returns-clause-home

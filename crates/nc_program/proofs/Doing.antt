@@ -12,6 +12,7 @@ use Rattle.nc_names.specs.Counts.{Rose}
 use Rattle.nc_outside.specs.Streams.{Streams}
 use Rattle.nc_protocol.specs.declared.peer.Peer.{Peer}
 use Rattle.nc_schema.specs.Tables.{Tables}
+use Rattle.nc_server.specs.Homes.{HaveNoRecovery}
 use Rattle.nc_session.specs.declared.end.SessionEnd.{SessionEnd}
 use Rattle.nc_store.specs.Keeping.{Storing}
 use Rattle.nc_program.proofs.Running.{is_opened}
@@ -53,9 +54,9 @@ pub served_so : (crashes : Crashing) (words : List (List ℕ)) (folder address :
     → ((history : List Entry) → L history → Lasts crashes ready.device first history)
     → (Kept → Spares crashes g.files folder) → ServesAt first disk.failed L Kept t u l m end
     → Runs crashes words (outside g.files g.disk s t l g.maker) (outside h.files disk s u m h.maker) end
-served_so crashes words folder address g h disk s t u l m first schema modules S L Kept (Served end) asks ready less spares ((history, made), ends) =
+served_so crashes words folder address g h disk s t u l m first schema modules S L Kept (Served end) asks ready less spares ((history, made, plain), ends) =
     HasServed folder address ready.device first history end asks (is_opened folder g h s t l first schema modules S ready) ready.files
-    (made_so first disk.failed L (Lasts crashes ready.device first) t u history less made) ends refl
+    (made_so first disk.failed L (Lasts crashes ready.device first) t u history less made) plain ends refl
 served_so crashes words folder address g h disk s t u l m first schema modules S L Kept Memory asks ready less spares (same, still, kept) =
     HasNoMemory (ToListen folder address) folder asks (listened address)
     (λ i. outside (ready.files i) disk s (still i) (same i) h.maker) (spares kept)
@@ -73,6 +74,7 @@ pub has_made : {D : Type 0} (words : Lasting (Storing D)) (began : Serving (Stor
     → now.answers ≡ seat.answers → failed ≡ seat.machine.state.faults → disk ≡ seat.machine.keeper.disk
     → seat.machine.count ≤ most_requests → IsAt words began seat (home_at began.state before.answers before.given)
     → (history : List Entry) × HasMade began.state failed (HasLeft words began disk) before now history
+    × HaveNoRecovery history
 has_made words began seat disk failed before now good from given answers faults left few served = (
   served.history,
   record {
@@ -84,6 +86,7 @@ has_made words began seat disk failed before now good from given answers faults 
     readings = subst (λ g. IfSome g (TellsReadings before.given served.history)) (sym given) served.stands.readings;
     lasts = record { last = seat.machine; disk_is = sym left; goes = served.stands.goes_on };
   },
+  served.plain,
 )
 
 -- a look at a server

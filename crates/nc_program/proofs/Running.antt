@@ -279,7 +279,7 @@ words_status crashes words before now end (IsUnopened task folder device fault a
     (λ e. cc (of_two (Store fault) e), λ none. absurd (none task asks))
 words_status crashes words before now end (IsOver folder peer device first met asks opened files unheard served_so) =
     (λ e. cc (of_two (Session met) e), λ none. absurd (none (ToServe folder peer) asks))
-words_status crashes words before now end (HasServed folder address device first history met asks opened files made ends same) =
+words_status crashes words before now end (HasServed folder address device first history met asks opened files made plain ends same) =
     (λ e. cc (of_two (Served met) e), λ none. absurd (none (ToListen folder address) asks))
 words_status crashes words before now end (IsScripted folder file device first found met asks opened found_so came same) =
     (λ e. cc (of_two (Script met) e), λ none. absurd (none (ToScript folder file) asks))
@@ -302,7 +302,7 @@ read_status crashes words before now end (IsOver folder peer device first met as
     read_failed first.schema (called peer served_so.home [] [] before.streams)
     (HasMadeAlone first now.disk.failed (Lasts crashes device first) before.times now.times) (λ ticket. ticket ≡ most_requests) now.streams met served_so.serves
     (cc (of_six (Session met) e))
-read_status crashes words before now end (HasServed folder address device first history met asks opened files made ends same) e = cc (of_six (Served met) e)
+read_status crashes words before now end (HasServed folder address device first history met asks opened files made plain ends same) e = cc (of_six (Served met) e)
 read_status crashes words before now end (IsScripted folder file device first found met asks opened found_so came same) e =
     cc (of_six (Script met) e)
 read_status crashes words before now end (IsChecked folder device first found printed asks opened found_so lasts wrote same unfailed) e =
@@ -358,7 +358,7 @@ write_status crashes words before now end (IsOver folder peer device first met a
     write_failed first.schema (called peer served_so.home [] [] before.streams)
     (HasMadeAlone first now.disk.failed (Lasts crashes device first) before.times now.times) (λ ticket. ticket ≡ most_requests) now.streams met served_so.serves
     (session_seven met (of_seven (Session met) e))
-write_status crashes words before now end (HasServed folder address device first history met asks opened files made ends same) e = absurd (of_seven (Served met) e)
+write_status crashes words before now end (HasServed folder address device first history met asks opened files made plain ends same) e = absurd (of_seven (Served met) e)
 write_status crashes words before now end (IsScripted folder file device first found met asks opened found_so came same) e =
     script_failed first now.disk.failed (Lasts crashes device first) found (output_of before.streams) (output_of now.streams) met came e
 write_status crashes words before now end (IsChecked folder device first found printed asks opened found_so lasts wrote same unfailed) e =
@@ -376,7 +376,7 @@ disk_status crashes words before now end (MakesNoDevice task folder fault asks i
 disk_status crashes words before now end (IsUnopened task folder device fault asks is makes refuses same spares) e =
     refuses.cause (cc (of_eight (Store fault) e))
 disk_status crashes words before now end (IsOver folder peer device first met asks opened files unheard served_so) e = cc (of_eight (Session met) e)
-disk_status crashes words before now end (HasServed folder address device first history met asks opened files made ends same) e = cc (of_eight (Served met) e)
+disk_status crashes words before now end (HasServed folder address device first history met asks opened files made plain ends same) e = cc (of_eight (Served met) e)
 disk_status crashes words before now end (IsScripted folder file device first found met asks opened found_so came same) e =
     cc (of_eight (Script met) e)
 disk_status crashes words before now end (IsChecked folder device first found printed asks opened found_so lasts wrote same unfailed) e =
@@ -393,7 +393,7 @@ files_status crashes words before now end (HasNoMemory task folder asks is same 
 files_status crashes words before now end (MakesNoDevice task folder fault asks is none_made same spares) e = cc (of_thirteen (Setup fault) e)
 files_status crashes words before now end (IsUnopened task folder device fault asks is makes refuses same spares) e = cc (of_thirteen (Store fault) e)
 files_status crashes words before now end (IsOver folder peer device first met asks opened files unheard served_so) e = cc (of_thirteen (Session met) e)
-files_status crashes words before now end (HasServed folder address device first history met asks opened files made ends same) e = cc (of_thirteen (Served met) e)
+files_status crashes words before now end (HasServed folder address device first history met asks opened files made plain ends same) e = cc (of_thirteen (Served met) e)
 files_status crashes words before now end (IsScripted folder file device first found met asks opened found_so came same) e =
     cc (of_thirteen (Script met) e)
 files_status crashes words before now end (IsChecked folder device first found printed asks opened found_so lasts wrote same unfailed) e =

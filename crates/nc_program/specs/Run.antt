@@ -6,6 +6,7 @@ use Rattle.nc_model.specs.declared.entry.Entry.{Entry}
 use Rattle.nc_outside.specs.Streams.{Streams}
 use Rattle.nc_protocol.specs.declared.peer.Peer.{Peer}
 use Rattle.nc_server.specs.Ends.{EndsAs}
+use Rattle.nc_server.specs.Homes.{HaveNoRecovery}
 use Rattle.nc_server.specs.declared.end.ServeEnd.{ServeEnd}
 use Rattle.nc_session.specs.declared.end.SessionEnd.{SessionEnd}
 use Rattle.nc_setup.specs.declared.fault.SetupFault.{SetupFault}
@@ -67,7 +68,8 @@ NothingButOutput before now = now ≡ record before {
 -- What a run came to: the words have no valid reading; the files failed; no memory was found; what the folder holds
 -- makes no server; its store was not opened; or that was done which the words ask for. A file is asked for, a pattern
 -- made and the store opened in this order and before all else, but for the file of a script. What a server of the store
--- did lasts over crashes; where the store was looked at, its history has no entry. Where no server did anything, the
+-- did lasts over crashes; where the store was looked at, its history has no entry; and where connections were served, no
+-- recovery session (RFC 8341 3.3.3) was begun. Where no server did anything, the
 -- store keeps what it held; and where no folder is named, nothing is done to the disk.
 pub data Runs (crashes : Crashing) (words : List (List ℕ)) (before now : Outside) : RunEnd → Type 0 where
   AreFaulty : HasNoReading words → now ≡ before → Unharmed crashes → Runs crashes words before now Words
@@ -95,7 +97,7 @@ pub data Runs (crashes : Crashing) (words : List (List ℕ)) (before now : Outsi
   HasServed : (folder address : List ℕ) (device : Device) (first : State) (history : List Entry) (end : ServeEnd)
       → Asks words (ToListen folder address) → IsOpened before folder device first → now.files ≡ before.files
       → HasMade first now.disk.failed (Lasts crashes device first) before.times now.times history
-      → EndsAs end now.listener.failed now.listener.over
+      → HaveNoRecovery history → EndsAs end now.listener.failed now.listener.over
       → now.streams ≡ before.streams → Runs crashes words before now (Served end)
   IsScripted : (folder file : List ℕ) (device : Device) (first : State) (found : Option (List ℕ)) (end : ScriptEnd)
       → Asks words (ToScript folder file) → IsOpened before folder device first

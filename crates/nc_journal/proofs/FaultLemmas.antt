@@ -1,5 +1,5 @@
 -- Faults that are handed on.
-use Rattle.std.proofs.Common.{◌≡◌, ℕ, nat_eq, List, Option, Result, Ok, Err, OnErr, sym, ◌∙◌, ap, subst}
+use Rattle.std.proofs.Common.{◌≡◌, ◌≢◌, ℕ, nat_eq, List, Option, Result, Ok, Err, OnErr, refl, sym, ◌∙◌, ap, subst}
 use Rattle.nc_journal.specs.declared.fault.JournalFault.{JournalFault}
 use Rattle.nc_journal.specs.declared.fault.JournalFault.TheVariants.{DiskFault, Damaged, OtherHeader, Memory}
 use Rattle.nc_outside.specs.Disks.{After, Same, Told}
@@ -92,6 +92,13 @@ stopped_map T (Err DiskFault) P Q p also = tt
 stopped_map T (Err (Damaged at)) P Q p also = also p
 stopped_map T (Err (OtherHeader at)) P Q p also = also p
 stopped_map T (Err Memory) P Q p also = also p
+
+pub stopped_not : (T : Type 0) (e : JournalFault) (P : Type 0) → (let r : Result T JournalFault = Err e in OnStopped r P)
+    → e ≢ DiskFault → P
+stopped_not T DiskFault P p other = absurd (other refl)
+stopped_not T (Damaged at) P p other = p
+stopped_not T (OtherHeader at) P p other = p
+stopped_not T Memory P p other = p
 
 pub err_map : {T E : Type 0} (result : Result T E) (P Q : Type 0) → OnErr result P → (P → Q) → OnErr result Q
 err_map (Ok it) P Q p also = tt

@@ -1,5 +1,5 @@
 //! A journal is begun over a disk.
-ghost use Rattle.std.specs.Prelude.{◌≡◌, ℕ, List, is_some, IfOk, IfErr};
+ghost use Rattle.std.specs.Prelude.{◌≡◌, ◌≢◌, ℕ, List, is_some, IfOk, IfErr};
 ghost use Rattle.nc_names.specs.Counts.{Rose};
 ghost use Rattle.nc_outside.specs.Disks.{Told};
 ghost use Rattle.nc_journal.specs.Header.{IsHeader};
@@ -41,6 +41,9 @@ impl<D: Disk> Journal<D> {
             IfErr result (λ it. is_some (D.seen it.0) ≡ is_some (D.seen disk)) }
         ensures cause { IfOk result (λ it. D.faults (disk_of it.0) ≡ D.faults disk) ×
             IfErr result (λ it. it.1 ≡ JournalFault.DiskFault → Rose (D.faults disk) (D.faults it.0)) }
+        // A fault of the disk goes before all others.
+        ensures unfailed { IfErr result (λ it. it.1 ≢ JournalFault.DiskFault →
+            D.faults it.0 ≡ D.faults disk) }
     {
         let mut disk = disk;
         match open(alloc, &mut disk, header) {

@@ -28,8 +28,9 @@ OnStopped (Err (Damaged at)) P = P
 OnStopped (Err (OtherHeader at)) P = P
 OnStopped (Err Memory) P = P
 
--- an Ok leaves the count of faults as it was, and a fault of the disk comes only where it rose
+-- an Ok leaves the count of faults as it was, and so does any fault but one of the disk, which comes only where it rose
 pub record HasFault {T : Type 0} (before now : ℕ) (result : Result T JournalFault) : Type 0 where
   pub later : before ≤ now
   pub same : OnOk result (now ≡ before)
+  pub other : OnStopped result (now ≡ before)
   pub failed : IsErrOf result DiskFault → Rose before now

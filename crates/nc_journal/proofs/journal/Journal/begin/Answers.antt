@@ -1,7 +1,7 @@
 use Rattle.std.proofs.Common.{◌≡◌, ℕ, List, length, Contains, Option, Some, is_some, refl, sym, ◌∙◌, ap, subst, arith}
 use Rattle.nc_journal.specs.declared.whole.Whole.{Whole}
 use Rattle.nc_journal.specs.Journal.{at_rest}
-use Rattle.nc_journal.proofs.FaultLemmas.{refused_told, left_alone}
+use Rattle.nc_journal.proofs.FaultLemmas.{left_alone, refused_told, stopped_not}
 use Rattle.nc_journal.proofs.journal.Journal.begin.Goals as goal
 
 pub returns-in-Ok-clause-begun : goal.returns-in-Ok-clause-begun
@@ -41,3 +41,6 @@ returns-in-Err-clause-refused g c = (
   left_alone Whole c.in-Err.fault c.args.header.now g.D.Disk.seen g.D.Disk.may_leave g.D.Disk.moment g.D.Disk.left_since c.args.disk
       c.open.new.disk c.in-Err.ensures.left c.in-Err.ensures.spared,
 )
+
+pub returns-in-Err-clause-unfailed : goal.returns-in-Err-clause-unfailed
+returns-in-Err-clause-unfailed g c = stopped_not Whole c.in-Err.fault _ c.in-Err.ensures.cause.other

@@ -1,5 +1,5 @@
 //! The store.
-ghost use Rattle.std.specs.Prelude.{◌≡◌, ◌≤◌, ◌∷◌, [], ℕ, List, Option};
+ghost use Rattle.std.specs.Prelude.{◌≡◌, ◌≢◌, ◌≤◌, ◌∷◌, [], ℕ, List, Option};
 ghost use Rattle.std.specs.Prelude.{Some, None, is_some, IfOk, IfErr};
 ghost use Rattle.nc_names.specs.Counts.{Rose};
 ghost use Rattle.nc_names.specs.declared.path.Row.{Row};
@@ -129,8 +129,9 @@ impl<D: Disk> Store<D> {
         ensures tells { IfOk result (λ it. is_some (D.seen it.0.disk) ≡ is_some (D.seen disk)) ×
             IfErr result (λ it. is_some (D.seen it.0) ≡ is_some (D.seen disk)) }
         ensures cause { IfErr result (λ it. it.1 ≡ DiskFault → Rose (D.faults disk) (D.faults it.0)) }
-        // No fault is passed over: an opening that meets one does not end well.
+        // No fault of the disk is passed over: an opening that meets one ends with it, and with nothing else.
         ensures unfailed { IfOk result (λ it. D.faults it.0.disk ≡ D.faults disk) }
+        ensures other { IfErr result (λ it. it.1 ≢ DiskFault → D.faults it.0 ≡ D.faults disk) }
     {
         let (journal, bodies) = match Journal::begin(alloc, disk, header.as_slice()) {
             Ok(opened) => opened,

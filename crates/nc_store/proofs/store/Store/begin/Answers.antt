@@ -4,7 +4,7 @@ use Rattle.nc_schema.specs.Tables.{Tables}
 use Rattle.nc_outside.specs.Disks.{LeavesOnly}
 use Rattle.nc_journal.specs.Refusing.{HasNoReading, IsRefused as IsNotRead}
 use Rattle.nc_store.specs.Keeping.{StoreLeaves}
-use Rattle.nc_store.specs.Opening.{BeginsWith, IsRefused, IsUnread}
+use Rattle.nc_store.specs.Opening.{BeginsWith, IsRefused, IsUnread, fault_by}
 use Rattle.nc_store.specs.Reopening.{Reopens, Setup}
 use Rattle.nc_store.specs.declared.fault.StoreFault.{StoreFault}
 use Rattle.nc_store.specs.inner.Finding.{FindsBase, gate_before}
@@ -123,3 +123,6 @@ returns-in-Err-copy-clause-spared g c = λ file told none.
     let setup : Setup = record { header = c.args.header; tables = c.args.schema.value; initial = c.args.initial } in
     absurd (reads_at g.D.Disk.seen g.D.Disk.may_leave g.D.Disk.moment g.D.Disk.left_since g.met.D.Disk.seen_is_left c.as_slice.result.now setup c.as_slice.ensures
     c.in-Ok.opened.0 c.in-Ok.opened.1 file (c.in-Ok.ensures.begun file told) none)
+
+pub returns-in-Err-clause-other : goal.returns-in-Err-clause-other
+returns-in-Err-clause-other g c = λ other. c.in-Err.ensures.unfailed (λ is. other (c.fault_of.ensures ∙ ap fault_by is))

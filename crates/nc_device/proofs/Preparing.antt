@@ -1,5 +1,5 @@
 -- What the folder of a device comes to.
-use Rattle.std.proofs.Common.{◌≡◌, ◌≤◌, ◌<◌, ℕ, Bool, true, false, cond, List, [], ◌∷◌, length, Option, Some, None, Result, Ok, Err, sym, subst, ap, ◌∙◌, arith}
+use Rattle.std.proofs.Common.{◌≡◌, ◌≢◌, ◌≤◌, ◌<◌, ℕ, Bool, true, false, cond, List, [], ◌∷◌, length, Option, Some, None, Result, Ok, Err, sym, subst, ap, ◌∙◌, arith}
 use Rattle.std.specs.List.{All, find, position_or_len}
 use Rattle.std.specs.Prelude.{position, slice_index_or, is_some, IfErr, IfOk}
 use Rattle.std.proofs.lemmas.Bool.{lt-ltb}
@@ -140,13 +140,15 @@ pub refuses_by : (device : Device) (before now : Stored) (tables : Tables) (faul
     IsRefused (record { header = device.header; tables = tables; initial = device.initial }) fault old new))
     → (IsUnread fault → Told before.seen (λ file. (among : List (List Row))
     → ¬ Reopens (record { header = device.header; tables = tables; initial = device.initial }) among file))
-    → (fault ≡ DiskFault → Rose before.failed now.failed) → Refuses device before now fault
-refuses_by device before now tables fault same refused unread cause = record {
+    → (fault ≡ DiskFault → Rose before.failed now.failed) → (fault ≢ DiskFault → now.failed ≡ before.failed)
+    → Refuses device before now fault
+refuses_by device before now tables fault same refused unread cause other = record {
   refused = subst (λ t. Told before.seen (λ old. Told now.seen (λ new.
       IsRefused (record { header = device.header; tables = t; initial = device.initial }) fault old new))) same refused;
   unread = subst (λ t. IsUnread fault → Told before.seen (λ file. (among : List (List Row))
       → ¬ Reopens (record { header = device.header; tables = t; initial = device.initial }) among file)) same unread;
   cause = cause;
+  other = other;
 }
 
 pub begun_by : {D : Type 0} (seen : D → Option (List ℕ)) (may_leave : D → List ℕ → Type 0) (moment : D → ℕ)

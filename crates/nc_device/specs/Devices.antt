@@ -1,5 +1,5 @@
 -- The server that the folder of a device makes, and that which its store begins with.
-use Rattle.std.specs.Prelude.{◌≡◌, ℕ, List, length, Option, IfSome}
+use Rattle.std.specs.Prelude.{◌≡◌, ◌≢◌, ℕ, List, length, Option, IfSome}
 use Rattle.nc_names.specs.Counts.{Rose}
 use Rattle.nc_names.specs.declared.path.Row.{Row}
 use Rattle.nc_device.specs.Header.{IsStoreHeader}
@@ -58,9 +58,10 @@ pub record Begins (device : Device) (disk : Stored) (first : State) : Type 0 whe
   pub reads : Told disk.seen (BeginsWith (begun_with device) base)
 
 -- The store was not opened: the fault tells why the file is refused, and then no next start begins with anything of it;
--- or the disk failed.
+-- or the disk failed, which is told before all else.
 pub record Refuses (device : Device) (before now : Stored) (fault : StoreFault) : Type 0 where
   pub refused : Told before.seen (λ old. Told now.seen (λ new. IsRefused (begun_with device) fault old new))
   pub unread : IsUnread fault → Told before.seen (λ file. (among : List (List Row)) →
       ¬ Reopens (begun_with device) among file)
   pub cause : fault ≡ DiskFault → Rose before.failed now.failed
+  pub other : fault ≢ DiskFault → now.failed ≡ before.failed

@@ -50,4 +50,4 @@ returns-in-Err-clause-kept g c =
 pub returns-in-Err-clause-unopened : goal.returns-in-Err-clause-unopened
 returns-in-Err-clause-unopened g c =
     refuses_by c.args.device (stored (g.D.Disk.seen c.args.disk) (g.D.Disk.faults c.args.disk)) (stored (g.D.Disk.seen c.in-Err.disk) (g.D.Disk.faults c.in-Err.disk)) c.in-Ok.owners.store.value c.in-Err.fault
-    c.in-Ok.ensures.store c.in-Err.ensures.refused c.in-Err.ensures.unread c.in-Err.ensures.cause
+    c.in-Ok.ensures.store c.in-Err.ensures.refused c.in-Err.ensures.unread c.in-Err.ensures.cause c.in-Err.ensures.other

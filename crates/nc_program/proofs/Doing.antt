@@ -57,9 +57,9 @@ pub served_so : (crashes : Crashing) (words : List (List ℕ)) (folder address :
 served_so crashes words folder address g h disk s t u l m first schema modules S L Kept (Served end) asks ready less spares ((history, made, plain), ends) =
     HasServed folder address ready.device first history end asks (is_opened folder g h s t l first schema modules S ready) ready.files
     (made_so first disk.failed L (Lasts crashes ready.device first) t u history less made) plain ends refl
-served_so crashes words folder address g h disk s t u l m first schema modules S L Kept Memory asks ready less spares (same, still, kept) =
+served_so crashes words folder address g h disk s t u l m first schema modules S L Kept Memory asks ready less spares (same, still, faults, kept) =
     HasNoMemory (ToListen folder address) folder asks (listened address)
-    (λ i. outside (ready.files i) disk s (still i) (same i) h.maker) (spares kept)
+    (λ i. outside (ready.files i) disk s (still i) (same i) h.maker) (faults ∙ ap (λ x. x.faults) ready.begins.is) (spares kept)
 served_so crashes words folder address g h disk s t u l m first schema modules S L Kept Words asks ready less spares none = absurd none
 served_so crashes words folder address g h disk s t u l m first schema modules S L Kept Files asks ready less spares none = absurd none
 served_so crashes words folder address g h disk s t u l m first schema modules S L Kept (Setup fault) asks ready less spares none = absurd none
@@ -122,18 +122,18 @@ scripted_so crashes words folder file g h files disk s r t l first schema module
 pub unread : (crashes : Crashing) (words : List (List ℕ)) (folder file : List ℕ) (g h : Ground) (files : Filing)
     (disk : Stored) (s : Streams) (t : Times) (l : Listening) (first : State) (schema : Tables) (modules : ℕ)
     (S : Device → Type 0) (end : RunEnd) → IsScript words folder file → IsReady folder g h first schema modules S
-    → Finds file h.files files (Err end) → Spares crashes g.files folder
+    → Finds file h.files files (Err end) → disk.failed ≡ first.faults → Spares crashes g.files folder
     → Runs crashes words (outside g.files g.disk s t l g.maker) (outside files disk s t l h.maker) end
-unread crashes words folder file g h files disk s t l first schema modules S Files asks ready (rose, same) spares =
+unread crashes words folder file g h files disk s t l first schema modules S Files asks ready (rose, same) faults spares =
     HasNoScript folder file ready.device first asks (is_opened folder g h s t l first schema modules S ready)
     (subst (λ f. Rose f.failed files.failed) ready.files rose) refl spares
-unread crashes words folder file g h files disk s t l first schema modules S Memory asks ready same spares =
+unread crashes words folder file g h files disk s t l first schema modules S Memory asks ready same faults spares =
     HasNoMemory (ToScript folder file) folder asks (scripted file)
-    (λ i. outside ((same ∙ ready.files) i) disk s t l h.maker) spares
-unread crashes words folder file g h files disk s t l first schema modules S Words asks ready none spares = absurd none
-unread crashes words folder file g h files disk s t l first schema modules S (Setup fault) asks ready none spares = absurd none
-unread crashes words folder file g h files disk s t l first schema modules S (Store fault) asks ready none spares = absurd none
-unread crashes words folder file g h files disk s t l first schema modules S (Session end) asks ready none spares = absurd none
-unread crashes words folder file g h files disk s t l first schema modules S (Served end) asks ready none spares = absurd none
-unread crashes words folder file g h files disk s t l first schema modules S (Script end) asks ready none spares = absurd none
-unread crashes words folder file g h files disk s t l first schema modules S (Checked printed) asks ready none spares = absurd none
+    (λ i. outside ((same ∙ ready.files) i) disk s t l h.maker) (faults ∙ ap (λ x. x.faults) ready.begins.is) spares
+unread crashes words folder file g h files disk s t l first schema modules S Words asks ready none faults spares = absurd none
+unread crashes words folder file g h files disk s t l first schema modules S (Setup fault) asks ready none faults spares = absurd none
+unread crashes words folder file g h files disk s t l first schema modules S (Store fault) asks ready none faults spares = absurd none
+unread crashes words folder file g h files disk s t l first schema modules S (Session end) asks ready none faults spares = absurd none
+unread crashes words folder file g h files disk s t l first schema modules S (Served end) asks ready none faults spares = absurd none
+unread crashes words folder file g h files disk s t l first schema modules S (Script end) asks ready none faults spares = absurd none
+unread crashes words folder file g h files disk s t l first schema modules S (Checked printed) asks ready none faults spares = absurd none

@@ -40,8 +40,8 @@ pub no_server : (crashes : Crashing) (words : List (List ℕ)) (task : Task) (fo
     → Runs crashes words (outside g.files g.disk s t l g.maker) (outside h.files h.disk s t l h.maker) end
 no_server crashes words task folder g h s t l Files asks is spares (rose, same) =
     HasFailed task folder asks is rose (λ i. outside h.files (same i).disk s t l h.maker) spares
-no_server crashes words task folder g h s t l Memory asks is spares same =
-    HasNoMemory task folder asks is (λ i. outside (same i).files h.disk s t l h.maker) spares
+no_server crashes words task folder g h s t l Memory asks is spares (same, unfailed) =
+    HasNoMemory task folder asks is (λ i. outside (same i).files h.disk s t l h.maker) unfailed spares
 no_server crashes words task folder g h s t l (Setup fault) asks is spares (none, same) =
     MakesNoDevice task folder fault asks is none (λ i. outside (same i).files (same i).disk s t l h.maker) spares
 no_server crashes words task folder g h s t l (Store fault) asks is spares (device, makes, refuses, same) =
@@ -272,7 +272,7 @@ words_status crashes words before now end (AreFaulty none same unharmed) = (λ e
 words_status crashes words before now end (HasFailed task folder asks is rose same spares) = (λ e. absurd (omega (arith, e)), λ none. absurd (none task asks))
 words_status crashes words before now end (HasNoScript folder file device first asks opened rose same spares) =
     (λ e. absurd (omega (arith, e)), λ none. absurd (none (ToScript folder file) asks))
-words_status crashes words before now end (HasNoMemory task folder asks is same spares) = (λ e. absurd (omega (arith, e)), λ none. absurd (none task asks))
+words_status crashes words before now end (HasNoMemory task folder asks is same unfailed spares) = (λ e. absurd (omega (arith, e)), λ none. absurd (none task asks))
 words_status crashes words before now end (MakesNoDevice task folder fault asks is none_made same spares) =
     (λ e. cc (of_two (Setup fault) e), λ none. absurd (none task asks))
 words_status crashes words before now end (IsUnopened task folder device fault asks is makes refuses same spares) =
@@ -295,7 +295,7 @@ pub read_status : (crashes : Crashing) (words : List (List ℕ)) (before now : O
 read_status crashes words before now end (AreFaulty none same unharmed) e = absurd (omega (arith, e))
 read_status crashes words before now end (HasFailed task folder asks is rose same spares) e = absurd (omega (arith, e))
 read_status crashes words before now end (HasNoScript folder file device first asks opened rose same spares) e = absurd (omega (arith, e))
-read_status crashes words before now end (HasNoMemory task folder asks is same spares) e = absurd (omega (arith, e))
+read_status crashes words before now end (HasNoMemory task folder asks is same unfailed spares) e = absurd (omega (arith, e))
 read_status crashes words before now end (MakesNoDevice task folder fault asks is none_made same spares) e = cc (of_six (Setup fault) e)
 read_status crashes words before now end (IsUnopened task folder device fault asks is makes refuses same spares) e = cc (of_six (Store fault) e)
 read_status crashes words before now end (IsOver folder peer device first met asks opened files unheard served_so) e =
@@ -351,7 +351,7 @@ pub write_status : (crashes : Crashing) (words : List (List ℕ)) (before now : 
 write_status crashes words before now end (AreFaulty none same unharmed) e = absurd (omega (arith, e))
 write_status crashes words before now end (HasFailed task folder asks is rose same spares) e = absurd (omega (arith, e))
 write_status crashes words before now end (HasNoScript folder file device first asks opened rose same spares) e = absurd (omega (arith, e))
-write_status crashes words before now end (HasNoMemory task folder asks is same spares) e = absurd (omega (arith, e))
+write_status crashes words before now end (HasNoMemory task folder asks is same unfailed spares) e = absurd (omega (arith, e))
 write_status crashes words before now end (MakesNoDevice task folder fault asks is none_made same spares) e = absurd (of_seven (Setup fault) e)
 write_status crashes words before now end (IsUnopened task folder device fault asks is makes refuses same spares) e = absurd (of_seven (Store fault) e)
 write_status crashes words before now end (IsOver folder peer device first met asks opened files unheard served_so) e =
@@ -371,7 +371,7 @@ pub disk_status : (crashes : Crashing) (words : List (List ℕ)) (before now : O
 disk_status crashes words before now end (AreFaulty none same unharmed) e = absurd (omega (arith, e))
 disk_status crashes words before now end (HasFailed task folder asks is rose same spares) e = absurd (omega (arith, e))
 disk_status crashes words before now end (HasNoScript folder file device first asks opened rose same spares) e = absurd (omega (arith, e))
-disk_status crashes words before now end (HasNoMemory task folder asks is same spares) e = absurd (omega (arith, e))
+disk_status crashes words before now end (HasNoMemory task folder asks is same unfailed spares) e = absurd (omega (arith, e))
 disk_status crashes words before now end (MakesNoDevice task folder fault asks is none_made same spares) e = cc (of_eight (Setup fault) e)
 disk_status crashes words before now end (IsUnopened task folder device fault asks is makes refuses same spares) e =
     refuses.cause (cc (of_eight (Store fault) e))
@@ -389,7 +389,7 @@ pub files_status : (crashes : Crashing) (words : List (List ℕ)) (before now : 
 files_status crashes words before now end (AreFaulty none same unharmed) e = absurd (omega (arith, e))
 files_status crashes words before now end (HasFailed task folder asks is rose same spares) e = rose
 files_status crashes words before now end (HasNoScript folder file device first asks opened rose same spares) e = rose
-files_status crashes words before now end (HasNoMemory task folder asks is same spares) e = absurd (omega (arith, e))
+files_status crashes words before now end (HasNoMemory task folder asks is same unfailed spares) e = absurd (omega (arith, e))
 files_status crashes words before now end (MakesNoDevice task folder fault asks is none_made same spares) e = cc (of_thirteen (Setup fault) e)
 files_status crashes words before now end (IsUnopened task folder device fault asks is makes refuses same spares) e = cc (of_thirteen (Store fault) e)
 files_status crashes words before now end (IsOver folder peer device first met asks opened files unheard served_so) e = cc (of_thirteen (Session met) e)

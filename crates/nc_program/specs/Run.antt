@@ -80,7 +80,7 @@ pub data Runs (crashes : Crashing) (words : List (List ℕ)) (before now : Outsi
       → IsOpened before folder device first → Rose before.files.failed now.files.failed → NothingBut before now
       → Spares crashes before.files folder → Runs crashes words before now Files
   HasNoMemory : (task : Task) (folder : List ℕ) → Asks words task → IsIn folder task → NothingFailed before now
-      → Spares crashes before.files folder → Runs crashes words before now Memory
+      → now.disk.failed ≡ before.disk.failed → Spares crashes before.files folder → Runs crashes words before now Memory
   MakesNoDevice : (task : Task) (folder : List ℕ) (fault : SetupFault) → Asks words task → IsIn folder task
       → MakesNone before.files folder before.maker now.maker fault → now ≡ record before { maker = now.maker }
       → Spares crashes before.files folder → Runs crashes words before now (Setup fault)

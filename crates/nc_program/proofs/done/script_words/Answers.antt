@@ -44,6 +44,6 @@ returns g c = λ words left ends failed clock listener asks held known.
     (ground (filing (g.F.Files.files c.ready_of.new.files) (g.F.Files.faults c.ready_of.new.files)) (stored (g.D.Disk.seen c.args.disk) (g.D.Disk.faults c.args.disk)) (making (g.P.Maker.refusals c.ready_of.new.maker) (g.P.Maker.last_refused c.ready_of.new.maker)))
     (filing (g.F.Files.files c.text_of.new.files) (g.F.Files.faults c.text_of.new.files)) (stored (g.D.Disk.seen c.disk_of-in-Err-text_of.result) (g.D.Disk.faults c.disk_of-in-Err-text_of.result)) (streams left ends failed (g.K.Sink.taken c.args.sink.now) (g.K.Sink.faults c.args.sink.now)) clock listener
     c.in-Ok.ready.opened.machine.state c.in-Ok.ready.opened.schema.value c.in-Ok.ready.modules _ c.in-Err-text_of.end asks
-    c.in-Ok.ensures.ready c.in-Err-text_of.ensures
+    c.in-Ok.ensures.ready c.in-Err-text_of.ensures c.disk_of-in-Err-text_of.ensures.faults
     (spares_so g.D.Disk.seen g.D.Disk.may_leave g.D.Disk.moment g.D.Disk.left_since c.args.disk c.disk_of-in-Err-text_of.result (filing (g.F.Files.files c.args.files.now) (g.F.Files.faults c.args.files.now)) c.args.folder.now held
     (λ device makes. known_of words (filing (g.F.Files.files c.args.files.now) (g.F.Files.faults c.args.files.now)) (g.D.Disk.may_leave c.args.disk) (Script c.args.folder.now c.args.file.now) c.args.folder.now device asks (scripted c.args.file.now) makes held known) (given_back g.D.Disk.seen g.D.Disk.may_leave g.D.Disk.moment g.D.Disk.left_since c.args.disk c.in-Ok.ensures.ready.device c.in-Ok.ready.opened.machine c.in-Ok.ensures.ready.begun (times None 0) [] (filing (g.F.Files.files c.args.files.now) (g.F.Files.faults c.args.files.now)) c.args.folder.now c.disk_of-in-Err-text_of.result c.in-Ok.ensures.ready.makes c.disk_of-in-Err-text_of.ensures.disk))

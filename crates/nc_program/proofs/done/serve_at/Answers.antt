@@ -29,5 +29,6 @@ pub returns : goal.returns
 returns g c = (
   ap (λ l. listening (g.L.Listener.failed l) (g.L.Listener.over l)) c.in-Err.ensures.refused.1,
   ap (λ b. times (g.C.Clock.given b.1) (g.C.Clock.count b.1)) c.in-Err.ensures.refused.0,
+  c.disk_of.ensures.faults ∙ ap (λ b. b.0.state.faults) c.in-Err.ensures.refused.0,
   c.disk_of.ensures.disk ∙ ap (λ b. b.0.keeper.disk) c.in-Err.ensures.refused.0,
 )

@@ -13,7 +13,7 @@ use Rattle.nc_program.proofs.done.stdio_words.Goals as goal
 
 pub returns-in_default : goal.returns-in_default
 returns-in_default g c = λ words listener asks held known.
-    HasNoMemory (Stdio c.args.stdio.folder.now (record { user = c.args.stdio.user.now; groups = arguments (map string_bytes c.args.stdio.others.now); recovery = c.args.stdio.recovery })) c.args.stdio.folder.now asks (served (record { user = c.args.stdio.user.now; groups = arguments (map string_bytes c.args.stdio.others.now); recovery = c.args.stdio.recovery })) refl (Untouched (g.met.D.Disk.only_now c.args.disk))
+    HasNoMemory (Stdio c.args.stdio.folder.now (record { user = c.args.stdio.user.now; groups = arguments (map string_bytes c.args.stdio.others.now); recovery = c.args.stdio.recovery })) c.args.stdio.folder.now asks (served (record { user = c.args.stdio.user.now; groups = arguments (map string_bytes c.args.stdio.others.now); recovery = c.args.stdio.recovery })) refl refl (Untouched (g.met.D.Disk.only_now c.args.disk))
 
 pub returns-in-Err : goal.returns-in-Err
 returns-in-Err g c = λ words listener asks held known.

@@ -1,5 +1,5 @@
 -- What the words ask for, done at the server of a folder.
-use Rattle.std.proofs.Common.{◌≡◌, ◌≤◌, ◌+◌, ◌-◌, ◌^◌, ℕ, List, length, Option, Ok, Err, refl, sym, subst, ap, ◌∙◌}
+use Rattle.std.proofs.Common.{◌≡◌, ◌≤◌, ◌+◌, ◌-◌, ◌^◌, ℕ, List, [], length, Option, Ok, Err, refl, sym, subst, ap, ◌∙◌}
 use Rattle.std.specs.Prelude.{IfSome, min}
 use Rattle.nc_machine.specs.Lasting.{Lasting}
 use Rattle.nc_machine.specs.Seats.{Seat, TellsReadings}

@@ -336,7 +336,7 @@ script_failed first failed S found before now end (HasSteps text steps met is sc
 
 load_failed : (edits : ℕ) (m n : Making) (before now : Told) (end : RunEnd) → Loads edits m n before now end → status_of end ≡ 7
     → Rose before.failed now.failed
-load_failed edits m n before now (Script end) loads e = comes_failed _ _ loads.failed nothing_lasts _ before now end loads.comes e
+load_failed edits m n before now (Script end) loads e = comes_failed _ _ 0 nothing_lasts _ before now end loads.comes e
 load_failed edits m n before now (Setup fault) loads e = absurd (of_seven (Setup fault) e)
 load_failed edits m n before now Memory loads e = absurd (omega (arith, e))
 load_failed edits m n before now Words none e = absurd none

@@ -23,15 +23,14 @@ use Rattle.nc_words.specs.declared.end.ScriptEnd.TheVariants.{Done}
 -- a load test whose steps were done
 pub loaded : (edits : ℕ) (server : Server) (first : State) (failed : ℕ) (S : List Entry → Type 0) (steps : List ScriptStep)
     (run : ScriptRun) (m n : Making) (before now : Told) (printed : Printed) → IsSetup load_contents server
-    → first ≡ opening server.schema server.running 0 → steps ≡ load_steps edits → RunsAt first failed S steps (Ok run)
+    → first ≡ opening server.schema server.running 0 → failed ≡ 0 → steps ≡ load_steps edits → RunsAt first failed S steps (Ok run)
     → IsPrinted (load_line edits run) before now printed → Loads edits m n before now (Script (Done printed))
-loaded edits server first failed S steps run m n before now printed setup is steps_are runs wrote = record {
+loaded edits server first failed S steps run m n before now printed setup is unfailed steps_are runs wrote = record {
   server = server;
   setup = setup;
-  failed = failed;
   comes = (
     run,
-    subst (λ (z : State × List ScriptStep). RunsAt z.0 failed nothing_lasts z.1 (Ok run)) (λ i. (is i, steps_are i))
+    subst (λ (z : State × ℕ × List ScriptStep). RunsAt z.0 z.1 nothing_lasts z.2 (Ok run)) (λ i. (is i, unfailed i, steps_are i))
         (runs_so first failed S nothing_lasts steps (Ok run) (λ history made. tt) runs),
     wrote,
   );
@@ -40,14 +39,13 @@ loaded edits server first failed S steps run m n before now printed setup is ste
 -- and one whose steps were not
 pub not_loaded : (edits : ℕ) (server : Server) (first : State) (failed : ℕ) (S : List Entry → Type 0)
     (steps : List ScriptStep) (m n : Making) (now : Told) (end : ScriptEnd) → IsSetup load_contents server
-    → first ≡ opening server.schema server.running 0 → steps ≡ load_steps edits → RunsTo first failed S steps (Err end)
+    → first ≡ opening server.schema server.running 0 → failed ≡ 0 → steps ≡ load_steps edits → RunsTo first failed S steps (Err end)
     → Loads edits m n now now (Script end)
-not_loaded edits server first failed S steps m n now end setup is steps_are runs = record {
+not_loaded edits server first failed S steps m n now end setup is unfailed steps_are runs = record {
   server = server;
   setup = setup;
-  failed = failed;
-  comes = comes_so (load_line edits) (opening server.schema server.running 0) failed S nothing_lasts (load_steps edits)
+  comes = comes_so (load_line edits) (opening server.schema server.running 0) 0 S nothing_lasts (load_steps edits)
       now now end (λ history made. tt)
-      (not_done (load_line edits) (opening server.schema server.running 0) failed S (load_steps edits) now end
-      (subst (λ (z : State × List ScriptStep). RunsTo z.0 failed S z.1 (Err end)) (λ i. (is i, steps_are i)) runs));
+      (not_done (load_line edits) (opening server.schema server.running 0) 0 S (load_steps edits) now end
+      (subst (λ (z : State × ℕ × List ScriptStep). RunsTo z.0 z.1 S z.2 (Err end)) (λ i. (is i, unfailed i, steps_are i)) runs));
 }

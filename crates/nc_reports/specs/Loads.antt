@@ -38,13 +38,12 @@ load_contents = record {
 abbrev pub nothing_lasts : List Entry → Type 0
 nothing_lasts entries = Unit {0}
 
--- the script came to that, at the server of this device before its first event
+-- the script came to that, at the server of this device before its first event, whose keeper never fails
 pub record LoadsAt (edits : ℕ) (before now : Told) (end : ScriptEnd) : Type 0 where
   pub server : Server
   pub setup : IsSetup load_contents server
-  pub failed : ℕ
-  pub comes : Comes (load_line edits) (opening server.schema server.running 0) failed nothing_lasts (load_steps edits)
-      before now end
+  pub comes : Comes (load_line edits) (opening server.schema server.running 0) 0 nothing_lasts (load_steps edits) before
+      now end
 
 -- What a load test with so many edits came to: the script's end; or its device makes no server; or no memory was found
 -- for them.

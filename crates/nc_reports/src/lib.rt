@@ -13,6 +13,7 @@ mod count_words;
 mod load_test;
 mod output;
 mod script_file;
+mod steady;
 
 pub use check::{found_in, print};
 pub use count::Found;

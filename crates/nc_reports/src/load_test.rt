@@ -13,13 +13,13 @@ ghost use Rattle.nc_device.specs.Outside.{Making, making};
 
 use crate::count::write_load;
 use crate::script_file::do_steps;
+use crate::steady::Steady;
 use nc_machine::Machine;
 use nc_names::{Bytes, Copies, Many, Memory, Text};
 use nc_outside::Sink;
 use nc_patterns::Maker;
 use nc_script::load_script;
 use nc_setup::{Contents, Setup, set_up};
-use nc_tree::MemKeeper;
 use nc_words::{RunEnd, ScriptEnd, printed_by};
 use nc_yang_texts::ModuleText;
 use std::alloc::Global;
@@ -68,7 +68,7 @@ fn load_contents(alloc: Global) -> Result<Contents, Memory>
 }
 
 // A server in memory before its first event.
-fn machine_of(alloc: Global, setup: Setup) -> Result<Machine<MemKeeper>, Memory>
+fn machine_of(alloc: Global, setup: Setup) -> Result<Machine<Steady>, Memory>
     requires proper { IsProperSchema setup.schema }
     requires running { IsConfiguration setup.schema setup.running }
     requires valid { IsValid setup.schema setup.running }
@@ -77,11 +77,20 @@ fn machine_of(alloc: Global, setup: Setup) -> Result<Machine<MemKeeper>, Memory>
 {
     let Setup { schema, running } = setup;
     let schema = Arc::new(alloc, schema)?;
-    let keeper = MemKeeper::new(running.copy()?, Many::new(alloc));
+    let keeper = Steady {
+        base: running.copy()?,
+    };
     match Machine::begin(alloc, schema, running, keeper) {
         Ok(machine) => Ok(machine),
         Err(_) => Err(Memory),
     }
+}
+
+// Ends such a server. It has met no fault.
+fn end_machine(machine: Machine<Steady>)
+    ensures { machine.state.faults ≡ 0 }
+{
+    drop(machine.finish());
 }
 
 // Does the script at a server before its first event.
@@ -102,10 +111,14 @@ fn load_at<K: Sink>(alloc: Global, edits: u32, setup: Setup, sink: &mut K) -> Ru
     };
     match do_steps(alloc, &mut machine, steps.as_slice()) {
         Ok(run) => {
+            end_machine(machine);
             let end = ScriptEnd::Done(printed_by(write_load(sink, edits, &run)));
             RunEnd::Script(end)
         }
-        Err(end) => RunEnd::Script(end),
+        Err(end) => {
+            end_machine(machine);
+            RunEnd::Script(end)
+        }
     }
 }
 

@@ -4,6 +4,7 @@ pub mod IndexLemmas
 pub mod LowestLemmas
 pub mod OnceLemmas
 pub mod OrderLemmas
+pub mod RisingLemmas
 pub mod SearchLemmas
 pub mod SeenLemmas
 pub mod SelectLemmas

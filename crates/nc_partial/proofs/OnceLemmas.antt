@@ -40,7 +40,7 @@ kept_all : {X : Type 0} (test : X → Bool) (xs : List X) → ((x : X) → test 
 kept_all test [] each = refl
 kept_all test (x ∷ xs) each = (λ i. cond (each x i) (x ∷ kept_all test xs each i) (kept_all test xs each i))
 
-same_turned : (a b : List Step) → is_same_path a b ≡ is_same_path b a
+pub same_turned : (a b : List Step) → is_same_path a b ≡ is_same_path b a
 same_turned a b = by (is_same_path a b) (is_same_path b a)
     (λ is. same_itself b a (sym (same_path a b is))) (λ is. same_itself a b (sym (same_path b a is)))
   where

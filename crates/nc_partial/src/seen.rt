@@ -6,9 +6,12 @@ ghost use Rattle.nc_schema.specs.Blocks.{at_node};
 ghost use Rattle.nc_schema.specs.Kinds.{is_plain_container};
 ghost use Rattle.nc_schema.specs.Standing.{has_row};
 ghost use Rattle.nc_model.specs.Verdict as meant;
+ghost use Rattle.std.specs.Ordering.{is_lt};
 ghost use Rattle.nc_partial.specs.Selects.{nodes_seen, rows_seen};
+ghost use Rattle.nc_partial.specs.inner.Entries.{steps_cmp};
+ghost use Rattle.nc_partial.specs.inner.Rising.{rises};
 
-use nc_names::{Copies, Many, Memory, Path, Row};
+use nc_names::{Copies, Many, Memory, Path, Row, Step};
 use nc_protocol::Sees;
 use nc_schema::{Kind, Schema};
 use nc_tree::{Config, node_of};
@@ -89,6 +92,31 @@ fn among_seen<S: Sees>(
     Ok(kept)
 }
 
+// Whether the steps of a node come after others.
+fn comes_after(steps: &[Step], path: &Path) -> bool
+    ensures { result ≡ is_lt (steps_cmp steps.now path.now.steps) }
+{
+    steps.cmp(path.steps.as_slice()).is_lt()
+}
+
+// Whether each of the nodes comes after those before it, as they do in document order where the user orders
+// none of them.
+fn are_rising(paths: &[Path]) -> bool
+    ensures { result ≡ rises paths.now }
+{
+    let Some((first, more)) = paths.split_first() else {
+        return true;
+    };
+    let mut last = first.steps.as_slice();
+    for path in more {
+        if !comes_after(last, path) {
+            return false;
+        }
+        last = path.steps.as_slice();
+    }
+    true
+}
+
 // Each of the nodes once, where it stands first.
 #[tactic(auto, using(crate::proofs::OnceLemmas::again, crate::proofs::OnceLemmas::first, crate::proofs::OnceLemmas::all_once))]
 fn each_once(alloc: Global, paths: &[Path]) -> Result<Many<Path>, Memory>
@@ -107,8 +135,9 @@ fn each_once(alloc: Global, paths: &[Path]) -> Result<Many<Path>, Memory>
 }
 
 /// Those of the nodes that exist among the rows of a configuration that a user sees, each once, in their
-/// order. A container without presence exists where a row in it is seen (RFC 7950 7.5.1).
-#[tactic(auto, using(crate::proofs::SeenLemmas::once_seen))]
+/// order. A container without presence exists where a row in it is seen (RFC 7950 7.5.1). Nodes that rise are
+/// not looked up.
+#[tactic(auto, using(crate::proofs::SeenLemmas::once_seen, crate::proofs::RisingLemmas::risen_seen))]
 pub fn nodes_seen<S: Sees>(
     alloc: Global,
     schema: &Schema,
@@ -118,6 +147,9 @@ pub fn nodes_seen<S: Sees>(
 ) -> Result<Many<Path>, Memory>
     ensures { IfOk result (λ it. it ≡ nodes_seen schema.now (S.seen sees.now) rows.now paths.now) }
 {
+    if are_rising(paths) {
+        return among_seen(alloc, schema, sees, rows, paths);
+    }
     let nodes = each_once(alloc, paths)?;
     among_seen(alloc, schema, sees, rows, nodes.as_slice())
 }

@@ -156,3 +156,8 @@ module _ (test : Rule → Bool) (rules : List (Bor Rule)) (i : ℕ) where
 
   pub found_ends : (found : Option Rule) → length rules ≤ i → find test (drop i all) ≡ found → None ≡ found
   found_ends found past so = sym (ap (find test) (drop_all i all (omega (arith, long, past)))) ∙ so
+
+-- where none is found, none is found where they count
+pub none_where : {X : Type 0} (p : X → Bool) (counts : Bool) (xs : List X) → find p xs ≡ None → find p (cond counts xs []) ≡ None
+none_where p true xs none = none
+none_where p false xs none = refl

@@ -7,7 +7,7 @@ ghost use Rattle.nc_model.specs.Sight as sight;
 ghost use Rattle.nc_nacm.specs.inner.Reasons as reasons;
 
 use crate::applying::rules_for;
-use crate::index::{Index, first_place, index_of};
+use crate::index::{Index, first_place, index_for};
 use crate::made::{Made, Reason, decision_of};
 use crate::nodes::{data_denial, module_at, subject};
 use crate::plain::{data_default, first_steps, permitted, ruled};
@@ -20,15 +20,15 @@ use nc_tree::Config;
 use std::alloc::Global;
 use std::marker::Model;
 
-/// The access of one user to the data nodes of a schema. The rules that apply to the user are found once,
-/// with an index that tells which of them is the first that matches.
+/// The access of one user to the data nodes of a schema. The rules that apply to the user are found once, with
+/// an index that tells which of them is the first that matches, where many nodes are asked for.
 #[derive(Drop)]
 pub struct Access<'a> {
     schema: &'a Schema,
     policy: &'a Policy,
     peer: &'a Peer,
     rules: Many<&'a Rule>,
-    index: Index,
+    index: Option<Index>,
 }
 
 impl<'a> Model for Access<'a> {
@@ -57,18 +57,19 @@ fn rule_at<'a>(rules: &[&'a Rule], place: Option<usize>) -> Option<&'a Rule>
 }
 
 impl<'a> Access<'a> {
-    /// The access of a user.
+    /// The access of a user, for decisions on so many nodes at most; more cost more.
     pub(crate) fn of(
         alloc: Global,
         schema: &'a Schema,
         policy: &'a Policy,
         peer: &'a Peer,
+        nodes: u64,
     ) -> Result<Access<'a>, Memory>
         ensures { IfOk result (λ it. it
             ≡ record { tables = schema.now; policy = policy.now; peer = peer.now }) }
     {
         let rules = rules_for(alloc, policy, peer)?;
-        let index = index_of(alloc, rules.as_slice())?;
+        let index = index_for(alloc, rules.as_slice(), nodes)?;
         Ok(Access {
             schema,
             policy,

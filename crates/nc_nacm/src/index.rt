@@ -1,5 +1,5 @@
 //! The rules of a user about data nodes, by their module and pattern.
-ghost use Rattle.std.specs.Prelude.{◌≡◌, ◌++◌, ◌∷◌, [], Bool, List, IfOk, OnOk, IsTrue, length, map, unwrap_or};
+ghost use Rattle.std.specs.Prelude.{◌≡◌, ◌++◌, ◌∷◌, [], Bool, List, IfOk, IfSome, OnOk, IsTrue, length, map, unwrap_or};
 ghost use Rattle.std.specs.List.Sorted.{IsStrictlySortedBy};
 ghost use Rattle.std.specs.List.{position_from};
 ghost use Rattle.std.specs.Map.{keys_of};
@@ -16,6 +16,9 @@ use nc_model::{AccessOperations, Rule};
 use nc_names::{Many, Memory, Right, Step};
 use std::alloc::Global;
 use std::collections::{BTreeMap, BTreeSet};
+
+// For the decisions on so few nodes no index is made: it takes the time of as many.
+const FEW: u64 = 64;
 
 /// The first place, in a list of rules, of one that has each right.
 #[derive(Clone, Copy)]
@@ -213,6 +216,17 @@ pub(crate) fn index_of(alloc: Global, rules: &[&Rule]) -> Result<Index, Memory>
     Ok(Index { entries, shapes })
 }
 
+/// The index of some rules, for decisions on so many nodes at most; none where they are few.
+pub(crate) fn index_for(alloc: Global, rules: &[&Rule], nodes: u64) -> Result<Option<Index>, Memory>
+    ensures { IfOk result (λ it. IfSome it (IsIndex (map (λ rule. rule.now) rules.now))) }
+{
+    if nodes <= FEW {
+        return Ok(None);
+    }
+    let index = index_of(alloc, rules)?;
+    Ok(Some(index))
+}
+
 /// What is at the key that is sought for a path.
 fn found(
     entries: &[(Key, Places)],
@@ -307,10 +321,10 @@ fn first_of_all(rules: &[&Rule], name: &str, steps: &[Step], right: Right) -> Op
     None
 }
 
-/// The place of the first rule that is about the node to which the steps lead, of the module of that name,
-/// and about the right. A look-up of a shape takes the time of some dozen rules, so all rules are asked
-/// where there are too many shapes for their number.
-pub(crate) fn first_place(
+// The place of the first rule that is about the node to which the steps lead, of the module of that name,
+// and about the right. A look-up of a shape takes the time of some dozen rules, so all rules are asked
+// where there are too many shapes for their number.
+fn first_indexed(
     rules: &[&Rule],
     index: &Index,
     name: &str,
@@ -325,4 +339,23 @@ pub(crate) fn first_place(
         return first_of_all(rules, name, steps, right);
     }
     first_by_shapes(rules, index, name, steps, right)
+}
+
+/// The place of the first rule that is about the node to which the steps lead, of the module of that name,
+/// and about the right. Where there is no index each rule is asked.
+pub(crate) fn first_place(
+    rules: &[&Rule],
+    index: &Option<Index>,
+    name: &str,
+    steps: &[Step],
+    right: Right,
+) -> Option<usize>
+    requires { IfSome index.now (IsIndex (map (λ rule. rule.now) rules.now)) }
+    ensures { result ≡ position_from (matches_under name.now steps.now right) 0
+        (map (λ rule. rule.now) rules.now) }
+{
+    match index {
+        Some(index) => first_indexed(rules, index, name, steps, right),
+        None => first_of_all(rules, name, steps, right),
+    }
 }

@@ -1,6 +1,6 @@
 //! Decisions by a walk along all rules.
 ghost use Rattle.std.specs.Prelude.{◌≡◌, ◌≤◌, ◌∷◌, [], IfOk, option_map, length, map, take};
-ghost use Rattle.std.specs.List.{find};
+ghost use Rattle.std.specs.List.{find, flat_map};
 ghost use Rattle.std.specs.Option.{option_copied};
 ghost use Rattle.nc_model.specs.Decision as decisions;
 ghost use Rattle.nc_model.specs.Sight as sight;
@@ -27,7 +27,8 @@ fn first_in<'a, A: Asked>(list: &'a RuleList, asked: &A) -> Option<&'a Rule>
         .find(|rule| asked.is_matched_by(rule))
 }
 
-/// The first rule of a rule-list that matches, where the rule-list applies to the user.
+// The first rule of a rule-list that matches, where the rule-list applies to the user. Of most lists none matches:
+// so whether one applies, for which each of its groups is looked at, is asked last.
 fn first_of<'a, A: Asked>(
     policy: &Policy,
     peer: &Peer,
@@ -37,25 +38,39 @@ fn first_of<'a, A: Asked>(
     ensures { option_copied result
         ≡ find (A.matches asked.now) (decisions.rules_in policy.now peer.now list.now) }
 {
+    let Some(rule) = first_in(list, asked) else {
+        return None;
+    };
     if !applies(policy, peer, list) {
         return None;
     }
-    first_in(list, asked)
+    Some(rule)
 }
 
-/// The first rule that matches, of the rule-lists that apply to the user.
-fn first_rule<'a, A: Asked>(policy: &'a Policy, peer: &Peer, asked: &A) -> Option<&'a Rule>
-    ensures { option_copied result ≡ find (A.matches asked.now) (decisions.rules_for policy.now peer.now) }
+// The first rule that matches, of the rule-lists that apply to the user.
+fn first_applying<'a, A: Asked>(policy: &'a Policy, peer: &Peer, asked: &A) -> Option<&'a Rule>
+    ensures { option_copied result ≡ find (A.matches asked.now)
+        (flat_map (decisions.rules_in policy.now peer.now) policy.now.lists) }
 {
-    if !is_in_some_group(policy, peer) {
-        return None;
-    }
     for list in policy.lists.as_slice() {
         if let Some(rule) = first_of(policy, peer, list, asked) {
             return Some(rule);
         }
     }
     None
+}
+
+// The same, where the user is in a group.
+fn first_rule<'a, A: Asked>(policy: &'a Policy, peer: &Peer, asked: &A) -> Option<&'a Rule>
+    ensures { option_copied result ≡ find (A.matches asked.now) (decisions.rules_for policy.now peer.now) }
+{
+    let Some(rule) = first_applying(policy, peer, asked) else {
+        return None;
+    };
+    if !is_in_some_group(policy, peer) {
+        return None;
+    }
+    Some(rule)
 }
 
 /// Access is permitted, for that reason.

@@ -98,7 +98,8 @@ impl Policy {
     ) -> Result<Config, Memory>
         ensures { IfOk result (λ it. it ≡ sight.visible_rows schema.now self.now peer.now config.now) }
     {
-        self.access(alloc, schema, peer)?.visible(alloc, config)
+        self.access_to(alloc, schema, peer, config.len())?
+            .visible(alloc, config)
     }
 
     /// The access of a user to the data nodes of a schema. It takes memory for each rule that applies to the
@@ -112,6 +113,21 @@ impl Policy {
         ensures { IfOk result (λ it. it
             ≡ record { tables = schema.now; policy = self.now; peer = peer.now }) }
     {
-        Access::of(alloc, schema, &self.plain, peer)
+        self.access_to(alloc, schema, peer, u64::MAX)
+    }
+
+    /// The same for decisions on so many nodes at most. For a few of them no index of the rules is made, which
+    /// takes longer than to ask each rule; where more are asked for than that, each takes the time of all rules.
+    pub fn access_to<'a>(
+        &'a self,
+        alloc: Global,
+        schema: &'a Schema,
+        peer: &'a Peer,
+        nodes: u64,
+    ) -> Result<Access<'a>, Memory>
+        ensures { IfOk result (λ it. it
+            ≡ record { tables = schema.now; policy = self.now; peer = peer.now }) }
+    {
+        Access::of(alloc, schema, &self.plain, peer, nodes)
     }
 }

@@ -1,5 +1,5 @@
 -- What an `Access` holds besides whose access it is.
-use Rattle.std.specs.Prelude.{◌≡◌, List, map}
+use Rattle.std.specs.Prelude.{◌≡◌, List, Option, IfSome, map}
 use Rattle.std.proofs.Common.{Bor}
 use Rattle.nc_model.specs.Decision.{rules_for}
 use Rattle.nc_protocol.specs.declared.peer.Peer.{Peer}
@@ -8,6 +8,6 @@ use Rattle.nc_model.specs.declared.policy.Rule.{Rule}
 use Rattle.nc_nacm.specs.declared.index.Index.{Index}
 use Rattle.nc_nacm.specs.inner.Found.{IsIndex}
 
-pub record IsReady (policy : Policy) (peer : Peer) (rules : List (Bor Rule)) (index : Index) : Type 0 where
+pub record IsReady (policy : Policy) (peer : Peer) (rules : List (Bor Rule)) (index : Option Index) : Type 0 where
   pub rules_are : map (λ (rule : Bor Rule). rule.now) rules ≡ rules_for policy peer
-  pub indexed : IsIndex (map (λ (rule : Bor Rule). rule.now) rules) index
+  pub indexed : IfSome index (IsIndex (map (λ (rule : Bor Rule). rule.now) rules))

@@ -1,17 +1,11 @@
-use Rattle.std.proofs.Common.{ap, sym, ◌∙◌, arith}
-use Rattle.std.specs.List.{find}
+use Rattle.std.proofs.Common.{ap, sym, ◌∙◌}
+use Rattle.std.specs.List.{flat_map}
 use Rattle.std.specs.Option.{option_copied}
-use Rattle.nc_model.specs.Decision.{rules_in, rules_for}
-use Rattle.nc_nacm.proofs.Steps.{goes_on, stops}
+use Rattle.nc_model.specs.Decision.{is_in_some_group, rules_in}
+use Rattle.nc_nacm.proofs.Firsts.{none_where}
 use Rattle.nc_nacm.proofs.plain.first_rule.Goals as goal
 
-pub returns-in-Some : goal.returns-in-Some
-returns-in-Some g c =
-    stops (g.A.Asked.matches c.args.asked.now) (rules_in c.args.policy.now c.args.peer.now) c.as_slice-list-items.result.now _ c.list-item.result
-    (find (g.A.Asked.matches c.args.asked.now) (rules_for c.args.policy.now c.args.peer.now)) _ (omega arith) c.list-item.is (sym c.in-Some.ensures) c.loop-list.invariant
-
-pub loop-list-preserved : goal.loop-list-preserved
-loop-list-preserved g c =
-    goes_on (g.A.Asked.matches c.args.asked.now) (rules_in c.args.policy.now c.args.peer.now) c.as_slice-list-items.result.now _ c.list-item.result
-    (find (g.A.Asked.matches c.args.asked.now) (rules_for c.args.policy.now c.args.peer.now)) (omega arith) c.list-item.is
-    (sym c.first_of.ensures ∙ ap option_copied c.in_default.is) c.loop-list.invariant
+pub returns-in_default : goal.returns-in_default
+returns-in_default g c =
+    sym (none_where (g.A.Asked.matches c.args.asked.now) (is_in_some_group c.args.policy.now c.args.peer.now)
+    (flat_map (rules_in c.args.policy.now c.args.peer.now) c.args.policy.now.lists) (sym c.first_applying.ensures ∙ ap option_copied c.in_default.is))

@@ -7,7 +7,7 @@ ghost use Rattle.nc_protocol.specs.Attributes as meant;
 ghost use Rattle.nc_payload.specs.inner.Reads.{meaning};
 ghost use Rattle.nc_protocol.specs.Payload.{reading_of};
 
-use crate::causes::{cause_in, two_names};
+use crate::causes::two_names;
 use crate::elements::{Named, is_key, one_text, steps_to};
 use crate::texts::{canonical, canonical_entry};
 use crate::words;
@@ -320,7 +320,7 @@ fn attribute_cause(
         meant.attribute_cause (reading_of schema.now) at.now (meaning named.entry) attr.now kind) }
 {
     let steps = steps_to(alloc, schema, at, named)?;
-    Ok(cause_in(
+    Ok(Cause::inside(
         kind,
         steps,
         two_names(alloc, &attr.name.name, &named.elem.name.name)?,

@@ -1,30 +1,8 @@
-//! Causes of faults in a payload.
+//! The names in causes of faults in a payload.
 ghost use Rattle.std.specs.Prelude.{◌≡◌, ◌∷◌, [], IfOk};
-ghost use Rattle.nc_protocol.specs.Attributes as meant;
 
-use nc_names::{CauseKind, Copies, Many, Memory, Path, Step, Text};
-use nc_protocol::Cause;
+use nc_names::{Copies, Many, Memory, Text};
 use std::alloc::Global;
-
-fn path_of(steps: Many<Step>) -> Option<Path>
-    ensures { result ≡ meant.path_of steps }
-{
-    if steps.is_empty() {
-        return None;
-    }
-    Some(Path { steps })
-}
-
-/// A cause at a node; at the top it has no path.
-pub(crate) fn cause_in(kind: CauseKind, steps: Many<Step>, names: Many<Text>) -> Cause
-    ensures { result ≡ meant.cause_in kind steps names }
-{
-    Cause {
-        kind,
-        path: path_of(steps),
-        names,
-    }
-}
 
 /// The one name of a cause.
 pub(crate) fn one_name(alloc: Global, name: &Text) -> Result<Many<Text>, Memory>

@@ -9,7 +9,7 @@ ghost use Rattle.nc_payload.specs.inner.Reads.{meaning};
 ghost use Rattle.nc_protocol.specs.Payload.{reading_of};
 
 use crate::attributes::{attributes_fault, operation_of};
-use crate::causes::{cause_in, one_name, two_names};
+use crate::causes::{one_name, two_names};
 use crate::earlier::Earlier;
 use crate::elements::{
     Named, first_child, has_child, has_text, is_dropped, is_key, named_part, remember, step_of,
@@ -60,7 +60,7 @@ fn shape_fault(
     let bad = has_bad_content(named.node.kind, &named.elem.parts);
     let clash = has_clash(schema, at.under, named.node, &step, earlier);
     if bad || clash {
-        return Ok(Some(cause_in(
+        return Ok(Some(Cause::inside(
             CauseKind::BadElement,
             at.above.copy()?,
             one_name(alloc, &named.elem.name.name)?,
@@ -112,7 +112,7 @@ fn value_fault(
     if value_in(alloc, schema, named)?.is_some() {
         return Ok(None);
     }
-    Ok(Some(cause_in(
+    Ok(Some(Cause::inside(
         CauseKind::BadValue,
         steps_to(alloc, schema, at, named)?,
         Many::new(alloc),
@@ -198,7 +198,7 @@ fn missing_key(
 {
     for key in named.node.keys.as_slice() {
         if first_child(schema, named, *key).is_none() {
-            return Ok(Some(cause_in(
+            return Ok(Some(Cause::inside(
                 CauseKind::MissingKey,
                 steps_to(alloc, schema, at, named)?,
                 local_name(alloc, schema, *key)?,
@@ -298,13 +298,13 @@ pub(crate) fn unknown_cause(
     ensures { IfOk result (λ it. it ≡ meant.unknown_cause schema.now above.now name.now) }
 {
     if is_known_space(schema, &name.space) {
-        return Ok(cause_in(
+        return Ok(Cause::inside(
             CauseKind::UnknownElement,
             above.copy()?,
             one_name(alloc, &name.name)?,
         ));
     }
-    Ok(cause_in(
+    Ok(Cause::inside(
         CauseKind::UnknownNamespace,
         above.copy()?,
         two_names(alloc, &name.name, &name.space)?,

@@ -465,8 +465,9 @@ pub(crate) fn in_order(
     let Gathered {
         base: _,
         rows,
-        seen: _,
+        seen,
         next: _,
     } = so_far;
+    drop(seen);
     Ok(Some(rows_in(alloc, rows)?))
 }

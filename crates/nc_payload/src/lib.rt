@@ -23,5 +23,5 @@ mod payload_paths;
 mod texts;
 mod words;
 
-pub use payload::{PayloadFault, edits, rows};
+pub use payload::{PayloadFault, edits, rows, rows_of};
 pub use payload_paths::Names;

@@ -113,17 +113,21 @@ fn with_action(
     )
 }
 
-/// The configuration of the rows that merges leave, made one after another, from nothing.
+/// The configuration of the rows that merges leave, made one after another, from nothing. The merges are let
+/// go before it is made of the rows: there may be many.
 pub(crate) fn config_merged(
     alloc: Global,
     schema: &Schema,
-    merges: &Many<Edit>,
+    merges: Many<Edit>,
 ) -> Result<Config, Memory>
-    ensures { IfOk result (λ it. it ≡ meant.rows_merged schema.now merges.now) }
+    ensures { IfOk result (λ it. it ≡ meant.rows_merged schema.now merges) }
 {
-    match in_order(alloc, schema, merges)? {
-        Some(rows) => Config::from_rows(rows),
-        None => one_by_one(alloc, schema, merges),
+    match in_order(alloc, schema, &merges)? {
+        Some(rows) => {
+            drop(merges);
+            Config::from_rows(rows)
+        }
+        None => one_by_one(alloc, schema, &merges),
     }
 }
 

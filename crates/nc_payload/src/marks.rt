@@ -107,13 +107,13 @@ pub(crate) fn marks_of(
 ) -> Result<Many<Mark>, Memory>
     ensures { IfOk result (λ it. it ≡ meant.marks schema.now (meant.turn_of turns.now) steps.now) }
 {
-    let mut marks = Many::new(alloc);
-    let mut above = Many::new(alloc);
+    let mut marks = Vec::with_capacity(alloc, steps.len())?;
+    let mut above = Many::from_vec(Vec::with_capacity(alloc, steps.len())?);
     let mut at = None;
     for step in steps.as_slice() {
         above.push(step.copy()?)?;
         marks.push(mark_of(alloc, schema, turns, at, &above, step)?)?;
         at = Some(step.node);
     }
-    Ok(marks)
+    Ok(Many::from_vec(marks))
 }

@@ -2,10 +2,11 @@
 ghost use Rattle.std.specs.Prelude.{◌≡◌, [], ◌∷◌};
 ghost use Rattle.nc_protocol.specs.Payload as meant;
 ghost use Rattle.nc_protocol.specs.Payload.{elem_edits, part_edits, list_edits};
+ghost use Rattle.nc_protocol.specs.declared.position.Under.TheVariants.{Inline};
 ghost use Rattle.nc_payload.specs.inner.Reads.{Answers};
 ghost use Rattle.nc_protocol.specs.Payload.{reading_of};
 
-use crate::causes::{cause_in, one_name};
+use crate::causes::one_name;
 use crate::earlier::Earlier;
 use crate::elements::{has_text, remember};
 use crate::made::{config_merged, made_from};
@@ -104,7 +105,7 @@ pub(crate) fn config_edits(
 {
     if has_text(&config.parts) {
         let names = one_name(alloc, &config.name.name)?;
-        return Err(PayloadFault::Bad(cause_in(CauseKind::BadElement, Many::new(alloc), names)));
+        return Err(PayloadFault::Bad(Cause::inside(CauseKind::BadElement, Many::new(alloc), names)));
     }
     let top = Position {
         above: Many::new(alloc),
@@ -156,5 +157,25 @@ pub fn rows(alloc: Global, schema: &Schema, config: &Elem) -> Result<Config, Pay
     ensures { Answers (meant.rows_of schema.now config.now) result }
 {
     let merges = config_edits(alloc, schema, Under::Inline, config)?;
-    Ok(config_merged(alloc, schema, &merges)?)
+    Ok(config_merged(alloc, schema, merges)?)
+}
+
+// The merges of an inline configuration, which is let go.
+fn merges_of(alloc: Global, schema: &Schema, config: Elem) -> Result<Many<Edit>, PayloadFault>
+    ensures { Answers (meant.config_edits (reading_of schema.now) Inline config) result }
+{
+    config_edits(alloc, schema, Under::Inline, &config)
+}
+
+/// The same of an inline configuration that is let go as soon as it is read, before its rows are made: of a
+/// large one they do not stand side by side.
+///
+/// # Errors
+///
+/// `Bad` with the first fault in document order.
+pub fn rows_of(alloc: Global, schema: &Schema, config: Elem) -> Result<Config, PayloadFault>
+    ensures { Answers (meant.rows_of schema.now config) result }
+{
+    let merges = merges_of(alloc, schema, config)?;
+    Ok(config_merged(alloc, schema, merges)?)
 }

@@ -94,6 +94,17 @@ fn push_rows(body: &mut Bytes, rows: &[&Row]) -> Result<(), Memory>
     Ok(())
 }
 
+// How much room rows take, with what comes before them. Nothing rests on it but time and memory.
+fn room_for(rows: &[&Row]) -> usize {
+    let mut room = HEAD as usize;
+    for row in rows {
+        room = room
+            .saturating_add(ROW_HEAD as usize)
+            .saturating_add(text_of(*row).len());
+    }
+    room
+}
+
 /// The body of a record of a configuration, whose size is within the limit. The value of each row is a text.
 #[tactic(auto, using(crate::proofs::Sizes::few_rows, crate::proofs::Sizes::short_values))]
 pub fn whole(alloc: Global, config: &Config) -> Result<Bytes, Memory>
@@ -101,9 +112,11 @@ pub fn whole(alloc: Global, config: &Config) -> Result<Bytes, Memory>
     ensures body { IfOk result (λ it. it ≡ record_body config.now) }
     ensures texts { IfOk result (λ _. AreTexts config.now) }
 {
-    let mut body = Bytes::new(alloc);
+    let all = config.rows(alloc)?;
+    let rows = all.as_slice();
+    let mut body = Bytes::from_vec(Vec::with_capacity(alloc, room_for(rows))?);
     body.push(WHOLE)?;
     push_number(&mut body, config.len() as u32)?;
-    push_rows(&mut body, config.rows(alloc)?.as_slice())?;
+    push_rows(&mut body, rows)?;
     Ok(body)
 }

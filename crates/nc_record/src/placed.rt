@@ -22,12 +22,8 @@ fn last_steps(rows: &Many<Row>) -> &[Step]
     }
 }
 
-/// The rows of a data tree, by what their records tell.
-pub(crate) fn placed(
-    alloc: Global,
-    schema: &Schema,
-    spelled: &[Spelled],
-) -> Result<Many<Row>, Memory>
+// The rows of a data tree, by what their records tell.
+fn rows_placed(alloc: Global, schema: &Schema, spelled: &[Spelled]) -> Result<Many<Row>, Memory>
     requires { IsProperSchema schema.now }
     ensures { (rows : List Row) → IsDataTree schema.now rows → spelled.now ≡ map spelled_of rows →
         IfOk result (λ it. it ≡ rows) }
@@ -40,4 +36,17 @@ pub(crate) fn placed(
         left = more;
     }
     Ok(rows)
+}
+
+/// The rows of a data tree, by what their records tell. These are let go: there may be many.
+pub(crate) fn placed(
+    alloc: Global,
+    schema: &Schema,
+    spelled: Many<Spelled>,
+) -> Result<Many<Row>, Memory>
+    requires { IsProperSchema schema.now }
+    ensures { (rows : List Row) → IsDataTree schema.now rows → spelled ≡ map spelled_of rows →
+        IfOk result (λ it. it ≡ rows) }
+{
+    rows_placed(alloc, schema, spelled.as_slice())
 }

@@ -33,8 +33,8 @@ fn meant(alloc: Global, schema: &Schema, body: &[u8]) -> Result<Config, RecordFa
     ensures same { (rows : List Row) → IsRead schema.now body.now rows → Gives (λ it. it ≡ rows) result }
 {
     let spelled = rows_in(alloc, schema.nodes(), records(body))?;
-    let rows = placed(alloc, schema, spelled.as_slice())?;
-    read_back(alloc, schema, rows.as_slice())
+    let rows = placed(alloc, schema, spelled)?;
+    read_back(alloc, schema, rows)
 }
 
 fn are_same(one: &[u8], other: &[u8]) -> bool

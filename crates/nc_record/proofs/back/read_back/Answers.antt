@@ -7,8 +7,8 @@ returns-in-Ok-clause-is c = back_is c.args.schema.now c.in_ok-config.config c.in
 
 pub returns-in-Ok-clause-same : goal.returns-in-Ok-clause-same
 returns-in-Ok-clause-same c = λ configuration.
-    back_same c.args.schema.now c.in_ok-config.config c.args.given.now c.in-Ok.config c.printed_rows_are_read_back.ensures c.requires c.in_ok-config.ensures c.in-Ok.ensures configuration
+    back_same c.args.schema.now c.in_ok-config.config c.args.given c.in-Ok.config c.printed_rows_are_read_back.ensures c.requires c.in_ok-config.ensures c.in-Ok.ensures configuration
 
 pub returns-in-Err-Bad-clause-same : goal.returns-in-Err-Bad-clause-same
 returns-in-Err-Bad-clause-same c = λ configuration.
-    back_bad c.args.schema.now c.in_ok-config.config c.args.given.now _ c.printed_rows_are_read_back.ensures c.requires c.in_ok-config.ensures (rw c.in-Err-Bad.field-0-is at c.in-Err-Bad.ensures) configuration
+    back_bad c.args.schema.now c.in_ok-config.config c.args.given _ c.printed_rows_are_read_back.ensures c.requires c.in_ok-config.ensures (rw c.in-Err-Bad.field-0-is at c.in-Err-Bad.ensures) configuration

@@ -4,4 +4,4 @@ use Rattle.nc_record.specs.Reading.{AreTexts}
 use Rattle.nc_record.proofs.body.whole.Goals as goal
 
 pub returns-clause-texts : goal.returns-clause-texts
-returns-clause-texts c = subst AreTexts (ap (λ (rows : List (Bor Row)). map (λ (r : Bor Row). r.now) rows) c.as_slice.ensures ∙ c.in_ok-rows.ensures) c.in_ok-push_rows.ensures.texts
+returns-clause-texts c = subst AreTexts (ap (λ (rows : List (Bor Row)). map (λ (r : Bor Row). r.now) rows) c.as_slice-rows.ensures ∙ c.in_ok-all.ensures) c.in_ok-push_rows.ensures.texts

@@ -1,4 +1,4 @@
-use Rattle.std.proofs.Common.{◌≡◌, ◌∙◌, ap, sym, subst, List, map}
+use Rattle.std.proofs.Common.{◌≡◌, ◌∙◌, sym, subst, List, map}
 use Rattle.std.proofs.lemmas.Result.{err_from_is_err_and}
 use Rattle.nc_names.specs.declared.path.Row.{Row}
 use Rattle.nc_schema.specs.Configuration.{IsConfiguration}
@@ -17,6 +17,5 @@ returns-in_err-spelled-clause-same c = λ rows it.
 pub returns-clause-same : goal.returns-clause-same
 returns-clause-same c = λ rows it.
     let found : c.in_ok-spelled.spelled ≡ map spelled_of rows = c.in_ok-spelled.ensures rows (all_fit c.args.schema.now c.args.body.now rows c.nodes.result c.nodes.ensures.number it) (c.records.ensures ∙ records_are c.args.schema.now c.args.body.now rows it) in
-    let placed : c.in_ok-rows.rows ≡ rows = c.in_ok-rows.ensures rows it.spells.configuration.tree (c.as_slice.ensures ∙ found) in
-    let given : c.as_slice-2.result.now ≡ rows = c.as_slice-2.ensures ∙ placed in
-    gives_same c.as_slice-2.result.now rows c.read_back.result given (c.read_back.ensures.same (subst (IsConfiguration c.args.schema.now) (sym given) it.spells.configuration))
+    let placed : c.in_ok-rows.rows ≡ rows = c.in_ok-rows.ensures rows it.spells.configuration.tree found in
+    gives_same c.in_ok-rows.rows rows c.read_back.result placed (c.read_back.ensures.same (subst (IsConfiguration c.args.schema.now) (sym placed) it.spells.configuration))

@@ -32,12 +32,13 @@ impl<'a> Model for Reach<'a> {
         ≡ record { tables = r.schema.now; policy = r.policy.now; peer = r.peer.now }) };
 }
 
-// An index of the rules, where something may be denied.
+// An index of the rules, where something may be denied, for so many decisions at most.
 fn index<'a>(
     alloc: Global,
     schema: &'a Schema,
     policy: &'a Policy,
     peer: &'a Peer,
+    nodes: u64,
 ) -> Result<Option<Access<'a>>, Memory>
     ensures { IfOk result (λ it. IfSome it (λ access. access
         ≡ record { tables = schema.now; policy = policy.now; peer = peer.now })) }
@@ -45,21 +46,22 @@ fn index<'a>(
     if policy.is_open(peer) {
         return Ok(None);
     }
-    Ok(Some(policy.access(alloc, schema, peer)?))
+    Ok(Some(policy.access_to(alloc, schema, peer, nodes)?))
 }
 
 impl<'a> Reach<'a> {
-    /// The access of a session, for much that is asked.
+    /// The access of a session, for so many decisions at most: of each more it takes the time of all rules.
     pub fn of(
         alloc: Global,
         schema: &'a Schema,
         policy: &'a Policy,
         peer: &'a Peer,
+        nodes: u64,
     ) -> Result<Reach<'a>, Memory>
         ensures { IfOk result (λ it. it
             ≡ record { tables = schema.now; policy = policy.now; peer = peer.now }) }
     {
-        let index = index(alloc, schema, policy, peer)?;
+        let index = index(alloc, schema, policy, peer, nodes)?;
         Ok(Reach {
             schema,
             policy,

@@ -15,8 +15,14 @@ use nc_courses::{Change, Reach, changes_denied, exec_denied};
 use nc_model::Session;
 use nc_nacm::Policy;
 use nc_names::{Copies, Memory};
-use nc_protocol::{Cause, Operation, Peer};
+use nc_protocol::{Cause, Changes, Operation, Peer};
 use nc_tree::Config;
+
+// How many nodes are changed. Nothing rests on it but time.
+fn count(changes: &Changes) -> u64 {
+    let some = changes.created.len().saturating_add(changes.updated.len());
+    some.saturating_add(changes.deleted.len()) as u64
+}
 
 fn has_number(session: &Session, number: u32) -> bool
     ensures { result ≡ (session.now.number == number) }
@@ -54,8 +60,8 @@ impl Server {
         self.policy().is_open(self.peer(session))
     }
 
-    /// The access of a session to data nodes, for much that is asked.
-    pub(crate) fn reach(&self, session: u32) -> Result<Reach<'_>, Memory>
+    /// The access of a session to data nodes, for so many decisions at most.
+    pub(crate) fn reach(&self, session: u32, nodes: u64) -> Result<Reach<'_>, Memory>
         ensures { IfOk result (λ it. it ≡ viewer_of self.now session) }
     {
         Reach::of(
@@ -63,6 +69,7 @@ impl Server {
             self.schema(),
             self.policy(),
             self.peer(session),
+            nodes,
         )
     }
 
@@ -118,8 +125,8 @@ impl Server {
         if self.is_open(session) {
             return Ok(None);
         }
-        let reach = self.reach(session)?;
         let changes = changes(self.alloc(), self.schema(), before, after)?;
+        let reach = self.reach(session, count(&changes))?;
         let denied = changes_denied(self.alloc(), &reach, &changes)?;
         Ok(denied)
     }

@@ -29,7 +29,7 @@ impl Server {
         ensures { IfOk result (λ it. it ≡ viewer_of self.now session) }
     {
         if has_many_causes(verdict) {
-            return self.reach(session);
+            return self.reach(session, u64::MAX);
         }
         Ok(self.plain_reach(session))
     }

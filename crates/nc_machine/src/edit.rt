@@ -95,7 +95,7 @@ impl Server {
             let causes = apply_freely(self.alloc(), self.schema(), rows, edits, on_error)?;
             return Ok(causes);
         }
-        let rights = self.reach(session)?;
+        let rights = self.reach(session, u64::MAX)?;
         let causes = apply(self.alloc(), self.schema(), rows, edits, on_error, &rights)?;
         Ok(causes)
     }

@@ -240,7 +240,7 @@ impl Server {
     fn paths_course(&self, session: u32, paths: Many<Path>) -> Result<Course, Memory>
         ensures { IfOk result (λ it. it ≡ course.selects_course self.now session (Some paths)) }
     {
-        let reach = self.reach(session)?;
+        let reach = self.reach(session, u64::MAX)?;
         let nodes = nodes_seen(
             self.alloc(),
             self.schema(),

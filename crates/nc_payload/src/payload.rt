@@ -105,7 +105,11 @@ pub(crate) fn config_edits(
 {
     if has_text(&config.parts) {
         let names = one_name(alloc, &config.name.name)?;
-        return Err(PayloadFault::Bad(Cause::inside(CauseKind::BadElement, Many::new(alloc), names)));
+        return Err(PayloadFault::Bad(Cause::inside(
+            CauseKind::BadElement,
+            Many::new(alloc),
+            names,
+        )));
     }
     let top = Position {
         above: Many::new(alloc),

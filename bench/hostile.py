@@ -56,8 +56,9 @@ def long_namespaces(by):
     space, count = "u" * (1_900_000 // by), 160_000 // by
     bound = f' xmlns:p="{space}"'
     elements = "".join(f"<p:a{at}/>" for at in range(count))
-    yield f"{count:,} elements of a filter in a namespace of {len(space):,} octets", USERS, None, [], [get_config(top("users", elements, bound))]
-    matches = "".join(f"<p:a{at}>b</p:a{at}>" for at in range(count // 2))
+    yield (f"{count:,} elements of a filter in a namespace of {len(space):,} octets", USERS, None, [],
+           [f"<get><filter{bound}>{elements}</filter></get>"])
+    matches = "<name>u100001</name>" * 4 + "".join(f"<p:a{at}>b</p:a{at}>" for at in range(count // 2))
     yield (f"{count // 2:,} content matches in it", USERS, users(100), [],
            [get_config(top("users", f"<user>{matches}</user>", bound))])
     attributes = "".join(f' p:a{at}=""' for at in range(count))

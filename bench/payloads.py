@@ -88,8 +88,6 @@ def get_config(content=None):
 
 # ---- sessions
 
-MOST_MEMORY = 8 << 30
-
 def session(framing, requests):
     """The text of a session that asks for these."""
     parts = [f'<hello xmlns="{BASE}"><capabilities><capability>urn:ietf:params:netconf:base:1.{framing}</capability>'
@@ -125,7 +123,8 @@ def read_to(stream, end, number):
 class Ran:
     """A session that is over, on a device without a store: its seconds of processor time, the peak of memory in kB, the bytes
     that it wrote, how many errors they have, the line of a refused run, and whether it was ended, after `limit` seconds of
-    processor time. It has 8 GB of memory at most. It is a recovery session, to which no rule applies, unless the device's access control is asked for."""
+    processor time. Where memory ends the kernel ends it first. It is a recovery session, to which no rule applies, unless the
+    device's access control is asked for."""
 
     def __init__(self, program, folder, requests=(), framing=0, limit=3600, governed=False):
         if os.path.exists(f"{folder}/running.nc"):
@@ -135,7 +134,8 @@ class Ran:
         writer = threading.Thread(target=send, args=(run.stdin, session(framing, requests)))
         writer.start()
         resource.prlimit(run.pid, resource.RLIMIT_CPU, (limit, limit))
-        resource.prlimit(run.pid, resource.RLIMIT_DATA, (MOST_MEMORY, MOST_MEMORY))
+        with open(f"/proc/{run.pid}/oom_score_adj", "w") as first:
+            first.write("1000")
         text = read_to(run.stdout, b"</rpc-reply>", len(requests)) if requests else read_to(run.stdout, b"</hello>", 1)
         writer.join()
         memory = 0

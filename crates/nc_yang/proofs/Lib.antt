@@ -24,6 +24,9 @@ pub mod SameTypes
 pub mod SameDepths
 pub mod SamePlans
 pub mod Never
+pub mod TypedefLemmas
+pub mod JudgedLemmas
+pub mod SuitedLemmas
 pub mod One
 pub mod TextReasons
 pub mod TypeReasons

@@ -20,6 +20,7 @@ use Rattle.nc_yang_nodes.specs.Plans.{IsPlan}
 use Rattle.nc_yang_nodes.specs.Roles.{FeatureTest}
 use Rattle.nc_yang_nodes.specs.Supported.{AreOn}
 use Rattle.nc_yang_nodes.specs.declared.planned.Plan.{Plan}
+use Rattle.nc_yang_nodes.specs.Alike.{AreAlike}
 use Rattle.nc_yang_nodes.proofs.Alike.{plans_alike}
 use Rattle.nc_yang_nodes.proofs.Lawful.{no_fault}
 use Rattle.nc_yang_identities.specs.Picks.{Picks, none, passed, picked}
@@ -31,11 +32,10 @@ use Rattle.nc_yang_data.proofs.AlikeLemmas.{faults_alike, tables_alike}
 use Rattle.nc_yang_meanings.specs.Faults.{KeepsTypes}
 use Rattle.nc_yang_leafs.specs.Bases.{AllMeanWhole, Basis, type_of}
 use Rattle.nc_yang_leafs.specs.Conditions.{holds}
-use Rattle.nc_yang_leafs.specs.Faults.{BreaksLeafref}
 use Rattle.nc_yang_leafs.specs.Patterns.{without_patterns}
 use Rattle.nc_yang_leafs.specs.Typings.{HasTypings, IsTyped, NameEach}
 use Rattle.nc_yang_leafs.proofs.PatternLemmas.{NamesNone, bare_typings}
-use Rattle.nc_yang_circles.specs.Circles.{BreaksCircle, HasNoCircle}
+use Rattle.nc_yang_circles.specs.Circles.{HasNoCircle}
 use Rattle.nc_yang_defaults.specs.Defaults.{BreaksDefault, KeepsDefaults}
 use Rattle.nc_yang_defaults.specs.Readings.{value_of}
 use Rattle.nc_yang_defaults.proofs.AlikeLemmas.{TakesAlike, canonical_alike, defaults_kept, keep_alike, path_tables, value_alike}
@@ -43,13 +43,15 @@ use Rattle.nc_yang.specs.Access.{in_file}
 use Rattle.nc_yang.specs.Depths.{BreaksDepth, KeepsDepth, depth_fault, too_deep_at}
 use Rattle.nc_yang.specs.Features.{is_given}
 use Rattle.nc_yang.specs.Laws.{NeverBoth}
-use Rattle.nc_yang.specs.Schemas.{AreNames, Breaks, BreaksPlan, BreaksSchema, Defines, GivesSchema, IsBegun, IsSchemaOf, basis, by_pattern, circle, deep, default, identity_name, ill_typed, in_place, in_plan, in_schema, leafref, past, text, unread}
+use Rattle.nc_yang.specs.Schemas.{AreNames, Breaks, BreaksBare, BreaksPlan, BreaksSchema, BreaksTypedefs, Defines, GivesSchema, IsBareOf, IsBegun, IsSchemaOf, KeepsTypedefs, basis, basis_of, by_pattern, by_types, circle, deep, default, identity_name, ill_typed, in_place, in_plan, in_schema, leafref, of_typedef, past, text, unread}
+use Rattle.nc_yang.specs.Typedefs.{IsJudged, typedef_plan, typedef_tables, typedefs}
 use Rattle.nc_yang.proofs.DataTypes.{data_types_mean}
 use Rattle.nc_yang.proofs.Reading.{have_one_way, have_or_faulty}
 use Rattle.nc_yang.proofs.LeafTypes.{LeafAt, leaf_at, leaf_there, leafs_end, no_path_lost, nodes_paired, paths_as_given}
 use Rattle.nc_yang.proofs.SameDepths.{deep_alike}
 use Rattle.nc_yang.proofs.SamePlans.{circle_here, deep_here, default_here, lost_here, typed_here}
 use Rattle.nc_yang.proofs.SameTypes.{Both, Kinds, nodes_take, whole_alike}
+use Rattle.nc_yang.proofs.TypedefLemmas.{tables_same, typedefs_alike, typedefs_mean}
 
 -- ---- identities are picked in one way
 picks_one : {A : Type 0} (P : A → Type 0) (xs ys zs : List A) → Picks P xs ys → Picks P xs zs → ys ≡ zs
@@ -108,9 +110,9 @@ module _ (scoping : Scoping) (on : FeatureTest) where
   abbrev derived : List Located → List QName → Type 0
   derived = AreNames scoping on
 
-  module _ (plan : Plan) (whole : AllMeanWhole (basis scoping on plan)) where
+  module _ (plan : Plan) (given : Tables) (whole : AllMeanWhole (basis_of scoping on plan given)) where
     abbrev stands_on : Basis
-    stands_on = basis scoping on plan
+    stands_on = basis_of scoping on plan given
 
     module _ (t u : Tables) (named other : List ℕ → List Located → Type 0) (one : HasTypings derived named stands_on t) (two : HasTypings derived other stands_on u)
         (agree : (ns ms : List ℕ) (ps : List Located) → named ns ps → other ms ps → (text : List ℕ) → admits_each t.patterns ns text ≡ admits_each u.patterns ms text) where
@@ -156,6 +158,39 @@ module _ (scoping : Scoping) (on : FeatureTest) where
         defaults_keep : (fault : TextFault) → KeepsDefaults scoping plan t → BreaksDefault scoping plan u fault → ⊥
         defaults_keep fault good bad = keep_alike scoping plan t u fault values_same (nodes_paired derived named other stands_on t u one two) good bad
 
+    -- data nodes whose types keep all rules break none
+    bare_broken : (t : Tables) → IsBareOf scoping on plan given t → (found : TextFault) → BreaksBare scoping on plan given found → ⊥
+    bare_broken t good _ (circle found h) = good.straight found h
+    bare_broken t good _ (leafref found h) = no_path_lost derived (NameEach t.patterns) stands_on t good.types found h
+    bare_broken t good _ (deep found typed straight is h) =
+        depths_keep (without_patterns t) (without_patterns typed) NamesNone NamesNone (bare_typings derived (NameEach t.patterns) stands_on t good.types)
+        (bare_typings derived (NameEach typed.patterns) stands_on typed is) (none_agree [] []) found good.shallow h
+    bare_broken t good _ (default found typed straight is h) =
+        defaults_keep (without_patterns t) (without_patterns typed) NamesNone NamesNone (bare_typings derived (NameEach t.patterns) stands_on t good.types)
+        (bare_typings derived (NameEach typed.patterns) stands_on typed is) (none_agree [] []) good.straight found good.defaults h
+
+  -- rules that such a plan breaks are broken by one that is like it
+  module _ (one other : Plan) (alike : AreAlike scoping one other) (given : Tables) where
+    bare_here : HasNoCircle (basis_of scoping on one given) → (found : TextFault) → BreaksBare scoping on other given found → BreaksBare scoping on one given found
+    bare_here straight _ (circle found h) = circle found (circle_here scoping one other alike (holds scoping.texts on) given found h)
+    bare_here straight _ (leafref found h) = leafref found (lost_here scoping one other alike (holds scoping.texts on) given found h)
+    bare_here straight _ (deep found typed also is h) =
+        deep found typed straight (typed_here scoping one other alike (holds scoping.texts on) given derived (NameEach typed.patterns) typed is)
+        (deep_here scoping one other alike (without_patterns typed) found h)
+    bare_here straight _ (default found typed also is h) =
+        default found typed straight (typed_here scoping one other alike (holds scoping.texts on) given derived (NameEach typed.patterns) typed is)
+        (default_here scoping one other alike (without_patterns typed) found h)
+
+  -- ---- typedefs that are judged
+  module _ (keeps : KeepsTexts scoping.texts) (types : KeepsTypes (holds scoping.texts on) scoping.texts) (good : KeepsTypedefs scoping on) where
+    typedef_broken : (found : TextFault) → BreaksTypedefs scoping on found → ⊥
+    typedef_broken found bad =
+        let same : bad.are.0 ≡ good.are.0 = picks_one (IsJudged (holds scoping.texts on) scoping.texts) (typedefs scoping.texts) bad.are.0 good.are.0 bad.are.2 good.are.2 in
+        let numbers : map (slice_get scoping.located) good.numbers ≡ map (slice_get scoping.located) bad.numbers = good.are.1 ∙ sym (ap (map Some) same) ∙ sym bad.are.1 in
+        bare_broken (typedef_plan good.numbers) (typedef_tables good.numbers) (typedefs_mean (holds scoping.texts on) scoping keeps types good.numbers good.are) good.typed good.bare found
+        (bare_here (typedef_plan good.numbers) (typedef_plan bad.numbers) (typedefs_alike scoping good.numbers bad.numbers numbers) (typedef_tables good.numbers) good.bare.straight found
+        (subst (λ g. BreaksBare scoping on (typedef_plan bad.numbers) g found) (sym (tables_same scoping good.numbers bad.numbers numbers)) bad.breaks))
+
   -- ---- a schema of a plan, and rules that another plan of the same modules breaks
   module _ (keeps : KeepsTexts scoping.texts) (types : KeepsTypes (holds scoping.texts on) scoping.texts) (plan : Plan) (planned : IsPlan scoping on plan)
       (tables : Tables) (schema : IsSchemaOf scoping on plan tables) where
@@ -182,31 +217,18 @@ module _ (scoping : Scoping) (on : FeatureTest) where
 
       plan_broken : (found : TextFault) → BreaksPlan scoping on other found → ⊥
       plan_broken _ (in_place found h) = no_fault_in_place found h
-      plan_broken _ (circle found clean h) =
-          schema.is.straight found
-          (circle_here scoping plan other (plans_alike scoping on plan other planned also) (holds scoping.texts on) (data_tables scoping on plan) found
-          (subst (λ z. BreaksCircle (other_on z) found) same_tables h))
-      plan_broken _ (leafref found clean h) =
-          no_path_lost derived (NameEach schema.typed.patterns) (basis scoping on plan) schema.typed schema.is.types found
-          (lost_here scoping plan other (plans_alike scoping on plan other planned also) (holds scoping.texts on) (data_tables scoping on plan) found
-          (subst (λ z. BreaksLeafref (other_on z) found) same_tables h))
-      plan_broken _ (deep found typed clean straight is h) =
-          depths_keep plan whole (without_patterns schema.typed) (without_patterns typed) NamesNone NamesNone
-          (bare_typings derived (NameEach schema.typed.patterns) (basis scoping on plan) schema.typed schema.is.types)
-          (bare_typings derived (NameEach typed.patterns) (basis scoping on plan) typed (here typed is)) (none_agree [] []) found schema.is.shallow
-          (deep_here scoping plan other (plans_alike scoping on plan other planned also) (without_patterns typed) found h)
-      plan_broken _ (default found typed clean straight is h) =
-          defaults_keep plan whole (without_patterns schema.typed) (without_patterns typed) NamesNone NamesNone
-          (bare_typings derived (NameEach schema.typed.patterns) (basis scoping on plan) schema.typed schema.is.types)
-          (bare_typings derived (NameEach typed.patterns) (basis scoping on plan) typed (here typed is)) (none_agree [] []) schema.is.straight found schema.is.defaults
-          (default_here scoping plan other (plans_alike scoping on plan other planned also) (without_patterns typed) found h)
+      plan_broken _ (by_types found clean h) =
+          bare_broken plan (data_tables scoping on plan) whole schema.typed schema.is.bare found
+          (bare_here plan other (plans_alike scoping on plan other planned also) (data_tables scoping on plan) schema.is.bare.straight found
+          (subst (λ z. BreaksBare scoping on other z found) same_tables h))
       plan_broken _ (by_pattern found typed is h) =
-          defaults_keep plan whole schema.typed typed (NameEach schema.typed.patterns) (NameEach typed.patterns) schema.is.types (here typed is.types)
-          (each_agree schema.typed.patterns typed.patterns) schema.is.straight found (defaults_kept scoping plan schema.typed tables schema.defaults)
+          defaults_keep plan (data_tables scoping on plan) whole schema.typed typed (NameEach schema.typed.patterns) (NameEach typed.patterns) schema.is.bare.types (here typed is.bare.types)
+          (each_agree schema.typed.patterns typed.patterns) schema.is.bare.straight found (defaults_kept scoping plan schema.typed tables schema.defaults)
           (default_here scoping plan other (plans_alike scoping on plan other planned also) typed found h)
 
   schema_broken : (tables : Tables) → KeepsTexts scoping.texts → GivesSchema scoping on tables → (found : TextFault) → BreaksSchema scoping on found → ⊥
   schema_broken tables keeps g _ (ill_typed found h) = g.types found.text found.fault h
+  schema_broken tables keeps g _ (of_typedef found types h) = typedef_broken keeps g.types g.typedefs found h
   schema_broken tables keeps g _ (past found h) = no_fault scoping on g.plan found g.planned h
   schema_broken tables keeps g _ (in_plan plan found types planned h) = plan_broken keeps types g.plan g.planned tables g.is plan planned found h
 

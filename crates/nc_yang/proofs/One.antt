@@ -38,20 +38,20 @@ module _ (scoping : Scoping) (on : FeatureTest) (keeps : KeepsTexts scoping.text
       let given_same : data_tables scoping on other ≡ data_tables scoping on plan = sym (tables_alike scoping on plan other alike) in
       let here : IsTyped (AreNames scoping on) (basis scoping on plan) z.typed =
       typed_here scoping plan other alike (holds scoping.texts on) (data_tables scoping on plan) (AreNames scoping on) (NameEach z.typed.patterns) z.typed
-      (subst (λ g. IsTyped (AreNames scoping on) (record { on = holds scoping.texts on; scoping = scoping; plan = other; given = g }) z.typed) given_same z.is.types) in
+      (subst (λ g. IsTyped (AreNames scoping on) (record { on = holds scoping.texts on; scoping = scoping; plan = other; given = g }) z.typed) given_same z.is.bare.types) in
       let well = defaults_here scoping plan other alike z.typed two z.defaults in
-      let ready = is_ready scoping on plan planned (AreNames scoping on) (NameEach s.typed.patterns) s.typed s.is.types whole in
+      let ready = is_ready scoping on plan planned (AreNames scoping on) (NameEach s.typed.patterns) s.typed s.is.bare.types whole in
       let also_ready = is_ready scoping on plan planned (AreNames scoping on) (NameEach z.typed.patterns) z.typed here whole in
       record {
-        modules = s.defaults.modules ∙ s.is.types.modules ∙ sym here.modules ∙ sym well.modules;
-        choices = s.defaults.choices ∙ s.is.types.choices ∙ sym here.choices ∙ sym well.choices;
+        modules = s.defaults.modules ∙ s.is.bare.types.modules ∙ sym here.modules ∙ sym well.modules;
+        choices = s.defaults.choices ∙ s.is.bare.types.choices ∙ sym here.choices ∙ sym well.choices;
         nodes =
             outcomes_alike scoping plan s.typed z.typed one two ready also_ready s.defaults well
-            (values_same scoping on plan whole s.typed z.typed (NameEach s.typed.patterns) (NameEach z.typed.patterns) s.is.types here (each_agree s.typed.patterns z.typed.patterns) s.is.straight)
-            (pair_at (AreNames scoping on) (NameEach s.typed.patterns) (NameEach z.typed.patterns) (basis scoping on plan) s.typed z.typed s.is.types here);
+            (values_same scoping on plan (data_tables scoping on plan) whole s.typed z.typed (NameEach s.typed.patterns) (NameEach z.typed.patterns) s.is.bare.types here (each_agree s.typed.patterns z.typed.patterns) s.is.bare.straight)
+            (pair_at (AreNames scoping on) (NameEach s.typed.patterns) (NameEach z.typed.patterns) (basis scoping on plan) s.typed z.typed s.is.bare.types here);
         values = λ number text bounds.
             canonical_kept scoping plan s.typed one ready s.defaults number text bounds
-            ∙ texts_same scoping on plan whole s.typed z.typed (NameEach s.typed.patterns) (NameEach z.typed.patterns) s.is.types here (each_agree s.typed.patterns z.typed.patterns) s.is.straight number text bounds
+            ∙ texts_same scoping on plan (data_tables scoping on plan) whole s.typed z.typed (NameEach s.typed.patterns) (NameEach z.typed.patterns) s.is.bare.types here (each_agree s.typed.patterns z.typed.patterns) s.is.bare.straight number text bounds
             ∙ sym (canonical_kept scoping plan z.typed two also_ready well number text bounds);
       }
 

@@ -25,19 +25,19 @@ use Rattle.nc_yang_nodes.specs.declared.features.Features.{Features}
 use Rattle.nc_yang_nodes.specs.declared.planned.Plan.{Plan}
 use Rattle.nc_yang_data.specs.Data.{data_faults, data_tables}
 use Rattle.nc_yang_meanings.specs.Faults.{BreaksTypes, KeepsTypes}
-use Rattle.nc_yang_leafs.specs.Bases.{AllMeanWhole, basis_on}
+use Rattle.nc_yang_leafs.specs.Bases.{AllMeanWhole}
 use Rattle.nc_yang_leafs.specs.Conditions.{holds}
 use Rattle.nc_yang_leafs.specs.Faults.{BreaksLeafref}
 use Rattle.nc_yang_leafs.specs.Patterns.{AreTypings, HasPatterns, Refusals, RefusesType}
 use Rattle.nc_yang_leafs.specs.declared.bare.Typed.{Typed}
 use Rattle.nc_yang_leafs.proofs.PatternLemmas.{patterns_left_out, refused_in_use, stated_typed, with_patterns_typed}
-use Rattle.nc_yang_circles.specs.Circles.{BreaksCircle, HasNoCircle, JudgesCircles}
+use Rattle.nc_yang_circles.specs.Circles.{BreaksCircle, HasNoCircle}
 use Rattle.nc_yang_defaults.specs.Defaults.{BreaksDefault, HasDefaults, KeepsDefaults}
 use Rattle.nc_yang_defaults.specs.Typed.{IsTyped as IsReady}
 use Rattle.nc_yang.specs.Access.{HaveStatements, in_file}
 use Rattle.nc_yang.specs.Depths.{BreaksDepth, KeepsDepth}
 use Rattle.nc_yang.specs.Features.{is_given}
-use Rattle.nc_yang.specs.Schemas.{AreNames, BreaksSchema, Defines, GivesNone, GivesSchema, IsBegun, IsSchemaOf, IsTypedOf, RefusesSchema, basis, by_pattern, circle, deep, default, ill_typed, in_place, in_plan, in_schema, leafref, past, text, unread}
+use Rattle.nc_yang.specs.Schemas.{AreNames, BreaksSchema, BreaksTypedefs, Defines, GivesNone, GivesSchema, IsBegun, IsSchemaOf, IsTypedOf, KeepsTypedefs, RefusesSchema, basis, basis_of, by_pattern, by_types, circle, deep, default, ill_typed, in_place, in_plan, in_schema, leafref, of_typedef, past, text, unread}
 use Rattle.nc_yang.specs.inner.Finishing.{Ends, Finishes, GivesNoSchema, GivesNothing, broken, refused, too_deep, unsuited}
 use Rattle.nc_yang.specs.inner.Stops.{IsInFile, OnFile}
 
@@ -52,26 +52,25 @@ pub meaning_stops : (scoping : Scoping) (on : FeatureTest) (refusals : Refusals)
 meaning_stops scoping on refusals (Broken found) b = inl (ill_typed found b)
 meaning_stops scoping on refusals Memory b = tt
 
+pub typedef_stops : (scoping : Scoping) (on : FeatureTest) (refusals : Refusals) → KeepsTypes (holds scoping.texts on) scoping.texts → (met : Stop TextFault) → OnBroken (BreaksTypedefs scoping on) met
+    → OnBroken (GivesNothing scoping on refusals) met
+typedef_stops scoping on refusals types (Broken found) b = inl (of_typedef found types b)
+typedef_stops scoping on refusals types Memory b = tt
+
 pub plan_stops : (scoping : Scoping) (on : FeatureTest) (refusals : Refusals) (met : Stop TextFault) → OnBroken (IsFirstPast scoping on) met → OnBroken (GivesNothing scoping on refusals) met
 plan_stops scoping on refusals (Broken found) b = inl (past found b)
 plan_stops scoping on refusals Memory b = tt
 
 -- ---- what stands on the tables of a plan
-pub judged : (scoping : Scoping) (on : FeatureTest) (plan : Plan) (given : Tables) (it : Option TextFault) → given ≡ data_tables scoping on plan
-    → JudgesCircles (basis_on (holds scoping.texts on) scoping plan given) it → JudgesCircles (basis scoping on plan) it
-judged scoping on plan given it is h = subst (λ (t : Tables). JudgesCircles (basis_on (holds scoping.texts on) scoping plan t) it) is h
-
 pub all_mean : (scoping : Scoping) (on : FeatureTest) (plan : Plan) (given : Tables) → given ≡ data_tables scoping on plan
-    → AllMeanWhole (basis scoping on plan) → AllMeanWhole (basis_on (holds scoping.texts on) scoping plan given)
-all_mean scoping on plan given is h = subst (λ (t : Tables). AllMeanWhole (basis_on (holds scoping.texts on) scoping plan t)) (sym is) h
+    → AllMeanWhole (basis scoping on plan) → AllMeanWhole (basis_of scoping on plan given)
+all_mean scoping on plan given is h = subst (λ (t : Tables). AllMeanWhole (basis_of scoping on plan t)) (sym is) h
 
-pub types_on : (scoping names : Scoping) (on : FeatureTest) (plan : Plan) (given : Tables) → given ≡ data_tables scoping on plan → names ≡ scoping
-    → (result : Result Typed (Stop TextFault))
-    → MatchResult result (AreTypings (AreNames names on) (basis_on (holds scoping.texts on) scoping plan given)) (OnBroken (BreaksLeafref (basis_on (holds scoping.texts on) scoping plan given)))
-    → MatchResult result (AreTypings (AreNames scoping on) (basis scoping on plan)) (OnBroken (BreaksLeafref (basis scoping on plan)))
-types_on scoping names on plan given is named result h =
-    subst (λ (s : Scoping). MatchResult result (AreTypings (AreNames s on) (basis scoping on plan)) (OnBroken (BreaksLeafref (basis scoping on plan)))) named
-    (subst (λ (t : Tables). MatchResult result (AreTypings (AreNames names on) (basis_on (holds scoping.texts on) scoping plan t)) (OnBroken (BreaksLeafref (basis_on (holds scoping.texts on) scoping plan t)))) is h)
+pub types_on : (scoping names : Scoping) (on : FeatureTest) (plan : Plan) (given : Tables) → names ≡ scoping → (result : Result Typed (Stop TextFault))
+    → MatchResult result (AreTypings (AreNames names on) (basis_of scoping on plan given)) (OnBroken (BreaksLeafref (basis_of scoping on plan given)))
+    → MatchResult result (AreTypings (AreNames scoping on) (basis_of scoping on plan given)) (OnBroken (BreaksLeafref (basis_of scoping on plan given)))
+types_on scoping names on plan given named result h =
+    subst (λ (s : Scoping). MatchResult result (AreTypings (AreNames s on) (basis_of scoping on plan given)) (OnBroken (BreaksLeafref (basis_of scoping on plan given)))) named h
 
 pub no_types : (scoping : Scoping) (on : FeatureTest) (plan : Plan) (given : Tables) → given ≡ data_tables scoping on plan → (given.types ≡ []) × (given.patterns ≡ [])
 no_types scoping on plan given is = (ap (λ (t : Tables). t.types) is, ap (λ (t : Tables). t.patterns) is)
@@ -79,12 +78,12 @@ no_types scoping on plan given is = (ap (λ (t : Tables). t.types) is, ap (λ (t
 -- ---- what comes of a plan
 pub leafref_stops : (scoping : Scoping) (on : FeatureTest) (plan : Plan) (refusals : Refusals) → data_faults scoping on plan ≡ [] → (stop : Stop TextFault) → OnBroken (BreaksLeafref (basis scoping on plan)) stop
     → OnBroken (GivesNoSchema scoping on plan refusals) stop
-leafref_stops scoping on plan refusals kept (Broken found) b = inl (leafref found kept b)
+leafref_stops scoping on plan refusals kept (Broken found) b = inl (by_types found kept (leafref found b))
 leafref_stops scoping on plan refusals kept Memory b = tt
 
 pub circle_stops : (scoping : Scoping) (on : FeatureTest) (plan : Plan) (refusals : Refusals) → data_faults scoping on plan ≡ [] → (stop : Stop TextFault) → OnBroken (BreaksCircle (basis scoping on plan)) stop
     → OnBroken (GivesNoSchema scoping on plan refusals) stop
-circle_stops scoping on plan refusals kept (Broken found) b = inl (circle found kept b)
+circle_stops scoping on plan refusals kept (Broken found) b = inl (by_types found kept (circle found b))
 circle_stops scoping on plan refusals kept Memory b = tt
 
 -- the schema with its types as they were found, and what its defaults and patterns come to
@@ -93,24 +92,31 @@ module _ (scoping : Scoping) (on : FeatureTest) (plan : Plan) (typed : Typed) (r
   of_patterns : (tables : Tables) → HasPatterns scoping.located typed tables → KeepsDepth scoping plan typed.schema → KeepsDefaults scoping plan typed.schema → IsTypedOf scoping on plan tables
   of_patterns tables has shallow keeps = record {
     keeps = kept;
-    straight = none;
-    types = with_patterns_typed (AreNames scoping on) (basis scoping on plan) typed are tables has;
-    shallow = subst (KeepsDepth scoping plan) (sym (patterns_left_out (AreNames scoping on) (basis scoping on plan) typed are tables has)) shallow;
-    defaults = subst (KeepsDefaults scoping plan) (sym (patterns_left_out (AreNames scoping on) (basis scoping on plan) typed are tables has)) keeps;
+    bare =
+        record {
+          straight = none;
+          types = with_patterns_typed (AreNames scoping on) (basis scoping on plan) typed are tables has;
+          shallow = subst (KeepsDepth scoping plan) (sym (patterns_left_out (AreNames scoping on) (basis scoping on plan) typed are tables has)) shallow;
+          defaults = subst (KeepsDefaults scoping plan) (sym (patterns_left_out (AreNames scoping on) (basis scoping on plan) typed are tables has)) keeps;
+        };
   }
 
   ends : (found : TextFault) → Ends scoping plan typed refusals found → GivesNoSchema scoping on plan refusals found
   ends _ (too_deep found h) =
       let t = stated_typed (AreNames scoping on) (basis scoping on plan) typed are in
-      inl (deep found t.0 kept none t.1 (subst (λ z. BreaksDepth scoping plan z found) (sym t.2) h))
+      inl (by_types found kept (deep found t.0 none t.1 (subst (λ z. BreaksDepth scoping plan z found) (sym t.2) h)))
   ends _ (broken found h) =
       let t = stated_typed (AreNames scoping on) (basis scoping on plan) typed are in
-      inl (default found t.0 kept none t.1 (subst (λ z. BreaksDefault scoping plan z found) (sym t.2) h))
+      inl (by_types found kept (default found t.0 none t.1 (subst (λ z. BreaksDefault scoping plan z found) (sym t.2) h)))
   ends _ (refused found shallow keeps h) =
       let t = stated_typed (AreNames scoping on) (basis scoping on plan) typed are in
       inr (record {
         typed = t.0;
-        is = record { keeps = kept; straight = none; types = t.1; shallow = subst (KeepsDepth scoping plan) (sym t.2) shallow; defaults = subst (KeepsDefaults scoping plan) (sym t.2) keeps };
+        is =
+            record {
+              keeps = kept;
+              bare = record { straight = none; types = t.1; shallow = subst (KeepsDepth scoping plan) (sym t.2) shallow; defaults = subst (KeepsDefaults scoping plan) (sym t.2) keeps };
+            };
         refused = refused_in_use (AreNames scoping on) (basis scoping on plan) typed are refusals found h;
       })
   ends _ (unsuited found patterned shallow keeps has h) = inl (by_pattern found patterned (of_patterns patterned has shallow keeps) h)
@@ -160,13 +166,13 @@ pub on_by : (scoping : Scoping) (lines : List (List ℕ)) (given : Features) →
 on_by scoping lines given same result h =
     subst (λ (f : FeatureTest). IfOk result (λ it. AreOn scoping f (is_on it))) (λ i text feature. same text feature i) h
 
-pub plans : (scoping : Scoping) (on : FeatureTest) (plan : Plan) (refusals : Refusals) → KeepsTypes (holds scoping.texts on) scoping.texts → IsPlan scoping on plan
+pub plans : (scoping : Scoping) (on : FeatureTest) (plan : Plan) (refusals : Refusals) → KeepsTypes (holds scoping.texts on) scoping.texts → KeepsTypedefs scoping on → IsPlan scoping on plan
     → (result : Result Tables (Stop TextFault)) → MatchResult result (IsSchemaOf scoping on plan) (OnBroken (GivesNoSchema scoping on plan refusals))
     → MatchResult result (GivesSchema scoping on) (OnBroken (GivesNothing scoping on refusals))
-plans scoping on plan refusals types planned (Ok tables) h = record { types = types; plan = plan; planned = planned; is = h }
-plans scoping on plan refusals types planned (Err (Broken found)) (inl h) = inl (in_plan plan found types planned h)
-plans scoping on plan refusals types planned (Err (Broken found)) (inr h) = inr (record { types = types; plan = plan; planned = planned; refuses = h })
-plans scoping on plan refusals types planned (Err Memory) h = tt
+plans scoping on plan refusals types typedefs planned (Ok tables) h = record { types = types; typedefs = typedefs; plan = plan; planned = planned; is = h }
+plans scoping on plan refusals types typedefs planned (Err (Broken found)) (inl h) = inl (in_plan plan found types planned h)
+plans scoping on plan refusals types typedefs planned (Err (Broken found)) (inr h) = inr (record { types = types; typedefs = typedefs; plan = plan; planned = planned; refuses = h })
+plans scoping on plan refusals types typedefs planned (Err Memory) h = tt
 
 pub text_stops : (modules : List ModuleText) (lines : List (List ℕ)) (refusals : Refusals) (roots : List Statement) → HaveStatements modules roots → (stop : Stop TextFault) → OnBroken (BreaksText roots) stop
     → OnBroken (OnFile (GivesNone modules lines refusals)) stop

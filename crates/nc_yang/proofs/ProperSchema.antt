@@ -100,10 +100,10 @@ module _ (scoping : Scoping) (on : FeatureTest) (plan : Plan) (tables : Tables) 
   whole = data_types_mean (holds scoping.texts on) scoping on plan keeps types planned
 
   ready : IsReady scoping plan is.typed
-  ready = is_ready scoping on plan planned (AreNames scoping on) (NameEach is.typed.patterns) is.typed is.is.types whole
+  ready = is_ready scoping on plan planned (AreNames scoping on) (NameEach is.typed.patterns) is.typed is.is.bare.types whole
 
   first : AreAlike given is.typed
-  first = given_alike scoping on plan is.typed is.is.types
+  first = given_alike scoping on plan is.typed is.is.bare.types
 
   second : AreAlike is.typed tables
   second = typed_alike scoping plan is.typed tables ready is.defaults
@@ -130,7 +130,7 @@ module _ (scoping : Scoping) (on : FeatureTest) (plan : Plan) (tables : Tables) 
   schema_is_proper =
       proper_of (modules_are_proper scoping on plan keeps)
       (still_in_place is.typed tables second (still_in_place given is.typed first (in_place scoping on plan planned is.is.keeps)))
-      (types_proper scoping on plan is.typed is.is.types keeps whole)
+      (types_proper scoping on plan is.typed is.is.bare.types keeps whole)
 
   pub defaults_are_canonical_in : HasCanonicalDefaults tables
   defaults_are_canonical_in = outcome_canonical scoping plan is.typed tables ready is.defaults

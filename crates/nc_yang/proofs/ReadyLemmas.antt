@@ -33,7 +33,7 @@ use Rattle.nc_yang_leafs.specs.Typings.{HasItsType, HasTypings, IsSameNode}
 use Rattle.nc_yang_scopes.specs.Numbers.{AreNumbers}
 use Rattle.nc_yang_defaults.specs.Sources.{Defined, IsDefined}
 use Rattle.nc_yang_defaults.specs.Typed.{HasMeaning, IsTyped as IsReady}
-use Rattle.nc_yang.specs.Schemas.{basis}
+use Rattle.nc_yang.specs.Schemas.{basis, basis_of}
 
 -- what is so of all is so of each
 all_at : {A : Type 0} (P : A → Type 0) (xs : List A) (n : ℕ) (x : A) → All P xs → slice_get xs n ≡ Some x → P x
@@ -61,13 +61,16 @@ nodes_fresh scoping tables named k zero (p ∷ ps) node e =
     let same : node_at scoping tables named k p ≡ node = cc in sym (ap (λ (z : Node). z.defaults) same) ∙ draft_fresh scoping p
 nodes_fresh scoping tables named k (suc n) (p ∷ ps) node e = nodes_fresh scoping tables named (k + 1) n ps node e
 
-module _ (scoping : Scoping) (on : FeatureTest) (plan : Plan) (planned : IsPlan scoping on plan) (derived : List Located → List QName → Type 0)
-    (named : List ℕ → List Located → Type 0) (typed : Tables) (is : HasTypings derived named (basis scoping on plan) typed) where
-  abbrev given : Tables
-  given = data_tables scoping on plan
+-- data nodes of a plan, each of which has a statement and no defaults
+pub record AreFresh (scoping : Scoping) (plan : Plan) (given : Tables) : Type 0 where
+  pub counted : length given.nodes ≡ length plan.nodes
+  pub stated : (number : ℕ) → number < length plan.nodes → IsSome (statement_of scoping plan number)
+  pub fresh : (number : ℕ) (node : Node) → slice_get given.nodes number ≡ Some node → node.defaults ≡ []
 
+module _ (scoping : Scoping) (on : FeatureTest) (plan : Plan) (given : Tables) (are_fresh : AreFresh scoping plan given) (derived : List Located → List QName → Type 0)
+    (named : List ℕ → List Located → Type 0) (typed : Tables) (is : HasTypings derived named (basis_of scoping on plan given) typed) where
   long : length typed.nodes ≡ length plan.nodes
-  long = is.counted ∙ nodes_long scoping (drafts scoping plan) (names_case scoping on plan) 0 plan.nodes
+  long = is.counted ∙ are_fresh.counted
 
   -- a node as it was
   record Was (d : Defined) : Type 0 where
@@ -79,16 +82,10 @@ module _ (scoping : Scoping) (on : FeatureTest) (plan : Plan) (planned : IsPlan 
   was d defined =
       let within : d.number < length typed.nodes = slice_get_within typed.nodes d.number d.node defined.0 in
       let g = got given.nodes d.number (subst (λ n. d.number < n) is.counted within) in
-      let new : IsSameNode g.0 d.node × HasItsType derived named (basis scoping on plan) typed.types d.number d.node.kind d.node.kind_of_value = subst (λ o. IsSomeAnd o (λ new. IsSameNode g.0 new × HasItsType derived named (basis scoping on plan) typed.types d.number new.kind new.kind_of_value)) defined.0 (is.nodes d.number g.0 g.1) in
+      let new : IsSameNode g.0 d.node × HasItsType derived named (basis_of scoping on plan given) typed.types d.number d.node.kind d.node.kind_of_value = subst (λ o. IsSomeAnd o (λ new. IsSameNode g.0 new × HasItsType derived named (basis_of scoping on plan given) typed.types d.number new.kind new.kind_of_value)) defined.0 (is.nodes d.number g.0 g.1) in
       record { old = g.0; at = g.1; same = new.0 }
 
-  stated : (number : ℕ) → number < length plan.nodes → IsSome (statement_of scoping plan number)
-  stated number less =
-      let g = got plan.nodes number less in
-      ap (λ o. is_some (option_and_then (λ (n : Planned). slice_get scoping.located n.statement) o)) g.1
-      ∙ all_at (λ (n : Planned). IsSome (slice_get scoping.located n.statement)) plan.nodes number g.0 (plan_is_sound scoping on plan planned).statements g.1
-
-  mean : AllMeanWhole (basis scoping on plan) → (d : Defined) → IsDefined scoping plan typed d → has_value d.node.kind ≡ true → HasMeaning scoping.texts d.statement
+  mean : AllMeanWhole (basis_of scoping on plan given) → (d : Defined) → IsDefined scoping plan typed d → has_value d.node.kind ≡ true → HasMeaning scoping.texts d.statement
   mean all d defined has =
       let w = was d defined in
       let t = all d.number w.old w.at (sym (ap (λ (z : Node). has_value z.kind) w.same) ∙ has) in
@@ -104,14 +101,37 @@ module _ (scoping : Scoping) (on : FeatureTest) (plan : Plan) (planned : IsPlan 
   fresh : (d : Defined) → IsDefined scoping plan typed d → d.node.defaults ≡ []
   fresh d defined =
       let w = was d defined in
-      ap (λ (z : Node). z.defaults) w.same ∙ nodes_fresh scoping (drafts scoping plan) (names_case scoping on plan) 0 d.number plan.nodes w.old w.at
+      ap (λ (z : Node). z.defaults) w.same ∙ are_fresh.fresh d.number w.old w.at
 
-  pub is_ready : AllMeanWhole (basis scoping on plan) → IsReady scoping plan typed
-  is_ready all = record { counted = long; stated = stated; meanings = mean all; fresh = fresh }
+  pub made_ready : AllMeanWhole (basis_of scoping on plan given) → IsReady scoping plan typed
+  made_ready all = record { counted = long; stated = are_fresh.stated; meanings = mean all; fresh = fresh }
 
 -- a schema whose types have no patterns yet is ready for its defaults
+pub ready_bare : (scoping : Scoping) (on : FeatureTest) (plan : Plan) (given : Tables) → AreFresh scoping plan given → (derived : List Located → List QName → Type 0) (typed : Typed) →
+    AreTypings derived (basis_of scoping on plan given) typed → AllMeanWhole (basis_of scoping on plan given) → IsReady scoping plan typed.schema
+ready_bare scoping on plan given are_fresh derived typed are all =
+    let ready = made_ready scoping on plan given are_fresh derived (AreNumbers scoping.located) (record typed.schema { types = are.types }) are.is all in
+    record { counted = ready.counted; stated = ready.stated; meanings = ready.meanings; fresh = ready.fresh }
+
+-- so it is with the data nodes of modules
+module _ (scoping : Scoping) (on : FeatureTest) (plan : Plan) (planned : IsPlan scoping on plan) where
+  stated : (number : ℕ) → number < length plan.nodes → IsSome (statement_of scoping plan number)
+  stated number less =
+      let g = got plan.nodes number less in
+      ap (λ o. is_some (option_and_then (λ (n : Planned). slice_get scoping.located n.statement) o)) g.1
+      ∙ all_at (λ (n : Planned). IsSome (slice_get scoping.located n.statement)) plan.nodes number g.0 (plan_is_sound scoping on plan planned).statements g.1
+
+  data_fresh : AreFresh scoping plan (data_tables scoping on plan)
+  data_fresh = record {
+    counted = nodes_long scoping (drafts scoping plan) (names_case scoping on plan) 0 plan.nodes;
+    stated = stated;
+    fresh = λ number node at. nodes_fresh scoping (drafts scoping plan) (names_case scoping on plan) 0 number plan.nodes node at;
+  }
+
+  pub is_ready : (derived : List Located → List QName → Type 0) (named : List ℕ → List Located → Type 0) (typed : Tables) → HasTypings derived named (basis scoping on plan) typed →
+      AllMeanWhole (basis scoping on plan) → IsReady scoping plan typed
+  is_ready = made_ready scoping on plan (data_tables scoping on plan) data_fresh
+
 pub bare_ready : (scoping : Scoping) (on : FeatureTest) (plan : Plan) → IsPlan scoping on plan → (derived : List Located → List QName → Type 0) (typed : Typed) →
     AreTypings derived (basis scoping on plan) typed → AllMeanWhole (basis scoping on plan) → IsReady scoping plan typed.schema
-bare_ready scoping on plan planned derived typed are all =
-    let ready = is_ready scoping on plan planned derived (AreNumbers scoping.located) (record typed.schema { types = are.types }) are.is all in
-    record { counted = ready.counted; stated = ready.stated; meanings = ready.meanings; fresh = ready.fresh }
+bare_ready scoping on plan planned = ready_bare scoping on plan (data_tables scoping on plan) (data_fresh scoping on plan planned)

@@ -17,7 +17,7 @@ use Rattle.nc_yang_texts.specs.declared.fault.CompileFault.TheVariants.{Module, 
 use Rattle.nc_yang_texts.specs.declared.text.ModuleText.{ModuleText}
 use Rattle.nc_yang_nodes.specs.Roles.{FeatureTest}
 use Rattle.nc_yang_nodes.specs.declared.planned.Plan.{Plan}
-use Rattle.nc_yang_data.specs.Data.{data_faults}
+use Rattle.nc_yang_data.specs.Data.{data_faults, data_tables}
 use Rattle.nc_yang_types.specs.Entries.{narrowed_faults, own_faults}
 use Rattle.nc_yang_meanings.specs.Faults.{BreaksOne}
 use Rattle.nc_yang_meanings.specs.Meanings.{Breaks as BreaksParts, in_itself, names_of, over_base, shape}
@@ -26,7 +26,8 @@ use Rattle.nc_yang_leafs.specs.Patterns.{Refusals, without_patterns}
 use Rattle.nc_yang_defaults.specs.Defaults.{IsBroken}
 use Rattle.nc_yang.specs.Access.{in_file}
 use Rattle.nc_yang.specs.Depths.{is_too_deep, too_deep_at}
-use Rattle.nc_yang.specs.Schemas.{Breaks, BreaksPlan, BreaksSchema, Defines, GivesNone, by_pattern, circle, deep, default, ill_typed, in_place, in_plan, in_schema, leafref, past, text, unread}
+use Rattle.nc_yang.specs.Schemas.{Breaks, BreaksBare, BreaksPlan, BreaksSchema, Defines, GivesNone, by_pattern, by_types, circle, deep, default, ill_typed, in_place, in_plan, in_schema, leafref, of_typedef, past, text, unread}
+use Rattle.nc_yang.specs.Typedefs.{typedef_plan, typedef_tables}
 use Rattle.nc_yang.proofs.TextReasons.{OfRule, OfTextRule, is_of_rule, no_refusal, of_text, of_unread}
 use Rattle.nc_yang.proofs.TypeReasons.{of_data, of_narrowed, of_own}
 
@@ -34,10 +35,11 @@ of_parts : (on : ℕ → List ℕ → Bool) (texts : List Statement) (l : Locate
 of_parts on texts _ _ (in_itself l one fault built here) = All-contains OfRule (own_faults one l.statement) fault (of_own one l.statement) here
 of_parts on texts _ _ (over_base l base n fault is means here) = All-contains OfRule (narrowed_faults (shape n) (names_of n) (below l.statement)) fault (of_narrowed (shape n) (names_of n) (below l.statement)) here
 
--- or by what a member of it means
+-- or by what a member of it means, or by a default beside it
 of_one : (on : ℕ → List ℕ → Bool) (texts : List Statement) (l : Located) (fault : Fault) → BreaksOne on texts l fault → OfRule fault
 of_one on texts l fault (inl breaks) = of_parts on texts l fault breaks
-of_one on texts l fault (inr refers) = subst OfRule (sym refers.at) refl
+of_one on texts l fault (inr (inl refers)) = subst OfRule (sym refers.at) refl
+of_one on texts l fault (inr (inr defaults)) = subst OfRule (sym defaults.at) refl
 
 -- a value that is read through too many types
 of_depth : (b : Bool) (o : Option Located) (found : TextFault) → cond b (option_map too_deep_at o) None ≡ Some found → OfTextRule found
@@ -50,16 +52,20 @@ of_default : (earlier : List (List ℕ)) (value : Option (List ℕ)) (why : Modu
 of_default earlier None why is = ap is_of_rule is
 of_default earlier (Some value) why is = ap is_of_rule is.1
 
+of_bare : (scoping : Scoping) (on : FeatureTest) (plan : Plan) (given : Tables) (found : TextFault) → BreaksBare scoping on plan given found → OfTextRule found
+of_bare scoping on plan given _ (circle found breaks) = subst OfTextRule (sym breaks.at) refl
+of_bare scoping on plan given _ (leafref found breaks) = subst OfTextRule (sym breaks.at) refl
+of_bare scoping on plan given _ (deep found typed straight types breaks) = of_depth (is_too_deep (without_patterns typed) breaks.0) (type_of scoping plan breaks.0) found breaks.1
+of_bare scoping on plan given _ (default found typed straight types breaks) = subst OfTextRule (sym breaks.fault_is) (of_default breaks.breaks.stops.earlier _ breaks.breaks.stops.why breaks.breaks.stops.broken)
+
 of_plan : (scoping : Scoping) (on : FeatureTest) (plan : Plan) (found : TextFault) → BreaksPlan scoping on plan found → OfTextRule found
 of_plan scoping on plan _ (in_place found here) = All-contains OfTextRule (data_faults scoping on plan) found (of_data scoping on plan) here
-of_plan scoping on plan _ (circle found kept breaks) = subst OfTextRule (sym breaks.at) refl
-of_plan scoping on plan _ (leafref found kept breaks) = subst OfTextRule (sym breaks.at) refl
-of_plan scoping on plan _ (deep found typed kept straight types breaks) = of_depth (is_too_deep (without_patterns typed) breaks.0) (type_of scoping plan breaks.0) found breaks.1
-of_plan scoping on plan _ (default found typed kept straight types breaks) = subst OfTextRule (sym breaks.fault_is) (of_default breaks.breaks.stops.earlier _ breaks.breaks.stops.why breaks.breaks.stops.broken)
+of_plan scoping on plan _ (by_types found kept breaks) = of_bare scoping on plan (data_tables scoping on plan) found breaks
 of_plan scoping on plan _ (by_pattern found typed is breaks) = subst OfTextRule (sym breaks.fault_is) (of_default breaks.breaks.stops.earlier _ breaks.breaks.stops.why breaks.breaks.stops.broken)
 
 of_schema : (scoping : Scoping) (on : FeatureTest) (found : TextFault) → BreaksSchema scoping on found → OfTextRule found
 of_schema scoping on _ (ill_typed found breaks) = of_one _ scoping.texts breaks.breaks.statement found.fault breaks.breaks.breaks
+of_schema scoping on _ (of_typedef found types breaks) = of_bare scoping on (typedef_plan breaks.numbers) (typedef_tables breaks.numbers) found breaks.breaks
 of_schema scoping on _ (past found first) = subst OfTextRule (sym first.at) refl
 of_schema scoping on _ (in_plan plan found types planned breaks) = of_plan scoping on plan found breaks
 

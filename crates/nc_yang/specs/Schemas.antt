@@ -29,6 +29,7 @@ use Rattle.nc_yang_defaults.specs.Defaults.{BreaksDefault, HasDefaults, KeepsDef
 use Rattle.nc_yang.specs.Access.{HaveStatements, in_file}
 use Rattle.nc_yang.specs.Depths.{BreaksDepth, KeepsDepth}
 use Rattle.nc_yang.specs.Features.{is_given}
+use Rattle.nc_yang.specs.Typedefs.{AreJudged, typedef_plan, typedef_tables}
 
 -- texts whose statements keep all rules that need no data node, the numbers of these statements, and the features that
 -- are on by the lines that name some
@@ -48,17 +49,52 @@ abbrev pub AreNames : Scoping → FeatureTest → List Located → List QName �
 AreNames scoping on bases names =
     (found : List Located) × AreDerived scoping on bases found × (names ≡ map (identity_name scoping.texts) found)
 
--- what the types of leafs and leaf-lists stand on
+-- what the types of planned leafs and leaf-lists stand on, which are such data nodes
+abbrev pub basis_of : Scoping → FeatureTest → Plan → (given : Tables) → Basis
+basis_of scoping on plan given = basis_on (holds scoping.texts on) scoping plan given
+
+-- the same, where they are the data nodes of modules
 abbrev pub basis : Scoping → FeatureTest → Plan → Basis
-basis scoping on plan = basis_on (holds scoping.texts on) scoping plan (data_tables scoping on plan)
+basis scoping on plan = basis_of scoping on plan (data_tables scoping on plan)
+
+-- data nodes with their types, where these keep all rules in which no pattern is asked
+pub record IsBareOf (scoping : Scoping) (on : FeatureTest) (plan : Plan) (given typed : Tables) : Type 0 where
+  pub straight : HasNoCircle (basis_of scoping on plan given)
+  pub types : IsTyped (AreNames scoping on) (basis_of scoping on plan given) typed
+  pub shallow : KeepsDepth scoping plan (without_patterns typed)
+  pub defaults : KeepsDefaults scoping plan (without_patterns typed)
+
+-- their types break one: a leafref leads in a circle; the path of a leafref leads nowhere; a value is read through too
+-- many types; a default suits no type, whatever its patterns
+pub data BreaksBare (scoping : Scoping) (on : FeatureTest) (plan : Plan) (given : Tables) : TextFault → Type 0 where
+  circle : (found : TextFault) → BreaksCircle (basis_of scoping on plan given) found
+      → BreaksBare scoping on plan given found
+  leafref : (found : TextFault) → BreaksLeafref (basis_of scoping on plan given) found
+      → BreaksBare scoping on plan given found
+  deep : (found : TextFault) (typed : Tables) → HasNoCircle (basis_of scoping on plan given)
+      → IsTyped (AreNames scoping on) (basis_of scoping on plan given) typed
+      → BreaksDepth scoping plan (without_patterns typed) found → BreaksBare scoping on plan given found
+  default : (found : TextFault) (typed : Tables) → HasNoCircle (basis_of scoping on plan given)
+      → IsTyped (AreNames scoping on) (basis_of scoping on plan given) typed
+      → BreaksDefault scoping plan (without_patterns typed) found → BreaksBare scoping on plan given found
+
+-- the defaults of typedefs are values of their types, but for patterns
+pub record KeepsTypedefs (scoping : Scoping) (on : FeatureTest) : Type 0 where
+  pub numbers : List ℕ
+  pub are : AreJudged (holds scoping.texts on) scoping numbers
+  pub typed : Tables
+  pub bare : IsBareOf scoping on (typedef_plan numbers) (typedef_tables numbers) typed
+
+-- or one is not, or is read through too many types
+pub record BreaksTypedefs (scoping : Scoping) (on : FeatureTest) (found : TextFault) : Type 0 where
+  pub numbers : List ℕ
+  pub are : AreJudged (holds scoping.texts on) scoping numbers
+  pub breaks : BreaksBare scoping on (typedef_plan numbers) (typedef_tables numbers) found
 
 -- the schema of a plan of data nodes with its types, where these keep all rules in which no pattern is asked
 pub record IsTypedOf (scoping : Scoping) (on : FeatureTest) (plan : Plan) (typed : Tables) : Type 0 where
   pub keeps : data_faults scoping on plan ≡ []
-  pub straight : HasNoCircle (basis scoping on plan)
-  pub types : IsTyped (AreNames scoping on) (basis scoping on plan) typed
-  pub shallow : KeepsDepth scoping plan (without_patterns typed)
-  pub defaults : KeepsDefaults scoping plan (without_patterns typed)
+  pub bare : IsBareOf scoping on plan (data_tables scoping on plan) typed
 
 -- the schema of a plan of data nodes, which keep their rules: leafs and leaf-lists have their types, and then their
 -- defaults
@@ -67,22 +103,12 @@ pub record IsSchemaOf (scoping : Scoping) (on : FeatureTest) (plan : Plan) (tabl
   pub is : IsTypedOf scoping on plan typed
   pub defaults : HasDefaults scoping plan typed tables
 
--- data nodes of a plan break a rule: one on a data node or choice in its place; a leafref leads in a circle; the path
--- of a leafref leads nowhere; a value is read through too many types; a default suits no type, whatever its patterns,
--- or only by these. A rule on what others define is asked where these keep theirs
+-- data nodes of a plan break a rule: one on a data node or choice in its place; one on types, whatever their patterns;
+-- or a default suits no type by these alone. A rule on what others define is asked where these keep theirs
 pub data BreaksPlan (scoping : Scoping) (on : FeatureTest) (plan : Plan) : TextFault → Type 0 where
   in_place : (found : TextFault) → Contains (data_faults scoping on plan) found → BreaksPlan scoping on plan found
-  circle : (found : TextFault) → data_faults scoping on plan ≡ [] → BreaksCircle (basis scoping on plan) found
-      → BreaksPlan scoping on plan found
-  leafref : (found : TextFault) → data_faults scoping on plan ≡ [] → BreaksLeafref (basis scoping on plan) found
-      → BreaksPlan scoping on plan found
-  deep : (found : TextFault) (typed : Tables) → data_faults scoping on plan ≡ [] → HasNoCircle (basis scoping on plan)
-      → IsTyped (AreNames scoping on) (basis scoping on plan) typed
-      → BreaksDepth scoping plan (without_patterns typed) found → BreaksPlan scoping on plan found
-  default : (found : TextFault) (typed : Tables) → data_faults scoping on plan ≡ []
-      → HasNoCircle (basis scoping on plan)
-      → IsTyped (AreNames scoping on) (basis scoping on plan) typed
-      → BreaksDefault scoping plan (without_patterns typed) found → BreaksPlan scoping on plan found
+  by_types : (found : TextFault) → data_faults scoping on plan ≡ []
+      → BreaksBare scoping on plan (data_tables scoping on plan) found → BreaksPlan scoping on plan found
   by_pattern : (found : TextFault) (typed : Tables) → IsTypedOf scoping on plan typed
       → BreaksDefault scoping plan typed found → BreaksPlan scoping on plan found
 
@@ -93,17 +119,21 @@ pub record RefusesPlan (scoping : Scoping) (on : FeatureTest) (plan : Plan) (ref
   pub is : IsTypedOf scoping on plan typed
   pub refused : IsRefused (basis scoping on plan) refusals found
 
--- texts whose types keep their rules and whose data nodes keep the limits give this schema
+-- texts whose types and typedefs keep their rules and whose data nodes keep the limits give this schema
 pub record GivesSchema (scoping : Scoping) (on : FeatureTest) (tables : Tables) : Type 0 where
   pub types : KeepsTypes (holds scoping.texts on) scoping.texts
+  pub typedefs : KeepsTypedefs scoping on
   pub plan : Plan
   pub planned : IsPlan scoping on plan
   pub is : IsSchemaOf scoping on plan tables
 
--- a type of texts breaks a rule, a limit on data nodes is passed, or the data nodes break a rule
+-- a type of texts breaks a rule, the default of a typedef does, a limit on data nodes is passed, or the data nodes
+-- break a rule
 pub data BreaksSchema (scoping : Scoping) (on : FeatureTest) : TextFault → Type 0 where
   ill_typed : (found : TextFault) → BreaksTypes (holds scoping.texts on) scoping.texts found.text found.fault
       → BreaksSchema scoping on found
+  of_typedef : (found : TextFault) → KeepsTypes (holds scoping.texts on) scoping.texts
+      → BreaksTypedefs scoping on found → BreaksSchema scoping on found
   past : (found : TextFault) → IsFirstPast scoping on found → BreaksSchema scoping on found
   in_plan : (plan : Plan) (found : TextFault) → KeepsTypes (holds scoping.texts on) scoping.texts
       → IsPlan scoping on plan → BreaksPlan scoping on plan found → BreaksSchema scoping on found
@@ -111,6 +141,7 @@ pub data BreaksSchema (scoping : Scoping) (on : FeatureTest) : TextFault → Typ
 -- or a maker refused a pattern of them
 pub record RefusesSchema (scoping : Scoping) (on : FeatureTest) (refusals : Refusals) (found : TextFault) : Type 0 where
   pub types : KeepsTypes (holds scoping.texts on) scoping.texts
+  pub typedefs : KeepsTypedefs scoping on
   pub plan : Plan
   pub planned : IsPlan scoping on plan
   pub refuses : RefusesPlan scoping on plan refusals found

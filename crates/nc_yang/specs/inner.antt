@@ -3,3 +3,4 @@ pub mod Names
 pub mod Stops
 pub mod Finishing
 pub mod Marked
+pub mod Judged

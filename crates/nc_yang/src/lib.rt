@@ -4,7 +4,8 @@
 //! node, nc_yang_nodes has features and the data nodes in order, nc_yang_meanings what types mean,
 //! nc_yang_data the nodes with their keys, cases and `unique` leafs, nc_yang_circles leafrefs in circles,
 //! nc_yang_leafs the table of types, nc_yang_identities the identities in it, and nc_yang_defaults the
-//! defaults. The expressions of patterns are made by a maker of nc_patterns that is handed in.
+//! defaults. The expressions of patterns are made by a maker of nc_patterns that is handed in. Typedefs
+//! with a default are judged as leafs of a schema of their own (RFC 7950 7.3.4).
 //!
 //! Before the modules that are handed in stands ietf-netconf-acm, whose text is a definition (RFC 8341
 //! 3.5.2). `compile` promises the schema that modules define, a proper one with canonical defaults, or a rule
@@ -25,8 +26,10 @@ mod features;
 mod laws;
 mod names;
 mod schema;
+mod suited;
 mod supported;
 mod texts;
+mod typedefs;
 
 pub use features::first_unknown_feature;
 pub use laws::{

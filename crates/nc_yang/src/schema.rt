@@ -33,8 +33,8 @@ use nc_yang_scopes::{Scopes, TextFault};
 use nc_yang_statements::Stop;
 use std::alloc::Global;
 
-// Nothing where no leafref of a plan leads in a circle.
-fn keep_straight<'a>(
+/// Nothing where no leafref of a plan leads in a circle, whose data nodes are those of the schema.
+pub(crate) fn keep_straight<'a>(
     alloc: Global,
     scopes: &Scopes<'a>,
     features: &Features<'a>,
@@ -44,11 +44,10 @@ fn keep_straight<'a>(
     untyped: &Schema,
 ) -> Result<(), Stop<TextFault>>
     requires meanings { AreMeanings (holds scopes.now.texts (is_on features.now)) scopes.now meanings.now }
-    requires untyped { untyped.now ≡ data_tables scopes.now (is_on features.now) plan.now }
     requires prefixes { ArePrefixes scopes.now.texts prefixes.now }
     ensures { MatchResult result
-        (λ _. HasNoCircle (schemas.basis scopes.now (is_on features.now) plan.now))
-        (OnBroken (BreaksCircle (schemas.basis scopes.now (is_on features.now) plan.now))) }
+        (λ _. HasNoCircle (schemas.basis_of scopes.now (is_on features.now) plan.now untyped.now))
+        (OnBroken (BreaksCircle (schemas.basis_of scopes.now (is_on features.now) plan.now untyped.now))) }
 {
     match first_circle(alloc, scopes, plan, meanings, prefixes, untyped)? {
         Some(found) => Err(Stop::Broken(found)),
@@ -56,8 +55,8 @@ fn keep_straight<'a>(
     }
 }
 
-// The schema of a plan with the types of leafs and leaf-lists, without their patterns and defaults.
-fn with_types<'a>(
+/// The schema of a plan with the types of leafs and leaf-lists, without their patterns and defaults.
+pub(crate) fn with_types<'a>(
     alloc: Global,
     scopes: &Scopes<'a>,
     features: &Features<'a>,
@@ -68,14 +67,14 @@ fn with_types<'a>(
     untyped: Schema,
 ) -> Result<Typed, Stop<TextFault>>
     requires meanings { AreMeanings (holds scopes.now.texts (is_on features.now)) scopes.now meanings.now }
-    requires untyped { untyped ≡ data_tables scopes.now (is_on features.now) plan.now }
-    requires whole { AllMeanWhole (schemas.basis scopes.now (is_on features.now) plan.now) }
+    requires whole { AllMeanWhole (schemas.basis_of scopes.now (is_on features.now) plan.now untyped) }
+    requires blank { (untyped.types ≡ []) × (untyped.patterns ≡ []) }
     requires spaces { spaces.now ≡ map namespace_in scopes.now.texts }
     requires prefixes { ArePrefixes scopes.now.texts prefixes.now }
     ensures { MatchResult result
-        (AreTypings (schemas.AreNames scopes.now (is_on features.now)) (schemas.basis scopes.now
-        (is_on features.now) plan.now))
-        (OnBroken (BreaksLeafref (schemas.basis scopes.now (is_on features.now) plan.now))) }
+        (AreTypings (schemas.AreNames scopes.now (is_on features.now)) (schemas.basis_of scopes.now
+        (is_on features.now) plan.now untyped))
+        (OnBroken (BreaksLeafref (schemas.basis_of scopes.now (is_on features.now) plan.now untyped))) }
 {
     let names = Names::of(alloc, scopes, spaces)?;
     let derived = Derived {

@@ -1,0 +1,7 @@
+-- The leafs so far.
+use Rattle.std.proofs.Common.{◌≡◌, take}
+use Rattle.nc_yang.specs.Typedefs.{typedef_tables}
+use Rattle.nc_yang.proofs.suited.tables_of.Given as goal
+
+abbrev pub invariant-loop-number : goal.invariant-loop-number
+invariant-loop-number l = l.schema ≡ typedef_tables (take l.number-index l.numbers)

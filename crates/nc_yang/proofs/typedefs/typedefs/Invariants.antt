@@ -1,0 +1,8 @@
+-- The typedefs of the texts before.
+use Rattle.std.specs.List.{flat_map, range_with_len}
+use Rattle.nc_yang_scopes.specs.Numbers.{AreNumbers}
+use Rattle.nc_yang.specs.Typedefs.{typedefs_in}
+use Rattle.nc_yang.proofs.typedefs.typedefs.Given as goal
+
+abbrev pub invariant-loop-text : goal.invariant-loop-text
+invariant-loop-text l = AreNumbers l.scopes.located l.list (flat_map (typedefs_in l.scopes.texts) (range_with_len 0 l.text))

@@ -1,0 +1,81 @@
+-- Typedefs with a default (RFC 7950 7.3.4), each judged as a leaf of its type with that default, used or not: those at
+-- the top of a module. Where values of the type refer to other data none is judged: where a leafref or an
+-- instance-identifier leads is known at a leaf.
+use Rattle.std.specs.Prelude.{◌≡◌, ℕ, Bool, true, false, List, [], length, map, None, Some}
+use Rattle.std.specs.List.{flat_map, range_with_len}
+use Rattle.std.specs.Option.{option_map_or}
+use Rattle.nc_schema.specs.Tables.{Tables}
+use Rattle.nc_schema.specs.declared.node.Deny.TheVariants.{Nothing as DenyNothing}
+use Rattle.nc_schema.specs.declared.node.Kind.TheVariants.{Leaf}
+use Rattle.nc_schema.specs.declared.node.Node.{Node}
+use Rattle.nc_yang_words.specs.declared.statement.Statement.{Statement}
+use Rattle.nc_yang_statements.specs.declared.keyword.Keyword.TheVariants.{Default, TypeName, Typedef}
+use Rattle.nc_yang_statements.specs.Statements.{below, has}
+use Rattle.nc_yang_scopes.specs.Parts.{part_of, parts_of}
+use Rattle.nc_yang_scopes.specs.Scopes.{Located, Scoping, root}
+use Rattle.nc_yang_identities.specs.Picks.{PicksNumbers}
+use Rattle.nc_yang_meanings.specs.Faults.{is_reference}
+use Rattle.nc_yang_meanings.specs.Meanings.{Meaning, Means, shape}
+use Rattle.nc_yang_nodes.specs.declared.planned.Plan.{Plan}
+use Rattle.nc_yang_nodes.specs.declared.planned.Planned.{Planned}
+
+-- the typedefs at the top of the module of a text, in their order
+abbrev pub typedefs_in : List Statement → (text : ℕ) → List Located
+typedefs_in texts text = option_map_or (parts_of Typedef) (root texts text) []
+
+-- those of all modules, in the order of the texts
+abbrev pub typedefs : List Statement → List Located
+typedefs texts = flat_map (typedefs_in texts) (range_with_len 0 (length texts))
+
+-- the type of a statement means something, and its values do not refer to other data
+pub record HasPlainType (on : ℕ → List ℕ → Bool) (texts : List Statement) (l : Located) : Type 0 where
+  pub of_type : Located
+  pub is_type : part_of TypeName l ≡ Some of_type
+  pub meaning : Meaning
+  pub means : Means on texts of_type meaning
+  pub plain : is_reference (shape meaning) ≡ false
+
+-- a typedef has a default and such a type
+pub record IsJudged (on : ℕ → List ℕ → Bool) (texts : List Statement) (l : Located) : Type 0 where
+  pub default : has Default (below l.statement) ≡ true
+  pub of_type : HasPlainType on texts l
+
+-- the numbers of the typedefs that are judged
+abbrev pub AreJudged : (on : ℕ → List ℕ → Bool) → Scoping → List ℕ → Type 0
+AreJudged on scoping = PicksNumbers scoping.located (IsJudged on scoping.texts) (typedefs scoping.texts)
+
+-- a leaf that the statement of a number defines
+abbrev pub leaf_by : ℕ → Planned
+leaf_by number = record { statement = number; «module» = 0; parent = None; level = 0; cases = []; deny = DenyNothing }
+
+-- typedefs as leafs
+abbrev pub typedef_plan : List ℕ → Plan
+typedef_plan numbers = record { nodes = map leaf_by numbers; choices = [] }
+
+-- a leaf without a name
+abbrev pub blank_leaf : Node
+blank_leaf = record {
+  name = record { space = []; name = [] };
+  «module» = 0;
+  parent = None;
+  kind = Leaf;
+  kind_of_value = 0;
+  keys = [];
+  uniques = [];
+  mandatory = false;
+  defaults = [];
+  least = 0;
+  most = None;
+  by_user = false;
+  cases = [];
+  deny = DenyNothing;
+}
+
+-- such leafs
+abbrev pub blank_leafs : List ℕ → List Node
+blank_leafs numbers = map (λ _. blank_leaf) numbers
+
+-- the schema of these leafs, without types
+abbrev pub typedef_tables : List ℕ → Tables
+typedef_tables numbers =
+    record { nodes = blank_leafs numbers; choices = []; types = []; modules = []; patterns = [] }

@@ -1,0 +1,131 @@
+//! The typedefs that are judged by their defaults (RFC 7950 7.3.4).
+ghost use Rattle.std.specs.Prelude.{◌≡◌, ◌<◌, ◌++◌, ◌∷◌, [], ℕ, Bool, List, if◌then◌else◌, length, not, IfOk, OnOk};
+ghost use Rattle.nc_yang_meanings.specs.Faults.{is_reference};
+ghost use Rattle.nc_yang_meanings.specs.Plans.{AreMeanings};
+ghost use Rattle.nc_yang_meanings.specs.inner.Planning.{shape_of};
+ghost use Rattle.nc_yang_scopes.specs.Numbers.{AreNumbers};
+ghost use Rattle.nc_yang.specs.Typedefs as words;
+ghost use Rattle.nc_yang.specs.inner.Judged as judging;
+
+use nc_names::{Many, Memory};
+use nc_schema::ValueType;
+use nc_yang_meanings::{Finding, Meanings, Planned};
+use nc_yang_scopes::{Scopes, part_of, parts_of};
+use nc_yang_statements::{Keyword, has};
+use std::alloc::Global;
+
+// The typedefs at the top of the module of a text.
+fn typedefs_in(alloc: Global, scopes: &Scopes, text: usize) -> Result<Many<usize>, Memory>
+    requires { text < length scopes.now.texts }
+    ensures { IfOk result (λ it. AreNumbers scopes.now.located it (words.typedefs_in scopes.now.texts text)) }
+{
+    match scopes.root(text) {
+        Some(root) => parts_of(alloc, scopes, root, Keyword::Typedef),
+        None => Ok(Many::new(alloc)),
+    }
+}
+
+// Those of all modules, in the order of the texts.
+fn typedefs(alloc: Global, scopes: &Scopes) -> Result<Many<usize>, Memory>
+    ensures { IfOk result (λ it. AreNumbers scopes.now.located it (words.typedefs scopes.now.texts)) }
+{
+    let mut list = Many::new(alloc);
+    for text in 0..scopes.texts() {
+        let more = typedefs_in(alloc, scopes, text)?;
+        list.append(more)?;
+    }
+    Ok(list)
+}
+
+// Whether values of the type refer to other data.
+fn is_reference_type(entry: &ValueType) -> bool
+    ensures { result ≡ is_reference entry.now }
+{
+    match entry {
+        ValueType::Leafref { .. } | ValueType::Instance { .. } => true,
+        _ => false,
+    }
+}
+
+// Whether those of a plan do not.
+fn is_plain(planned: &Planned) -> bool
+    ensures { result ≡ not (is_reference (shape_of planned.now)) }
+{
+    match planned {
+        Planned::Finished { entry, .. } => !is_reference_type(entry),
+        Planned::Leafref { .. } => false,
+        Planned::Members(_) | Planned::Bases(_) => true,
+    }
+}
+
+// Whether those of the type of a number do not.
+fn means_plain(meanings: &Meanings, number: usize) -> bool
+    ensures { result ≡ judging.means_plain meanings.now number }
+{
+    let Some(Finding::Plan(place)) = meanings.findings.get(number) else {
+        return false;
+    };
+    match meanings.plans.get(*place) {
+        Some(planned) => is_plain(planned),
+        None => false,
+    }
+}
+
+// Whether the statement of a number has a type whose values do not refer to other data.
+fn has_plain_type(scopes: &Scopes, meanings: &Meanings, number: usize) -> bool
+    ensures { judging.TellsPlain scopes.now meanings.now number result }
+{
+    match part_of(scopes, number, Keyword::TypeName) {
+        Some(of_type) => means_plain(meanings, of_type),
+        None => false,
+    }
+}
+
+// Whether it has a `default`.
+fn has_default(scopes: &Scopes, number: usize) -> bool
+    ensures { result ≡ judging.has_default scopes.now number }
+{
+    match scopes.statement(number) {
+        Some(statement) => has(statement.below.as_slice(), Keyword::Default),
+        None => false,
+    }
+}
+
+// Whether a typedef is judged by its default.
+fn is_judged(scopes: &Scopes, meanings: &Meanings, number: usize) -> bool
+    ensures { judging.TellsJudged scopes.now meanings.now number result }
+{
+    if !has_default(scopes, number) {
+        return false;
+    }
+    has_plain_type(scopes, meanings, number)
+}
+
+// Adds a number where it is to be kept.
+fn keep_if(kept: &mut Many<usize>, number: usize, keeps: bool) -> Result<(), Memory>
+    ensures { OnOk result (kept.new ≡ kept.old ++ (if keeps then number ∷ [] else [])) }
+{
+    if keeps {
+        kept.push(number)?;
+    }
+    Ok(())
+}
+
+/// The numbers of the typedefs at the top of modules that have a default and a type whose values do not refer
+/// to other data.
+pub(crate) fn judged(
+    alloc: Global,
+    scopes: &Scopes,
+    meanings: &Meanings,
+) -> Result<Many<usize>, Memory>
+    ensures { IfOk result (λ it. (on : ℕ → List ℕ → Bool) → AreMeanings on scopes.now meanings.now →
+        words.AreJudged on scopes.now it) }
+{
+    let all = typedefs(alloc, scopes)?;
+    let list = all.as_slice();
+    let mut kept = Many::new(alloc);
+    for number in list {
+        keep_if(&mut kept, *number, is_judged(scopes, meanings, *number))?;
+    }
+    Ok(kept)
+}

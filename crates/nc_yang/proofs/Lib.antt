@@ -24,6 +24,7 @@ pub mod SameTypes
 pub mod SameDepths
 pub mod SamePlans
 pub mod Never
+pub mod SameTrees
 pub mod TypedefLemmas
 pub mod JudgedLemmas
 pub mod SuitedLemmas

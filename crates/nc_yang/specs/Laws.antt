@@ -2,6 +2,8 @@
 use Rattle.std.specs.Prelude.{◌≡◌, ℕ, Bool, true, false, List, map, Some, IsTrue, option_and_then}
 use Rattle.std.specs.List.{All}
 use Rattle.nc_names.specs.declared.name.Bound.{Bound}
+use Rattle.nc_names.specs.declared.path.Row.{Row}
+use Rattle.nc_schema.specs.Configuration.{IsConfiguration}
 use Rattle.nc_schema.specs.Kinds.{has_value}
 use Rattle.nc_schema.specs.Proper.{AreModules, EachNode, IsProperSchema}
 use Rattle.nc_schema.specs.Tables.{Tables}
@@ -111,3 +113,9 @@ abbrev pub OneSchema : Type 0
 OneSchema =
     (modules : List ModuleText) (lines : List (List ℕ)) (one other : Tables) → Defines modules lines one
     → Defines modules lines other → AreOneSchema one other
+
+-- so what is a configuration of one is one of the other (RFC 7950 7.5 to 7.9, 9.1)
+abbrev pub SameConfigurations : Type 0
+SameConfigurations =
+    (modules : List ModuleText) (lines : List (List ℕ)) (one other : Tables) → Defines modules lines one
+    → Defines modules lines other → (rows : List Row) → IsConfiguration one rows → IsConfiguration other rows

@@ -1,6 +1,7 @@
 //! Laws: what follows of the definitions that the contracts cite.
 ghost use Rattle.nc_yang.specs.Laws.{DataTypesMean, DefaultsAreCanonical, ModulesAreProper, NeverBoth, OneSchema};
-ghost use Rattle.nc_yang.specs.Laws.{PlannedTypesMean, RulesRefuseNothing, SchemasAreProper, TypesMean};
+ghost use Rattle.nc_yang.specs.Laws.{PlannedTypesMean, RulesRefuseNothing, SameConfigurations};
+ghost use Rattle.nc_yang.specs.Laws.{SchemasAreProper, TypesMean};
 
 /// In modules that keep all rules each `type` statement that is looked at means something, and so does each
 /// member of a union, down to the last (RFC 7950 7.3, 7.4, 9.12).
@@ -51,4 +52,10 @@ pub fn rules_refuse_nothing()
 /// and values. Its types may be numbered in several ways.
 pub fn one_schema()
     ensures { OneSchema }
+{}
+
+/// What is a configuration of the schema that modules define is one of each schema that they define, whatever
+/// the numbers of its types (RFC 7950 7.5 to 7.9, 9.1).
+pub fn same_configurations()
+    ensures { SameConfigurations }
 {}

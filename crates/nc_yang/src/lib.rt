@@ -16,7 +16,7 @@
 //! `modules_are_proper` the modules of a schema have names and namespaces of their own; the whole schema is
 //! proper by `schemas_are_proper`, and each default in it is a canonical text by `defaults_are_canonical`. By
 //! `never_both` modules that break a rule have no schema, and by `one_schema` the others have one, but for
-//! the numbers of its types. By `rules_refuse_nothing` PatternRefused is the reason of no rule: it comes only
+//! the numbers of its types; by `same_configurations` these have the same configurations. By `rules_refuse_nothing` PatternRefused is the reason of no rule: it comes only
 //! where the maker refused.
 #![tactic(auto)]
 
@@ -34,6 +34,6 @@ mod typedefs;
 pub use features::first_unknown_feature;
 pub use laws::{
     data_types_mean, defaults_are_canonical, modules_are_proper, never_both, one_schema,
-    planned_types_mean, rules_refuse_nothing, schemas_are_proper, types_mean,
+    planned_types_mean, rules_refuse_nothing, same_configurations, schemas_are_proper, types_mean,
 };
 pub use texts::compile;

@@ -12,16 +12,16 @@ use Rattle.nc_yang_scopes.specs.Scopes.{Located, Scoping, root}
 use Rattle.nc_yang_scopes.proofs.Lists.{past_end}
 use Rattle.nc_yang_identities.specs.inner.Marks.{Tells}
 use Rattle.nc_yang_meanings.specs.Faults.{is_reference}
-use Rattle.nc_yang_meanings.specs.Meanings.{Meaning, Means, shape}
-use Rattle.nc_yang_meanings.specs.Plans.{AreMeanings, IsFinding}
+use Rattle.nc_yang_meanings.specs.Meanings.{DerivedFrom, Entry, Meaning, Means, OneOf, Refers}
+use Rattle.nc_yang_meanings.specs.Plans.{AreMeanings, IsFinding, IsPlan}
 use Rattle.nc_yang_meanings.specs.declared.planned.Finding.{Finding}
 use Rattle.nc_yang_meanings.specs.declared.planned.Finding.TheVariants.{Broken, Nothing, Plan}
 use Rattle.nc_yang_meanings.specs.declared.planned.Meanings.{Meanings}
 use Rattle.nc_yang_meanings.specs.declared.planned.Planned.{Planned}
-use Rattle.nc_yang_meanings.specs.inner.Planning.{shape_of}
-use Rattle.nc_yang_meanings.proofs.MeaningLemmas.{means_one, same_shape}
-use Rattle.nc_yang.specs.Typedefs.{HasPlainType, IsJudged, typedefs_in}
-use Rattle.nc_yang.specs.inner.Judged.{has_default, means_plain, plain_by}
+use Rattle.nc_yang_meanings.specs.declared.planned.Planned.TheVariants.{Bases, Finished, Leafref, Members}
+use Rattle.nc_yang_meanings.proofs.MeaningLemmas.{means_one}
+use Rattle.nc_yang.specs.Typedefs.{HasPlainType, IsJudged, is_plain, typedefs_in}
+use Rattle.nc_yang.specs.inner.Judged.{has_default, is_plain_plan, means_plain, plain_by}
 
 -- ---- the typedefs of the module of a text
 pub typedefs_there : (scoping : Scoping) (text n : ℕ) → text < length scoping.texts → slice_get scoping.located n ≡ root scoping.texts text → (r : Result (List ℕ) Memory) →
@@ -37,40 +37,49 @@ typedefs_there scoping text n within at (Ok it) h = by (slice_get scoping.texts 
 
 -- ---- a type whose values do not refer to other data
 abbrev plain_plan : Option Planned → Bool
-plain_plan o = option_map_or (λ p. not (is_reference (shape_of p))) o false
+plain_plan o = option_map_or is_plain_plan o false
 
-not_true : (b : Bool) → not b ≡ true → b ≡ false
-not_true true e = absurd (cc)
-not_true false e = refl
-
-not_false : (b : Bool) → not b ≡ false → b ≡ true
-not_false true e = refl
-not_false false e = absurd (cc)
+same_plain : (located : List Located) (planned : Planned) (m : Meaning) → IsPlan located planned m → is_plain_plan planned ≡ is_plain m
+same_plain located (Finished entry ns names) (Entry other ps others) is = ap (λ e. not (is_reference e)) is.0
+same_plain located (Finished entry ns names) (OneOf ls) is = absurd is
+same_plain located (Finished entry ns names) (DerivedFrom ls) is = absurd is
+same_plain located (Finished entry ns names) (Refers path need) is = absurd is
+same_plain located (Members ns) (Entry other ps others) is = absurd is
+same_plain located (Members ns) (OneOf ls) is = refl
+same_plain located (Members ns) (DerivedFrom ls) is = absurd is
+same_plain located (Members ns) (Refers path need) is = absurd is
+same_plain located (Bases ns) (Entry other ps others) is = absurd is
+same_plain located (Bases ns) (OneOf ls) is = absurd is
+same_plain located (Bases ns) (DerivedFrom ls) is = refl
+same_plain located (Bases ns) (Refers path need) is = absurd is
+same_plain located (Leafref n b) (Entry other ps others) is = absurd is
+same_plain located (Leafref n b) (OneOf ls) is = absurd is
+same_plain located (Leafref n b) (DerivedFrom ls) is = absurd is
+same_plain located (Leafref n b) (Refers path need) is = refl
 
 module _ (scoping : Scoping) (meanings : Meanings) (on : ℕ → List ℕ → Bool) (are : AreMeanings on scoping meanings) (k : ℕ) (c : Located) (at : slice_get scoping.located k ≡ Some c) where
-  plain_yes : means_plain meanings k ≡ true → (m : Meaning) × Means on scoping.texts c m × (is_reference (shape m) ≡ false)
+  plain_yes : means_plain meanings k ≡ true → (m : Meaning) × Means on scoping.texts c m × (is_plain m ≡ true)
   plain_yes e = by (slice_get meanings.findings k) (are k c at) e
     where
-      by : (o : Option Finding) → IsSomeAnd o (IsFinding on scoping meanings.plans c) → plain_by meanings.plans o ≡ true → (m : Meaning) × Means on scoping.texts c m × (is_reference (shape m) ≡ false)
+      by : (o : Option Finding) → IsSomeAnd o (IsFinding on scoping meanings.plans c) → plain_by meanings.plans o ≡ true → (m : Meaning) × Means on scoping.texts c m × (is_plain m ≡ true)
       by None h f = absurd h
       by (Some Nothing) h f = absurd (cc)
       by (Some (Broken fault)) h f = absurd (cc)
       by (Some (Plan place)) h f =
-          let plain : is_reference (shape_of h.plan) ≡ false = not_true (is_reference (shape_of h.plan)) (sym (ap plain_plan h.there) ∙ f) in
-          (h.meaning, h.means, ap is_reference (sym (same_shape scoping.located h.plan h.meaning h.is)) ∙ plain)
+          (h.meaning, h.means, sym (same_plain scoping.located h.plan h.meaning h.is) ∙ sym (ap plain_plan h.there) ∙ f)
 
-  plain_no : means_plain meanings k ≡ false → (m : Meaning) → Means on scoping.texts c m → is_reference (shape m) ≡ false → ⊥
+  plain_no : means_plain meanings k ≡ false → (m : Meaning) → Means on scoping.texts c m → is_plain m ≡ true → ⊥
   plain_no e = by (slice_get meanings.findings k) (are k c at) e
     where
-      by : (o : Option Finding) → IsSomeAnd o (IsFinding on scoping meanings.plans c) → plain_by meanings.plans o ≡ false → (m : Meaning) → Means on scoping.texts c m → is_reference (shape m) ≡ false → ⊥
+      by : (o : Option Finding) → IsSomeAnd o (IsFinding on scoping meanings.plans c) → plain_by meanings.plans o ≡ false → (m : Meaning) → Means on scoping.texts c m → is_plain m ≡ true → ⊥
       by None h f m means r = absurd h
       by (Some Nothing) h f m means r = h.1 m means
       by (Some (Broken fault)) h f m means r = h.1 m means
       by (Some (Plan place)) h f m means r =
-          let refers : is_reference (shape_of h.plan) ≡ true = not_false (is_reference (shape_of h.plan)) (sym (ap plain_plan h.there) ∙ f) in
+          let none : is_plain_plan h.plan ≡ false = sym (ap plain_plan h.there) ∙ f in
           let one : h.meaning ≡ m = means_one on scoping.texts c h.meaning m h.means means in
-          let here : is_reference (shape h.meaning) ≡ true = ap is_reference (sym (same_shape scoping.located h.plan h.meaning h.is)) ∙ refers in
-          let there : is_reference (shape h.meaning) ≡ false = subst (λ z. is_reference (shape z) ≡ false) (sym one) r in
+          let here : is_plain h.meaning ≡ false = sym (same_plain scoping.located h.plan h.meaning h.is) ∙ none in
+          let there : is_plain h.meaning ≡ true = subst (λ z. is_plain z ≡ true) (sym one) r in
           cc (here, there)
 
 module _ (scoping : Scoping) (meanings : Meanings) (on : ℕ → List ℕ → Bool) (are : AreMeanings on scoping meanings) (l : Located) where

@@ -1,7 +1,7 @@
 -- Typedefs with a default (RFC 7950 7.3.4), each judged as a leaf of its type with that default, used or not: those at
--- the top of a module. Where values of the type refer to other data none is judged: where a leafref or an
--- instance-identifier leads is known at a leaf.
-use Rattle.std.specs.Prelude.{◌≡◌, ℕ, Bool, true, false, List, [], length, map, None, Some}
+-- the top of a module, of types whose values ask nothing of the schema. Where a leafref or an instance-identifier leads
+-- is known at a leaf, and identities, alone or as members of a union, have names by the modules of a schema.
+use Rattle.std.specs.Prelude.{◌≡◌, ℕ, Bool, true, false, not, List, [], length, map, None, Some}
 use Rattle.std.specs.List.{flat_map, range_with_len}
 use Rattle.std.specs.Option.{option_map_or}
 use Rattle.nc_schema.specs.Tables.{Tables}
@@ -15,7 +15,7 @@ use Rattle.nc_yang_scopes.specs.Parts.{part_of, parts_of}
 use Rattle.nc_yang_scopes.specs.Scopes.{Located, Scoping, root}
 use Rattle.nc_yang_identities.specs.Picks.{PicksNumbers}
 use Rattle.nc_yang_meanings.specs.Faults.{is_reference}
-use Rattle.nc_yang_meanings.specs.Meanings.{Meaning, Means, shape}
+use Rattle.nc_yang_meanings.specs.Meanings.{DerivedFrom, Entry, Meaning, Means, OneOf, Refers}
 use Rattle.nc_yang_nodes.specs.declared.planned.Plan.{Plan}
 use Rattle.nc_yang_nodes.specs.declared.planned.Planned.{Planned}
 
@@ -27,13 +27,20 @@ typedefs_in texts text = option_map_or (parts_of Typedef) (root texts text) []
 abbrev pub typedefs : List Statement → List Located
 typedefs texts = flat_map (typedefs_in texts) (range_with_len 0 (length texts))
 
--- the type of a statement means something, and its values do not refer to other data
+-- a type is an entry by itself, and its values do not refer to other data
+abbrev pub is_plain : Meaning → Bool
+is_plain (Entry entry patterns names) = not (is_reference entry)
+is_plain (OneOf members) = false
+is_plain (DerivedFrom bases) = false
+is_plain (Refers path need) = false
+
+-- the type of a statement means that
 pub record HasPlainType (on : ℕ → List ℕ → Bool) (texts : List Statement) (l : Located) : Type 0 where
   pub of_type : Located
   pub is_type : part_of TypeName l ≡ Some of_type
   pub meaning : Meaning
   pub means : Means on texts of_type meaning
-  pub plain : is_reference (shape meaning) ≡ false
+  pub plain : is_plain meaning ≡ true
 
 -- a typedef has a default and such a type
 pub record IsJudged (on : ℕ → List ℕ → Bool) (texts : List Statement) (l : Located) : Type 0 where

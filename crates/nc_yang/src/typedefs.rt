@@ -1,8 +1,7 @@
 //! The typedefs that are judged by their defaults (RFC 7950 7.3.4).
-ghost use Rattle.std.specs.Prelude.{◌≡◌, ◌<◌, ◌++◌, ◌∷◌, [], ℕ, Bool, List, if◌then◌else◌, length, not, IfOk, OnOk};
+ghost use Rattle.std.specs.Prelude.{◌≡◌, ◌<◌, ◌++◌, ◌∷◌, [], ℕ, Bool, List, if◌then◌else◌, length, IfOk, OnOk};
 ghost use Rattle.nc_yang_meanings.specs.Faults.{is_reference};
 ghost use Rattle.nc_yang_meanings.specs.Plans.{AreMeanings};
-ghost use Rattle.nc_yang_meanings.specs.inner.Planning.{shape_of};
 ghost use Rattle.nc_yang_scopes.specs.Numbers.{AreNumbers};
 ghost use Rattle.nc_yang.specs.Typedefs as words;
 ghost use Rattle.nc_yang.specs.inner.Judged as judging;
@@ -47,18 +46,17 @@ fn is_reference_type(entry: &ValueType) -> bool
     }
 }
 
-// Whether those of a plan do not.
+// Whether a plan is of a type that is an entry by itself, and those of it do not.
 fn is_plain(planned: &Planned) -> bool
-    ensures { result ≡ not (is_reference (shape_of planned.now)) }
+    ensures { result ≡ judging.is_plain_plan planned.now }
 {
     match planned {
         Planned::Finished { entry, .. } => !is_reference_type(entry),
-        Planned::Leafref { .. } => false,
-        Planned::Members(_) | Planned::Bases(_) => true,
+        Planned::Leafref { .. } | Planned::Members(_) | Planned::Bases(_) => false,
     }
 }
 
-// Whether those of the type of a number do not.
+// Whether the type of a number is such.
 fn means_plain(meanings: &Meanings, number: usize) -> bool
     ensures { result ≡ judging.means_plain meanings.now number }
 {
@@ -71,7 +69,7 @@ fn means_plain(meanings: &Meanings, number: usize) -> bool
     }
 }
 
-// Whether the statement of a number has a type whose values do not refer to other data.
+// Whether the statement of a number has such a type.
 fn has_plain_type(scopes: &Scopes, meanings: &Meanings, number: usize) -> bool
     ensures { judging.TellsPlain scopes.now meanings.now number result }
 {
@@ -111,8 +109,8 @@ fn keep_if(kept: &mut Many<usize>, number: usize, keeps: bool) -> Result<(), Mem
     Ok(())
 }
 
-/// The numbers of the typedefs at the top of modules that have a default and a type whose values do not refer
-/// to other data.
+/// The numbers of the typedefs at the top of modules that have a default and a type that is an entry by itself,
+/// whose values do not refer to other data.
 pub(crate) fn judged(
     alloc: Global,
     scopes: &Scopes,

@@ -12,7 +12,7 @@ use Rattle.nc_yang_meanings.specs.declared.planned.Finding.{Finding}
 use Rattle.nc_yang_meanings.specs.declared.planned.Finding.TheVariants.{Plan as PlanOf}
 use Rattle.nc_yang_meanings.specs.declared.planned.Meanings.{Meanings}
 use Rattle.nc_yang_meanings.specs.declared.planned.Planned.{Planned}
-use Rattle.nc_yang_meanings.specs.inner.Planning.{shape_of}
+use Rattle.nc_yang_meanings.specs.declared.planned.Planned.TheVariants.{Finished}
 use Rattle.nc_yang_nodes.specs.Roles.{FeatureTest}
 use Rattle.nc_yang_nodes.specs.declared.planned.Plan.{Plan}
 use Rattle.nc_yang_leafs.specs.Patterns.{AreTypings}
@@ -21,13 +21,18 @@ use Rattle.nc_yang_defaults.specs.Typed.{IsTyped as IsReady}
 use Rattle.nc_yang.specs.Schemas.{AreNames, IsBareOf, basis_of}
 use Rattle.nc_yang.specs.Typedefs.{HasPlainType, IsJudged}
 
--- values of what was found of a statement do not refer to other data
+-- a plan is of such a type
+abbrev pub is_plain_plan : Planned → Bool
+is_plain_plan (Finished entry numbers names) = not (is_reference entry)
+is_plain_plan planned = false
+
+-- so is what was found of a statement
 abbrev pub plain_by : List Planned → Option Finding → Bool
 plain_by plans (Some (PlanOf place)) =
-    option_map_or (λ p. not (is_reference (shape_of p))) (slice_get plans place) false
+    option_map_or is_plain_plan (slice_get plans place) false
 plain_by plans finding = false
 
--- nor do those of the type of a number
+-- and what was found of that of a number
 abbrev pub means_plain : Meanings → ℕ → Bool
 means_plain meanings number = plain_by meanings.plans (slice_get meanings.findings number)
 

@@ -18,6 +18,8 @@ exec "$(dirname "$0")/program" locks 'nc_names nc_message nc_schema nc_protocol 
 //! Times partial locks over the entries of a list in a container. A line of input has a number of turns, what is done in
 //! each, how many locks are held, how many nodes each of them has, and a size.
 #![tactic(auto)]
+ghost use Rattle.std.specs.Prelude.{ℕ, IfOk};
+ghost use Rattle.nc_schema.specs.Tables.{NamesPatterns};
 
 use nc_message::Bounds;
 use nc_names::{Bound, Copies, Many, Memory, Module, Path, QName, Row, Step, Text};
@@ -106,7 +108,9 @@ fn put_module(alloc: Global, schema: &mut Schema) -> Result<(), Memory> {
     Ok(())
 }
 
-fn string(alloc: Global) -> Result<ValueType, Memory> {
+fn string(alloc: Global) -> Result<ValueType, Memory>
+    ensures { IfOk result (λ it. (count : ℕ) → NamesPatterns count it) }
+{
     let mut lengths = Many::new(alloc);
     lengths.push(Between {
         least: 0,

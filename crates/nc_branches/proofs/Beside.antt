@@ -10,13 +10,14 @@ use Rattle.nc_names.specs.Same.{is_at_or_below, is_same_keys, is_same_path}
 use Rattle.nc_names.specs.declared.path.Row.{Row}
 use Rattle.nc_names.specs.declared.path.Step.{Step}
 use Rattle.nc_schema.specs.Order.{keys_above}
-use Rattle.nc_schema.specs.Standing.{cases_differ, cases_of, entries, exists, has_row, is_by_user, stands_before}
+use Rattle.nc_schema.specs.Standing.{entries, exists, has_row, is_by_user, stands_before}
 use Rattle.nc_schema.specs.Tables.{Tables}
 use Rattle.nc_branches.specs.Branches.{Branches}
 use Rattle.nc_branches.specs.Entries.{are_some, is_entry}
 use Rattle.nc_branches.specs.Orders.{first_order}
 use Rattle.nc_branches.specs.Tallies.{IsTallied}
 use Rattle.nc_branches.specs.inner.Forks.{IsForkOf}
+use Rattle.nc_branches.specs.inner.Free.{AreFree, FreeAt}
 use Rattle.nc_branches.specs.declared.tree.Fork.{Fork}
 use Rattle.nc_branches.specs.inner.Order.{AreUnder, IsUnder}
 use Rattle.nc_branches.specs.inner.Putting.{Aiming, AreAside, Laying}
@@ -31,7 +32,7 @@ use Rattle.nc_branches.specs.declared.way.Way.TheVariants.{Left, Here, Right, Un
 use Rattle.nc_branches.proofs.Aside.{aside_row, parted}
 use Rattle.nc_branches.proofs.Numbered.{left_by, right_by}
 use Rattle.nc_branches.proofs.Locating.{own_row}
-use Rattle.nc_branches.proofs.Placing.{own_under}
+use Rattle.nc_branches.proofs.Placing.{own_under, three_free}
 use Rattle.nc_branches.proofs.Places.{is_below}
 use Rattle.nc_branches.proofs.RowSides.{get_common, taken_length}
 use Rattle.nc_branches.proofs.Sides.{get_append}
@@ -68,13 +69,19 @@ entry_has aim depth asked own rows whole asked_is k d l under own_is same some =
     whole q long (entry_some (take depth aim.steps) asked.node own.keys ∙ some) there
 
 -- rows each of which stands on a side, where they are below the first steps of the path
-pub aside_under : (before : Bool) (aim : Aiming) (depth : ℕ) (above : Option ℕ) (asked : Step) (rows : List Row) → slice_get aim.steps depth ≡ Some asked → cases_of aim.tables asked.node ≡ [] →
+pub aside_under : (before : Bool) (aim : Aiming) (depth : ℕ) (above : Option ℕ) (asked : Step) (rows : List Row) → slice_get aim.steps depth ≡ Some asked → AreFree aim.tables depth asked rows →
     ((k : ℕ) (d : Row) → k < length rows → IsUnder (take depth aim.steps) (slice_index_or rows k d) → IsSided before aim depth above asked (slice_index_or rows k d)) → AreAside before aim depth above rows
-unfolding AreAside AreUnder
-aside_under before aim depth above asked rows asked_is cases all = λ block level k d l.
+unfolding AreAside AreUnder AreFree
+aside_under before aim depth above asked rows asked_is free all = λ block level k d l.
     let row = slice_index_or rows k d in
     let at = all k d l (level.under k d l) in
-    aside_row aim depth above before asked at.own asked_is level.above_is at.differ (ap (λ own. cases_differ own (cases_of aim.tables at.own.node)) cases) at.side block row at.own_is (level.under k d l)
+    aside_row aim depth above before asked at.own asked_is level.above_is at.differ (free k d l at.own at.own_is) at.side block row at.own_is (level.under k d l)
+
+-- no sibling of the entry gives way
+met_free : (turn : Turn) (aim : Aiming) (lay : Laying) (depth : ℕ) (above : Option ℕ) (asked : Step) (branches : Branches) (fork : Fork) → IsMet turn aim lay depth above asked branches fork →
+    AreFree aim.tables depth asked fork.left.rows × AreFree aim.tables depth asked (rows_of fork.twig) × AreFree aim.tables depth asked fork.right.rows
+unfolding FreeAt
+met_free turn aim lay depth above asked branches fork met = three_free branches fork aim.tables depth asked met.is (met.free asked met.asked_is)
 
 -- an entry of the list
 and_false : (b : Bool) → (b && false) ≡ false
@@ -95,7 +102,7 @@ step_at test depth rows all k d l = all k d l
 pub left_entries : (turn : Turn) (aim : Aiming) (lay : Laying) (depth : ℕ) (above : Option ℕ) (asked : Step) (branches : Branches) (fork : Fork) → IsUsers turn aim lay depth above asked branches fork →
     AreEntries true aim depth asked fork.left.rows → AreAside true aim depth above fork.left.rows
 left_entries turn aim lay depth above asked branches fork users all =
-    aside_under true aim depth above asked fork.left.rows met.asked_is met.single.cases
+    aside_under true aim depth above asked fork.left.rows met.asked_is (met_free turn aim lay depth above asked branches fork met).0
     (λ k d l under. sided k d l under (slice_get (slice_index_or fork.left.rows k d).path.steps depth) refl (step_at (is_low met.own) depth fork.left.rows (left_by depth met.own branches fork met.is met.numbered met.at) k d l))
   where
     met : IsMet turn aim lay depth above asked branches fork
@@ -125,7 +132,7 @@ left_entries turn aim lay depth above asked branches fork users all =
 pub right_entries : (turn : Turn) (aim : Aiming) (lay : Laying) (depth : ℕ) (above : Option ℕ) (asked : Step) (branches : Branches) (fork : Fork) → IsUsers turn aim lay depth above asked branches fork →
     AreEntries false aim depth asked fork.right.rows → AreAside false aim depth above fork.right.rows
 right_entries turn aim lay depth above asked branches fork users all =
-    aside_under false aim depth above asked fork.right.rows met.asked_is met.single.cases
+    aside_under false aim depth above asked fork.right.rows met.asked_is (met_free turn aim lay depth above asked branches fork met).2
     (λ k d l under. sided k d l under (slice_get (slice_index_or fork.right.rows k d).path.steps depth) refl (step_at (is_high met.own) depth fork.right.rows (right_by depth met.own branches fork met.is met.numbered met.at) k d l))
   where
     met : IsMet turn aim lay depth above asked branches fork
@@ -156,7 +163,7 @@ pub twig_entry : (before : Bool) (turn : Turn) (aim : Aiming) (lay : Laying) (de
     (has_row (rows_of fork.twig) (entry_by aim depth asked users.met.own.keys) ≡ true → is_same_keys users.met.own.keys asked.keys ≡ false) →
     (has_row (rows_of fork.twig) (entry_by aim depth asked users.met.own.keys) ≡ true → is_ahead aim depth asked users.met.own.keys ≡ before) → AreAside before aim depth above (rows_of fork.twig)
 twig_entry before turn aim lay depth above asked branches fork users other side =
-    aside_under before aim depth above asked (rows_of fork.twig) met.asked_is met.single.cases sided
+    aside_under before aim depth above asked (rows_of fork.twig) met.asked_is (met_free turn aim lay depth above asked branches fork met).1 sided
   where
     met : IsMet turn aim lay depth above asked branches fork
     met = users.met
@@ -501,6 +508,7 @@ met_of turn aim lay depth above asked own branches fork of is some = record {
   same = of.same;
   some = some;
   turned = of.turned;
+  free = of.free;
 }
 
 -- the user orders the list

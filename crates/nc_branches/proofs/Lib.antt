@@ -37,4 +37,5 @@ pub mod Numbered
 pub mod Beside
 pub mod Tallying
 pub mod Laying
+pub mod FreeRows
 pub mod Going

@@ -1,6 +1,6 @@
 -- Where a path goes on among siblings that stand by their numbers.
 use Rattle.std.proofs.Common.{◌≡◌, ◌||◌, ◌&&◌, ◌==◌, ◌<◌, ℕ, Bool, true, false, ltb, Option, Some, refl, sym, ap, subst, ◌∙◌, arith, drop}
-use Rattle.std.specs.Prelude.{slice_get}
+use Rattle.std.specs.Prelude.{slice_get, slice_index_or}
 use Rattle.std.specs.Option.{option_map_or}
 use Rattle.std.proofs.lemmas.Bool.{ltb-true}
 use Rattle.std.proofs.lemmas.List.Elements.{All-weaker}
@@ -9,20 +9,22 @@ use Rattle.nc_names.specs.Same.{is_same_step}
 use Rattle.nc_names.specs.declared.path.Row.{Row}
 use Rattle.nc_names.specs.declared.path.Step.{Step}
 use Rattle.nc_schema.specs.Order.{keys_above}
-use Rattle.nc_schema.specs.Standing.{cases_differ, cases_of, sibling_before}
+use Rattle.nc_schema.specs.Standing.{sibling_before}
 use Rattle.nc_branches.specs.Branches.{Branches}
 use Rattle.nc_branches.specs.Entries.{are_some}
 use Rattle.nc_branches.specs.Orders.{first_order}
 use Rattle.nc_branches.specs.inner.Forks.{IsForkOf}
 use Rattle.nc_branches.specs.declared.tree.Fork.{Fork}
-use Rattle.nc_branches.specs.inner.Order.{depth_of}
+use Rattle.nc_branches.specs.inner.Free.{AreFree, FreeAt}
+use Rattle.nc_branches.specs.inner.Order.{AreUnder, IsUnder, depth_of}
 use Rattle.nc_branches.specs.inner.Putting.{Aiming, AreAside}
 use Rattle.nc_branches.specs.inner.Shoots.{rows_of}
 use Rattle.nc_branches.specs.inner.Steady.{AreBy, is_high, is_low}
 use Rattle.nc_branches.specs.inner.Turning.{IsSided, IsSingle}
 use Rattle.nc_branches.specs.inner.Ways.{GoesOn, IsOwn}
 use Rattle.nc_branches.specs.declared.way.Way.TheVariants.{Left, Here, Right}
-use Rattle.nc_branches.proofs.Aside.{twig_aside}
+use Rattle.nc_branches.proofs.Placing.{own_under, three_free}
+use Rattle.nc_branches.proofs.Sides.{get_append}
 use Rattle.nc_branches.proofs.Turning.{aside_sided, high_sided, low_sided, side_high, side_low, step_other, stepped}
 use Rattle.nc_branches.proofs.Ways.{seen_here, seen_left, seen_right}
 
@@ -37,35 +39,42 @@ right_by depth own branches fork is numbered at =
     let there : slice_get fork.twig.row.path.steps (depth_of fork.twig) ≡ Some own = subst (λ d. slice_get fork.twig.row.path.steps d ≡ Some own) (sym at.depth_is) at.own_is in
     subst (λ d. AreBy d (is_high own) fork.right.rows) at.depth_is (is.numbers numbered own there).1
 
--- a node of another number
-twig_numbered : (before : Bool) (aim : Aiming) (depth : ℕ) (above : Option ℕ) (asked own : Step) (fork : Fork) → IsSingle aim.tables above asked → slice_get aim.steps depth ≡ Some asked → IsOwn depth own fork.twig → is_same_step own asked ≡ false →
-    sibling_before aim.tables (keys_above aim.tables above) (first_order (drop depth aim.orders)) own asked ≡ before → AreAside before aim depth above (rows_of fork.twig)
-twig_numbered before aim depth above asked own fork single asked_is at differ side = twig_aside before aim depth above fork.twig (record {
-  asked = asked;
-  asked_is = asked_is;
-  own = own;
-  own_is = at.own_is;
-  differ = differ;
-  cases = ap (λ cases. cases_differ cases (cases_of aim.tables own.node)) single.cases;
-  side = side;
-  under = at.under;
-})
+-- where all give no way those of each part do not
+frees_at : (aim : Aiming) (depth : ℕ) (asked : Step) (branches : Branches) (fork : Fork) → IsForkOf branches fork → slice_get aim.steps depth ≡ Some asked → FreeAt aim depth branches.rows →
+    AreFree aim.tables depth asked fork.left.rows × AreFree aim.tables depth asked (rows_of fork.twig) × AreFree aim.tables depth asked fork.right.rows
+unfolding FreeAt
+frees_at aim depth asked branches fork is asked_is free = three_free branches fork aim.tables depth asked is (free asked asked_is)
 
-pub numbered_right : (aim : Aiming) (depth : ℕ) (above : Option ℕ) (asked own : Step) (branches : Branches) (fork : Fork) → IsForkOf branches fork → fork.numbered ≡ true → IsSingle aim.tables above asked → slice_get aim.steps depth ≡ Some asked → IsOwn depth own fork.twig → own.node < asked.node →
+-- a node of another number
+twig_numbered : (before : Bool) (aim : Aiming) (depth : ℕ) (above : Option ℕ) (asked own : Step) (fork : Fork) → AreFree aim.tables depth asked (rows_of fork.twig) → slice_get aim.steps depth ≡ Some asked → IsOwn depth own fork.twig → is_same_step own asked ≡ false →
+    sibling_before aim.tables (keys_above aim.tables above) (first_order (drop depth aim.orders)) own asked ≡ before → AreAside before aim depth above (rows_of fork.twig)
+unfolding AreUnder
+twig_numbered before aim depth above asked own fork free asked_is at differ side =
+    aside_sided before aim depth above asked (rows_of fork.twig) asked_is free (λ k d l.
+    let row : Row = slice_index_or (rows_of fork.twig) k d in
+    let inner : IsUnder fork.twig.row.path.steps row = own_under fork.twig at.under k d l in
+    record {
+      own = own;
+      own_is = ap (λ xs. slice_get xs depth) inner.1 ∙ get_append fork.twig.row.path.steps inner.0 depth own at.own_is;
+      differ = differ;
+      side = side;
+    })
+
+pub numbered_right : (aim : Aiming) (depth : ℕ) (above : Option ℕ) (asked own : Step) (branches : Branches) (fork : Fork) → IsForkOf branches fork → fork.numbered ≡ true → IsSingle aim.tables above asked → slice_get aim.steps depth ≡ Some asked → IsOwn depth own fork.twig → FreeAt aim depth branches.rows → own.node < asked.node →
     GoesOn Right aim depth above branches fork
-numbered_right aim depth above asked own branches fork is numbered single asked_is at less =
+numbered_right aim depth above asked own branches fork is numbered single asked_is at free less =
     seen_right aim depth above branches fork is
-    (aside_sided true aim depth above asked fork.left.rows asked_is single.cases (low_sided aim depth above asked own fork.left.rows single less (left_by depth own branches fork is numbered at)))
-    (twig_numbered true aim depth above asked own fork single asked_is at (step_other own asked (λ same. omega (arith, same, less)))
+    (aside_sided true aim depth above asked fork.left.rows asked_is (frees_at aim depth asked branches fork is asked_is free).0 (low_sided aim depth above asked own fork.left.rows single less (left_by depth own branches fork is numbered at)))
+    (twig_numbered true aim depth above asked own fork (frees_at aim depth asked branches fork is asked_is free).1 asked_is at (step_other own asked (λ same. omega (arith, same, less)))
     (side_low aim.tables (keys_above aim.tables above) (first_order (drop depth aim.orders)) own asked single.keys less))
 
-pub numbered_left : (aim : Aiming) (depth : ℕ) (above : Option ℕ) (asked own : Step) (branches : Branches) (fork : Fork) → IsForkOf branches fork → fork.numbered ≡ true → IsSingle aim.tables above asked → slice_get aim.steps depth ≡ Some asked → IsOwn depth own fork.twig → asked.node < own.node →
+pub numbered_left : (aim : Aiming) (depth : ℕ) (above : Option ℕ) (asked own : Step) (branches : Branches) (fork : Fork) → IsForkOf branches fork → fork.numbered ≡ true → IsSingle aim.tables above asked → slice_get aim.steps depth ≡ Some asked → IsOwn depth own fork.twig → FreeAt aim depth branches.rows → asked.node < own.node →
     GoesOn Left aim depth above branches fork
-numbered_left aim depth above asked own branches fork is numbered single asked_is at more =
+numbered_left aim depth above asked own branches fork is numbered single asked_is at free more =
     seen_left aim depth above branches fork is
-    (twig_numbered false aim depth above asked own fork single asked_is at (step_other own asked (λ same. omega (arith, same, more)))
+    (twig_numbered false aim depth above asked own fork (frees_at aim depth asked branches fork is asked_is free).1 asked_is at (step_other own asked (λ same. omega (arith, same, more)))
     (side_high aim.tables (keys_above aim.tables above) (first_order (drop depth aim.orders)) own asked single.keys more))
-    (aside_sided false aim depth above asked fork.right.rows asked_is single.cases (high_sided aim depth above asked own fork.right.rows single more (right_by depth own branches fork is numbered at)))
+    (aside_sided false aim depth above asked fork.right.rows asked_is (frees_at aim depth asked branches fork is asked_is free).2 (high_sided aim depth above asked own fork.right.rows single more (right_by depth own branches fork is numbered at)))
 
 -- of two steps of one number one of which has no keys the other is lower, or higher
 and_none : (a b : Bool) → (a && (b && false)) ≡ false
@@ -78,14 +87,14 @@ or_none true c none e = refl
 or_none false c none e = cc
 
 -- the node is that of the path's step, which has no keys
-pub numbered_here : (aim : Aiming) (depth : ℕ) (above : Option ℕ) (asked own : Step) (branches : Branches) (fork : Fork) → IsForkOf branches fork → fork.numbered ≡ true → IsSingle aim.tables above asked → slice_get aim.steps depth ≡ Some asked → IsOwn depth own fork.twig →
+pub numbered_here : (aim : Aiming) (depth : ℕ) (above : Option ℕ) (asked own : Step) (branches : Branches) (fork : Fork) → IsForkOf branches fork → fork.numbered ≡ true → IsSingle aim.tables above asked → slice_get aim.steps depth ≡ Some asked → IsOwn depth own fork.twig → FreeAt aim depth branches.rows →
     is_same_step own asked ≡ true → are_some asked.keys ≡ false → GoesOn Here aim depth above branches fork
 unfolding AreBy
-numbered_here aim depth above asked own branches fork is numbered single asked_is at same none =
+numbered_here aim depth above asked own branches fork is numbered single asked_is at free same none =
     seen_here aim depth above branches fork is
-    (aside_sided true aim depth above asked fork.left.rows asked_is single.cases
+    (aside_sided true aim depth above asked fork.left.rows asked_is (frees_at aim depth asked branches fork is asked_is free).0
     (All-weaker (λ row. option_map_or (is_low own) (slice_get row.path.steps depth) false ≡ true) (IsSided true aim depth above asked) lower fork.left.rows (left_by depth own branches fork is numbered at)))
-    (aside_sided false aim depth above asked fork.right.rows asked_is single.cases
+    (aside_sided false aim depth above asked fork.right.rows asked_is (frees_at aim depth asked branches fork is asked_is free).2
     (All-weaker (λ row. option_map_or (is_high own) (slice_get row.path.steps depth) false ≡ true) (IsSided false aim depth above asked) higher fork.right.rows (right_by depth own branches fork is numbered at)))
   where
     path : own ≡ asked

@@ -18,9 +18,11 @@ use Rattle.nc_branches.specs.inner.Order.{AreUnder, AreBefore, AreAfter, IsSide,
 use Rattle.nc_branches.specs.inner.Places.{IsAsked}
 use Rattle.nc_branches.specs.inner.Putting.{Aiming, IsPlain, IsPut, Leads, last_node}
 use Rattle.nc_branches.specs.inner.Ready.{IsReady}
+use Rattle.nc_branches.specs.inner.Free.{AreFree, FreeAt, IsFreeRow}
+use Rattle.nc_schema.specs.Tables.{Tables}
 use Rattle.nc_branches.specs.Sides.{among}
 use Rattle.nc_branches.proofs.Putting.{IsBack, IsFront, gone_among, here_among, left_among, none_among, own_among, right_among}
-use Rattle.nc_branches.proofs.RowSides.{back_row, front_above, front_row, parts, split_get, stays_above, stays_row, taken_length}
+use Rattle.nc_branches.proofs.RowSides.{back_row, front_above, front_row, get_common, parts, split_get, stays_above, stays_row, taken_length}
 use Rattle.nc_branches.proofs.Sides.{chain_greater, step_total, through, twig_side}
 
 pub all_first : {X : Type 0} (P : X → Type 0) (xs ys : List X) → All P (xs ++ ys) → All P xs
@@ -47,6 +49,11 @@ three P branches fork is all =
       right = all_second P (fork.left.rows ++ rows_of fork.twig) fork.right.rows whole;
     }
 
+-- where all give no way those of each part do not
+pub three_free : (branches : Branches) (fork : Fork) (tables : Tables) (depth : ℕ) (asked : Step) → IsForkOf branches fork → AreFree tables depth asked branches.rows → AreFree tables depth asked fork.left.rows × AreFree tables depth asked (rows_of fork.twig) × AreFree tables depth asked fork.right.rows
+unfolding AreFree
+three_free branches fork tables depth asked is all = let t = three (IsFreeRow tables depth asked) branches fork is all in (t.left, t.here, t.right)
+
 -- the path at a level
 record Split (aim : Aiming) (depth : ℕ) (above : Option ℕ) (step : Step) : Type 0 where
   is : aim.steps ≡ take depth aim.steps ++ step ∷ drop (suc depth) aim.steps
@@ -62,19 +69,25 @@ split aim depth above fork asked ready above_is asked_is =
       plain = subst (λ o. IsPlain aim.tables o asked) above_is (subst (λ s. IsPlain aim.tables above s) same ready.plain);
     }
 
-fronts : (aim : Aiming) (orders : List (List (List (List ℕ)))) (depth : ℕ) (above : Option ℕ) (step : Step) → Split aim depth above step → All (IsUnder aim.steps) aim.block → (rows : List Row) → All (IsUnder (take depth aim.steps)) rows → All (IsSide Less depth step) rows → All (IsFront aim.tables orders aim.steps aim.block) rows
-fronts aim orders depth above step at block rows under on = λ k d l.
+-- the step with which a row goes on
+step_there : (common : List Step) (s : Step) (rest : List Step) (row : Row) (depth : ℕ) → length common ≡ depth → row.path.steps ≡ common ++ s ∷ rest → slice_get row.path.steps depth ≡ Some s
+step_there common s rest row depth len is = ap (λ xs. slice_get xs depth) is ∙ ap (slice_get (common ++ s ∷ rest)) (sym len) ∙ get_common common (s ∷ rest)
+
+fronts : (aim : Aiming) (orders : List (List (List (List ℕ)))) (depth : ℕ) (above : Option ℕ) (step : Step) → Split aim depth above step → All (IsUnder aim.steps) aim.block → (rows : List Row) → All (IsUnder (take depth aim.steps)) rows → All (IsSide Less depth step) rows → AreFree aim.tables depth step rows → All (IsFront aim.tables orders aim.steps aim.block) rows
+unfolding AreFree
+fronts aim orders depth above step at block rows under on free = λ k d l.
     let row = Rattle.std.specs.Prelude.slice_index_or rows k d in
     let part = parts (take depth aim.steps) step Less row (under k d l) (subst (λ n. IsSide Less n step row) (sym at.len) (on k d l)) in (
-      stays_row aim.tables aim.steps (take depth aim.steps) (drop (suc depth) aim.steps) step Less aim.block row at.is at.plain.cases part (λ e. cc) block,
+      stays_row aim.tables aim.steps (take depth aim.steps) (drop (suc depth) aim.steps) step Less aim.block row at.is part (free k d l part.step (step_there (take depth aim.steps) part.step part.rest row depth at.len part.steps_are)) (λ e. cc) block,
       front_row aim.tables orders aim.steps (take depth aim.steps) (drop (suc depth) aim.steps) step row at.is at.plain part,
     )
 
-backs : (aim : Aiming) (orders : List (List (List (List ℕ)))) (depth : ℕ) (above : Option ℕ) (step : Step) → Split aim depth above step → All (IsUnder aim.steps) aim.block → (rows : List Row) → All (IsUnder (take depth aim.steps)) rows → All (IsSide Greater depth step) rows → All (IsBack aim.tables orders aim.steps aim.block) rows
-backs aim orders depth above step at block rows under on = λ k d l.
+backs : (aim : Aiming) (orders : List (List (List (List ℕ)))) (depth : ℕ) (above : Option ℕ) (step : Step) → Split aim depth above step → All (IsUnder aim.steps) aim.block → (rows : List Row) → All (IsUnder (take depth aim.steps)) rows → All (IsSide Greater depth step) rows → AreFree aim.tables depth step rows → All (IsBack aim.tables orders aim.steps aim.block) rows
+unfolding AreFree
+backs aim orders depth above step at block rows under on free = λ k d l.
     let row = Rattle.std.specs.Prelude.slice_index_or rows k d in
     let part = parts (take depth aim.steps) step Greater row (under k d l) (subst (λ n. IsSide Greater n step row) (sym at.len) (on k d l)) in (
-      stays_row aim.tables aim.steps (take depth aim.steps) (drop (suc depth) aim.steps) step Greater aim.block row at.is at.plain.cases part (λ e. cc) block,
+      stays_row aim.tables aim.steps (take depth aim.steps) (drop (suc depth) aim.steps) step Greater aim.block row at.is part (free k d l part.step (step_there (take depth aim.steps) part.step part.rest row depth at.len part.steps_are)) (λ e. cc) block,
       back_row aim.tables orders aim.steps (take depth aim.steps) (drop (suc depth) aim.steps) step row at.is at.plain part,
     )
 
@@ -122,32 +135,34 @@ put_none aim depth above old new none same = record {
   put = λ block level. let orders = aim.orders in same ∙ sym (none_among aim.tables orders aim.steps aim.block old none);
 }
 
-pub put_left : (aim : Aiming) (depth : ℕ) (above : Option ℕ) (branches : Branches) (fork : Fork) (left new : List Row) → IsForkOf branches fork → IsReady aim depth above fork → IsAsked Less aim.steps fork.twig → IsPut aim depth above fork.left.rows left → new ≡ left ++ rows_of fork.twig ++ fork.right.rows → IsPut aim depth above branches.rows new
-unfolding AreUnder
-put_left aim depth above branches fork left new is ready at inner same = record {
+pub put_left : (aim : Aiming) (depth : ℕ) (above : Option ℕ) (branches : Branches) (fork : Fork) (left new : List Row) → IsForkOf branches fork → IsReady aim depth above fork → FreeAt aim depth branches.rows → IsAsked Less aim.steps fork.twig → IsPut aim depth above fork.left.rows left → new ≡ left ++ rows_of fork.twig ++ fork.right.rows → IsPut aim depth above branches.rows new
+unfolding AreUnder FreeAt
+put_left aim depth above branches fork left new is ready free at inner same = record {
   from = λ path under block. let u = parts_under path branches fork is under in subst (AreUnder path) (sym same) (whole_from path fork left (rows_of fork.twig) fork.right.rows (inner.from path u.0 block) u.1 u.2);
   put = λ block level. let orders = aim.orders in
       let u = parts_under (take depth aim.steps) branches fork is level.under in
       let s = split aim depth above fork at.asked ready level.above_is (asked_at aim depth Less fork.twig ready.depth_is at) in
+      let frees = three_free branches fork aim.tables depth at.asked is (free at.asked (asked_at aim depth Less fork.twig ready.depth_is at)) in
       let far = turned at.asked at.own at.way_is in
-      let here = backs aim orders depth above at.asked s block (rows_of fork.twig) u.1 (twig_on aim depth above Less Greater fork ready at far) in
-      let right = backs aim orders depth above at.asked s block fork.right.rows u.2 (rows_after aim depth above Less fork is.parted ready at (λ x e. chain_greater x at.own at.asked e far)) in
+      let here = backs aim orders depth above at.asked s block (rows_of fork.twig) u.1 (twig_on aim depth above Less Greater fork ready at far) frees.1 in
+      let right = backs aim orders depth above at.asked s block fork.right.rows u.2 (rows_after aim depth above Less fork is.parted ready at (λ x e. chain_greater x at.own at.asked e far)) frees.2 in
       let put : left ≡ among aim.tables orders aim.steps aim.block fork.left.rows = inner.put block (record { above_is = level.above_is; under = u.0 }) in
       same ∙ ap (λ xs. xs ++ rows_of fork.twig ++ fork.right.rows) put
       ∙ sym (left_among aim.tables orders aim.steps aim.block fork.left.rows (rows_of fork.twig) fork.right.rows here right)
       ∙ ap (among aim.tables orders aim.steps aim.block) (sym is.rows);
 }
 
-pub put_right : (aim : Aiming) (depth : ℕ) (above : Option ℕ) (branches : Branches) (fork : Fork) (right new : List Row) → IsForkOf branches fork → IsReady aim depth above fork → IsAsked Greater aim.steps fork.twig → IsPut aim depth above fork.right.rows right → new ≡ fork.left.rows ++ rows_of fork.twig ++ right → IsPut aim depth above branches.rows new
-unfolding AreUnder
-put_right aim depth above branches fork right new is ready at inner same = record {
+pub put_right : (aim : Aiming) (depth : ℕ) (above : Option ℕ) (branches : Branches) (fork : Fork) (right new : List Row) → IsForkOf branches fork → IsReady aim depth above fork → FreeAt aim depth branches.rows → IsAsked Greater aim.steps fork.twig → IsPut aim depth above fork.right.rows right → new ≡ fork.left.rows ++ rows_of fork.twig ++ right → IsPut aim depth above branches.rows new
+unfolding AreUnder FreeAt
+put_right aim depth above branches fork right new is ready free at inner same = record {
   from = λ path under block. let u = parts_under path branches fork is under in subst (AreUnder path) (sym same) (whole_from path fork fork.left.rows (rows_of fork.twig) right u.0 u.1 (inner.from path u.2 block));
   put = λ block level. let orders = aim.orders in
       let u = parts_under (take depth aim.steps) branches fork is level.under in
       let s = split aim depth above fork at.asked ready level.above_is (asked_at aim depth Greater fork.twig ready.depth_is at) in
+      let frees = three_free branches fork aim.tables depth at.asked is (free at.asked (asked_at aim depth Greater fork.twig ready.depth_is at)) in
       let far = turned_back at.asked at.own at.way_is in
-      let here = fronts aim orders depth above at.asked s block (rows_of fork.twig) u.1 (twig_on aim depth above Greater Less fork ready at far) in
-      let left = fronts aim orders depth above at.asked s block fork.left.rows u.0 (rows_before aim depth above Greater fork is.parted ready at (λ x e. step_total.trans x at.own at.asked e far)) in
+      let here = fronts aim orders depth above at.asked s block (rows_of fork.twig) u.1 (twig_on aim depth above Greater Less fork ready at far) frees.1 in
+      let left = fronts aim orders depth above at.asked s block fork.left.rows u.0 (rows_before aim depth above Greater fork is.parted ready at (λ x e. step_total.trans x at.own at.asked e far)) frees.0 in
       let put : right ≡ among aim.tables orders aim.steps aim.block fork.right.rows = inner.put block (record { above_is = level.above_is; under = u.2 }) in
       same ∙ ap (λ xs. fork.left.rows ++ rows_of fork.twig ++ xs) put
       ∙ sym (right_among aim.tables orders aim.steps aim.block fork.left.rows (rows_of fork.twig) fork.right.rows left here)
@@ -157,15 +172,16 @@ put_right aim depth above branches fork right new is ready at inner same = recor
 equal_side : (a b x : Step) (side : Ordering) → step_cmp a b ≡ Equal → step_cmp x b ≡ side → step_cmp x a ≡ side
 equal_side a b x side same e = Rattle.std.proofs.lemmas.Cmp.alike_right step_total a b x same ∙ e
 
-pub put_here : (aim : Aiming) (depth : ℕ) (above : Option ℕ) (branches : Branches) (fork : Fork) (here new : List Row) → IsForkOf branches fork → IsReady aim depth above fork → IsAsked Equal aim.steps fork.twig → IsPut aim depth above (rows_of fork.twig) here → new ≡ fork.left.rows ++ here ++ fork.right.rows → IsPut aim depth above branches.rows new
-unfolding AreUnder
-put_here aim depth above branches fork here new is ready at inner same = record {
+pub put_here : (aim : Aiming) (depth : ℕ) (above : Option ℕ) (branches : Branches) (fork : Fork) (here new : List Row) → IsForkOf branches fork → IsReady aim depth above fork → FreeAt aim depth branches.rows → IsAsked Equal aim.steps fork.twig → IsPut aim depth above (rows_of fork.twig) here → new ≡ fork.left.rows ++ here ++ fork.right.rows → IsPut aim depth above branches.rows new
+unfolding AreUnder FreeAt
+put_here aim depth above branches fork here new is ready free at inner same = record {
   from = λ path under block. let u = parts_under path branches fork is under in subst (AreUnder path) (sym same) (whole_from path fork fork.left.rows here fork.right.rows u.0 (inner.from path u.1 block) u.2);
   put = λ block level. let orders = aim.orders in
       let u = parts_under (take depth aim.steps) branches fork is level.under in
       let s = split aim depth above fork at.asked ready level.above_is (asked_at aim depth Equal fork.twig ready.depth_is at) in
-      let left = fronts aim orders depth above at.asked s block fork.left.rows u.0 (rows_before aim depth above Equal fork is.parted ready at (λ x e. equal_side at.asked at.own x Less at.way_is e)) in
-      let right = backs aim orders depth above at.asked s block fork.right.rows u.2 (rows_after aim depth above Equal fork is.parted ready at (λ x e. equal_side at.asked at.own x Greater at.way_is e)) in
+      let frees = three_free branches fork aim.tables depth at.asked is (free at.asked (asked_at aim depth Equal fork.twig ready.depth_is at)) in
+      let left = fronts aim orders depth above at.asked s block fork.left.rows u.0 (rows_before aim depth above Equal fork is.parted ready at (λ x e. equal_side at.asked at.own x Less at.way_is e)) frees.0 in
+      let right = backs aim orders depth above at.asked s block fork.right.rows u.2 (rows_after aim depth above Equal fork is.parted ready at (λ x e. equal_side at.asked at.own x Greater at.way_is e)) frees.2 in
       let put : here ≡ among aim.tables orders aim.steps aim.block (rows_of fork.twig) = inner.put block (record { above_is = level.above_is; under = u.1 }) in
       same ∙ ap (λ xs. fork.left.rows ++ xs ++ fork.right.rows) put
       ∙ sym (here_among aim.tables orders aim.steps aim.block fork.left.rows (rows_of fork.twig) fork.right.rows left right)

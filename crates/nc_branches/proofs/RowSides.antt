@@ -73,28 +73,28 @@ same_back a b e = by (is_same_step a b) refl
     by true f = let same : a ≡ b = (step_decide a b).0 f in let back : is_same_step b a ≡ true = (step_decide b a).1 (sym same) in cc
 
 -- no row of a block excludes it
-none_excludes : (tables : Tables) (steps common ps : List Step) (p : Step) (side : Ordering) (row : Row) → steps ≡ common ++ p ∷ ps → cases_of tables p.node ≡ [] → Parts common p side row → side ≢ Equal →
+none_excludes : (tables : Tables) (steps common ps : List Step) (p : Step) (side : Ordering) (row : Row) → steps ≡ common ++ p ∷ ps → (at : Parts common p side row) → cases_differ (cases_of tables p.node) (cases_of tables at.step.node) ≡ false → side ≢ Equal →
     (block : List Row) → All (IsUnder steps) block → list_any (λ added. excludes tables added.path.steps row.path.steps) block ≡ false
-none_excludes tables steps common ps p side row is cases at other [] all = refl
-none_excludes tables steps common ps p side row is cases at other (added ∷ block) all =
+none_excludes tables steps common ps p side row is at cases other [] all = refl
+none_excludes tables steps common ps p side row is at cases other (added ∷ block) all =
     let under : IsUnder steps added = All-head (IsUnder steps) added block all in
     let path : added.path.steps ≡ common ++ p ∷ (ps ++ under.0) = under.1 ∙ ap (λ xs. xs ++ under.0) is ∙ append_assoc common (p ∷ ps) under.0 in
     let turned : is_same_step p at.step ≡ false = same_back p at.step (differ at.step p side at.side_is other) in
     let one : excludes tables added.path.steps row.path.steps ≡ false =
     ap (λ xs. excludes tables xs row.path.steps) path ∙ ap (λ xs. excludes tables (common ++ p ∷ (ps ++ under.0)) xs) at.steps_are
-    ∙ excludes_common tables common at.step p at.rest (ps ++ under.0) turned ∙ ap (λ cs. cases_differ cs (cases_of tables at.step.node)) cases in
+    ∙ excludes_common tables common at.step p at.rest (ps ++ under.0) turned ∙ cases in
     ap (λ b. b || list_any (λ added. excludes tables added.path.steps row.path.steps) block) one
-    ∙ none_excludes tables steps common ps p side row is cases at other block (All-tail (IsUnder steps) added block all)
+    ∙ none_excludes tables steps common ps p side row is at cases other block (All-tail (IsUnder steps) added block all)
 
 pub stay : (tables : Tables) (steps : List Step) (block : List Row) (row : Row) → is_at_or_below steps row.path ≡ false → list_any (λ added. excludes tables added.path.steps row.path.steps) block ≡ false → stays tables steps block row ≡ true
 unfolding stays
 stay tables steps block row apart kept = ap (λ b. not (b || list_any (λ added. excludes tables added.path.steps row.path.steps) block)) apart ∙ ap not kept
 
-pub stays_row : (tables : Tables) (steps common ps : List Step) (p : Step) (side : Ordering) (block : List Row) (row : Row) → steps ≡ common ++ p ∷ ps → cases_of tables p.node ≡ [] → Parts common p side row → side ≢ Equal → All (IsUnder steps) block → stays tables steps block row ≡ true
-stays_row tables steps common ps p side block row is cases at other all =
+pub stays_row : (tables : Tables) (steps common ps : List Step) (p : Step) (side : Ordering) (block : List Row) (row : Row) → steps ≡ common ++ p ∷ ps → (at : Parts common p side row) → cases_differ (cases_of tables p.node) (cases_of tables at.step.node) ≡ false → side ≢ Equal → All (IsUnder steps) block → stays tables steps block row ≡ true
+stays_row tables steps common ps p side block row is at cases other all =
     stay tables steps block row
     (other_step steps row (length common) p at.step (ap (λ xs. slice_get xs (length common)) is ∙ get_common common (p ∷ ps)) (ap (λ xs. slice_get xs (length common)) at.steps_are ∙ get_common common (at.step ∷ at.rest)) (λ e. other (sym at.side_is ∙ e)))
-    (none_excludes tables steps common ps p side row is cases at other block all)
+    (none_excludes tables steps common ps p side row is at cases other block all)
 
 -- a row above the path
 pub front_above : (tables : Tables) (orders : List (List (List (List ℕ)))) (steps ps : List Step) (p : Step) (row : Row) → steps ≡ row.path.steps ++ p ∷ ps → is_front tables orders steps row ≡ true

@@ -13,11 +13,12 @@ use Rattle.nc_names.specs.Same.{is_same_keys, is_same_step}
 use Rattle.nc_names.specs.declared.path.Row.{Row}
 use Rattle.nc_names.specs.declared.path.Step.{Step}
 use Rattle.nc_schema.specs.Order.{keys_above, sibling_place}
-use Rattle.nc_schema.specs.Standing.{cases_differ, cases_of, entries, entry_before, has_row, is_by_user, is_less, keys_in, sibling_before, stands_before}
+use Rattle.nc_schema.specs.Standing.{entries, entry_before, has_row, is_by_user, is_less, keys_in, sibling_before, stands_before}
 use Rattle.nc_schema.specs.Tables.{Tables}
 use Rattle.nc_branches.specs.Entries.{are_some, is_entry}
 use Rattle.nc_branches.specs.Orders.{first_order}
 use Rattle.nc_branches.specs.Tallies.{IsTallied}
+use Rattle.nc_branches.specs.inner.Free.{AreFree}
 use Rattle.nc_branches.specs.inner.Order.{AreUnder}
 use Rattle.nc_branches.specs.inner.Putting.{Aiming, AreAside}
 use Rattle.nc_branches.specs.inner.Steady.{AreBy, is_high, is_low}
@@ -28,13 +29,13 @@ use Rattle.nc_branches.proofs.SideOrder.{place_most, place_of}
 use Rattle.nc_branches.proofs.Tallies.{none_first}
 
 -- rows each of which stands on a side
-pub aside_sided : (before : Bool) (aim : Aiming) (depth : ℕ) (above : Option ℕ) (asked : Step) (rows : List Row) → slice_get aim.steps depth ≡ Some asked → cases_of aim.tables asked.node ≡ [] →
+pub aside_sided : (before : Bool) (aim : Aiming) (depth : ℕ) (above : Option ℕ) (asked : Step) (rows : List Row) → slice_get aim.steps depth ≡ Some asked → AreFree aim.tables depth asked rows →
     All (IsSided before aim depth above asked) rows → AreAside before aim depth above rows
-unfolding AreAside AreUnder
-aside_sided before aim depth above asked rows asked_is cases all = λ block level k d l.
+unfolding AreAside AreUnder AreFree
+aside_sided before aim depth above asked rows asked_is free all = λ block level k d l.
     let row = slice_index_or rows k d in
     let at = all k d l in
-    aside_row aim depth above before asked at.own asked_is level.above_is at.differ (ap (λ own. cases_differ own (cases_of aim.tables at.own.node)) cases) at.side block row at.own_is (level.under k d l)
+    aside_row aim depth above before asked at.own asked_is level.above_is at.differ (free k d l at.own at.own_is) at.side block row at.own_is (level.under k d l)
 
 -- steps of other numbers
 nat_other : (n k : ℕ) → (n ≡ k → ⊥) → (n == k) ≡ false

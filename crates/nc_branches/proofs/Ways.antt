@@ -8,6 +8,7 @@ use Rattle.nc_branches.specs.inner.Forks.{IsForkOf}
 use Rattle.nc_branches.specs.inner.Places.{IsAsked}
 use Rattle.nc_branches.specs.inner.Putting.{Aiming, AreAside, IsPut}
 use Rattle.nc_branches.specs.inner.Ready.{IsReady}
+use Rattle.nc_branches.specs.inner.Free.{FreeAt}
 use Rattle.nc_branches.specs.inner.Ways.{GoesOn}
 use Rattle.nc_branches.specs.declared.way.Way.TheVariants.{Left, Here, Right, Unknown}
 use Rattle.nc_branches.specs.declared.tree.Fork.{Fork}
@@ -18,17 +19,17 @@ pub unknown : (aim : Aiming) (depth : ℕ) (above : Option ℕ) (branches : Bran
 unfolding GoesOn
 unknown aim depth above branches fork = tt
 
-pub marked_left : (aim : Aiming) (depth : ℕ) (above : Option ℕ) (branches : Branches) (fork : Fork) → IsForkOf branches fork → IsReady aim depth above fork → IsAsked Less aim.steps fork.twig → GoesOn Left aim depth above branches fork
+pub marked_left : (aim : Aiming) (depth : ℕ) (above : Option ℕ) (branches : Branches) (fork : Fork) → IsForkOf branches fork → IsReady aim depth above fork → FreeAt aim depth branches.rows → IsAsked Less aim.steps fork.twig → GoesOn Left aim depth above branches fork
 unfolding GoesOn
-marked_left aim depth above branches fork is ready at = λ left new inner same. put_left aim depth above branches fork left new is ready at inner same
+marked_left aim depth above branches fork is ready free at = λ left new inner same. put_left aim depth above branches fork left new is ready free at inner same
 
-pub marked_here : (aim : Aiming) (depth : ℕ) (above : Option ℕ) (branches : Branches) (fork : Fork) → IsForkOf branches fork → IsReady aim depth above fork → IsAsked Equal aim.steps fork.twig → GoesOn Here aim depth above branches fork
+pub marked_here : (aim : Aiming) (depth : ℕ) (above : Option ℕ) (branches : Branches) (fork : Fork) → IsForkOf branches fork → IsReady aim depth above fork → FreeAt aim depth branches.rows → IsAsked Equal aim.steps fork.twig → GoesOn Here aim depth above branches fork
 unfolding GoesOn
-marked_here aim depth above branches fork is ready at = λ here new inner same. put_here aim depth above branches fork here new is ready at inner same
+marked_here aim depth above branches fork is ready free at = λ here new inner same. put_here aim depth above branches fork here new is ready free at inner same
 
-pub marked_right : (aim : Aiming) (depth : ℕ) (above : Option ℕ) (branches : Branches) (fork : Fork) → IsForkOf branches fork → IsReady aim depth above fork → IsAsked Greater aim.steps fork.twig → GoesOn Right aim depth above branches fork
+pub marked_right : (aim : Aiming) (depth : ℕ) (above : Option ℕ) (branches : Branches) (fork : Fork) → IsForkOf branches fork → IsReady aim depth above fork → FreeAt aim depth branches.rows → IsAsked Greater aim.steps fork.twig → GoesOn Right aim depth above branches fork
 unfolding GoesOn
-marked_right aim depth above branches fork is ready at = λ right new inner same. put_right aim depth above branches fork right new is ready at inner same
+marked_right aim depth above branches fork is ready free at = λ right new inner same. put_right aim depth above branches fork right new is ready free at inner same
 
 pub seen_left : (aim : Aiming) (depth : ℕ) (above : Option ℕ) (branches : Branches) (fork : Fork) → IsForkOf branches fork → AreAside false aim depth above (rows_of fork.twig) → AreAside false aim depth above fork.right.rows → GoesOn Left aim depth above branches fork
 unfolding GoesOn

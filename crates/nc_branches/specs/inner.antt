@@ -10,6 +10,7 @@ pub mod Located
 pub mod Known
 pub mod Fronts
 pub mod Putting
+pub mod Free
 pub mod Ready
 pub mod Turning
 pub mod Aims

@@ -169,7 +169,8 @@ fn lay_by<'b, 'a>(
     let fronts: Many<Front<'a>> = Many::new(alloc);
     let aim = Aim::laid(schema, &fronts, lay, steps, node);
     let turn = aim.turn_at(0);
-    match lay.laid.put(alloc, &aim, 0, None, turn)? {
+    let free = lay.laid.is_free(&aim, 0);
+    match lay.laid.put(alloc, &aim, 0, None, turn, free)? {
         None => Ok(None),
         Some(tree) => Ok(Some(tree)),
     }

@@ -16,6 +16,7 @@ mod aim;
 mod beneath;
 mod cases;
 mod children;
+mod free;
 mod front;
 mod grow;
 mod known;

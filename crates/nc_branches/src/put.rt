@@ -74,9 +74,10 @@ impl Twig {
             return Ok(Some(aim.node()?));
         }
         let turn = aim.turn_at(depth + 1);
+        let free = self.below.is_free(aim, depth + 1);
         match self
             .below
-            .put(alloc, aim, depth + 1, Some(step.node), turn)?
+            .put(alloc, aim, depth + 1, Some(step.node), turn, free)?
         {
             None => Ok(None),
             Some(below) => Ok(Some(Some(self.with_below(below)?))),
@@ -85,7 +86,8 @@ impl Twig {
 }
 
 impl Tree {
-    /// Other rows at and below a path, where it is known on which side the path goes on.
+    /// Other rows at and below a path, where it is known on which side the path goes on. Where it was seen that no
+    /// sibling gives way to it, none is looked at for that.
     #[cycle(put)]
     #[tactic(auto, using(crate::proofs::Going::puts_none))]
     pub(crate) fn put<'b, 'a>(
@@ -95,17 +97,18 @@ impl Tree {
         depth: usize,
         above: Option<u32>,
         turn: Turn,
+        free: bool,
     ) -> Result<Option<Tree>, Memory>
         ensures { IfOk result (λ it. IfSome it
-            (λ tree. Puts turn aim.now depth above self.now.rows tree.rows)) }
+            (λ tree. Puts turn free aim.now depth above self.now.rows tree.rows)) }
     {
         let Some(fork) = self.fork() else {
             return Ok(Some(aim.planted(alloc, depth)?));
         };
-        let (way, next) = fork.way(aim, depth, above, turn);
+        let (way, next) = fork.way(aim, depth, above, turn, free);
         match way {
             Way::Unknown => Ok(None),
-            Way::Left => match fork.left.put(alloc, aim, depth, above, next)? {
+            Way::Left => match fork.left.put(alloc, aim, depth, above, next, free)? {
                 None => Ok(None),
                 Some(left) => Ok(Some(join(alloc, &left, &fork.twig, &fork.right)?)),
             },
@@ -113,7 +116,7 @@ impl Tree {
                 None => Ok(None),
                 Some(here) => Ok(Some(joined(alloc, &fork.left, here, &fork.right)?)),
             },
-            Way::Right => match fork.right.put(alloc, aim, depth, above, next)? {
+            Way::Right => match fork.right.put(alloc, aim, depth, above, next, free)? {
                 None => Ok(None),
                 Some(right) => Ok(Some(join(alloc, &fork.left, &fork.twig, &right)?)),
             },
@@ -249,7 +252,8 @@ impl Tree {
     {
         let fronts = fronts_of(alloc, orders, steps)?;
         let aim = Aim::new(schema, &fronts, steps, node);
-        match self.put(alloc, &aim, 0, None, Turn::Kept)? {
+        let free = self.is_free(&aim, 0);
+        match self.put(alloc, &aim, 0, None, Turn::Kept, free)? {
             None => Ok(None),
             Some(tree) => Ok(Some(tree)),
         }

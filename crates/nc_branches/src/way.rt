@@ -5,6 +5,7 @@ ghost use Rattle.nc_schema.specs.Order as document;
 ghost use Rattle.nc_branches.specs.Branches.{Branches};
 ghost use Rattle.nc_branches.specs.inner.Shoots.{rows_of};
 ghost use Rattle.nc_branches.specs.inner.Forks.{IsForkOf};
+ghost use Rattle.nc_branches.specs.inner.Free.{FreeAt, FreeWhere};
 ghost use Rattle.nc_branches.specs.inner.Putting.{AreAside, IsAside, IsPlain};
 ghost use Rattle.nc_branches.specs.inner.Ready.{IsReady};
 ghost use Rattle.nc_branches.specs.inner.Turning.{IsSingle, IsTurned};
@@ -14,7 +15,7 @@ use crate::aim::{Aim, Lay};
 use crate::labels::Turn;
 use crate::locate::{head, is_entry};
 use crate::marks::has_keys;
-use crate::siblings::{are_of_other_cases, cases_of, is_by_user, is_same_step, sibling_before};
+use crate::siblings::{are_of_other_cases, is_by_user, is_same_step, sibling_before};
 use crate::tree::{Fork, Tree, Twig};
 use nc_names::Step;
 use nc_schema::Schema;
@@ -49,7 +50,7 @@ fn are_below(keys: &[u32], number: u32) -> bool
     keys.iter().all(|key| *key < number)
 }
 
-/// Whether a step stands among its siblings by its number and its keys, and is in no case.
+/// Whether a step stands among its siblings by its number and its keys.
 fn is_plain(schema: &Schema, above: Option<u32>, step: &Step) -> bool
     ensures { result ≡ true → IsPlain schema.now above step.now }
 {
@@ -59,13 +60,10 @@ fn is_plain(schema: &Schema, above: Option<u32>, step: &Step) -> bool
     is_single(schema, above, step)
 }
 
-/// Whether a step stands among those of other numbers by its number, and is in no case.
+/// Whether a step stands among those of other numbers by its number.
 fn is_single(schema: &Schema, above: Option<u32>, step: &Step) -> bool
     ensures { result ≡ true → IsSingle schema.now above step.now }
 {
-    if !cases_of(schema, step.node).is_empty() {
-        return false;
-    }
     are_below(keys_above(schema, above), step.node)
 }
 
@@ -170,7 +168,7 @@ impl Tree {
 
 impl Twig {
     /// The last step to the node, where it is the one at a depth.
-    fn step_at(&self, depth: usize) -> Option<&Step>
+    pub(crate) fn step_at(&self, depth: usize) -> Option<&Step>
         ensures { IfSome result (λ step. IsOwn depth step.now self.now) }
     {
         let _under = &self.below;
@@ -182,7 +180,8 @@ impl Twig {
 }
 
 impl Fork {
-    /// Where the path goes on, and where it goes among the entries there.
+    /// Where the path goes on, and where it goes among the entries there. Where it was not seen that no sibling
+    /// gives way, each is looked at.
     #[tactic(auto, using(crate::proofs::Beside::same_turn))]
     pub(crate) fn way<'b, 'a>(
         &'a self,
@@ -190,11 +189,15 @@ impl Fork {
         depth: usize,
         above: Option<u32>,
         turn: Turn,
+        free: bool,
     ) -> (Way, Turn)
         ensures { (branches : Branches) → IsForkOf branches self.now →
-            IsTurned turn aim.now depth branches.rows →
+            IsTurned turn aim.now depth branches.rows → FreeWhere free aim.now depth branches.rows →
             Goes result.0 result.1 aim.now depth above branches self.now }
     {
+        if !free {
+            return (self.seen_way(aim, depth, above), turn);
+        }
         if self.is_ready(aim, depth, above) {
             return (self.marked_way(aim, depth, above), turn);
         }
@@ -210,7 +213,7 @@ impl Fork {
     #[tactic(auto, using(crate::proofs::Beside::same_turn, crate::proofs::Beside::unknown_goes, crate::proofs::Numbered::numbered_left, crate::proofs::Numbered::numbered_right, crate::proofs::Numbered::numbered_here))]
     fn numbered_way(&self, aim: &Aim, depth: usize, above: Option<u32>, turn: Turn) -> (Way, Turn)
         ensures { (branches : Branches) → IsForkOf branches self.now →
-            IsTurned turn aim.now depth branches.rows →
+            IsTurned turn aim.now depth branches.rows → FreeAt aim.now depth branches.rows →
             Goes result.0 result.1 aim.now depth above branches self.now }
     {
         if !self.numbered {
@@ -343,7 +346,7 @@ impl Fork {
     #[tactic(auto, using(crate::proofs::Ways::marked_left, crate::proofs::Ways::marked_here, crate::proofs::Ways::marked_right, crate::proofs::Ways::unknown))]
     fn marked_way(&self, aim: &Aim, depth: usize, above: Option<u32>) -> Way
         requires { IsReady aim.now depth above self.now }
-        ensures { (branches : Branches) → IsForkOf branches self.now →
+        ensures { (branches : Branches) → IsForkOf branches self.now → FreeAt aim.now depth branches.rows →
             GoesOn result aim.now depth above branches self.now }
     {
         match self.twig.asked(aim.steps()) {

@@ -19,11 +19,10 @@ abbrev pub last_node : Option ℕ → List Step → Option ℕ
 last_node above [] = above
 last_node above (step ∷ steps) = last_node (Some step.node) steps
 
--- among its siblings the step stands by its number and its keys, and it is in no case
+-- among its siblings the step stands by its number and its keys
 pub record IsPlain (tables : Tables) (above : Option ℕ) (step : Step) : Type 0 where
   pub system : is_by_user tables step.node ≡ false
   pub keys : All (λ key. key < step.node) (keys_above tables above)
-  pub cases : cases_of tables step.node ≡ []
 
 -- rows below the first steps of a path
 pub record IsLevel (steps : List Step) (depth : ℕ) (above : Option ℕ) (rows : List Row) : Type 0 where

@@ -5,11 +5,12 @@ use Rattle.nc_names.specs.Same.{is_same_keys, is_same_step}
 use Rattle.nc_names.specs.declared.path.Row.{Row}
 use Rattle.nc_names.specs.declared.path.Step.{Step}
 use Rattle.nc_schema.specs.Order.{keys_above}
-use Rattle.nc_schema.specs.Standing.{cases_of, entries, has_row, is_by_user, sibling_before, stands_before}
+use Rattle.nc_schema.specs.Standing.{entries, has_row, is_by_user, sibling_before, stands_before}
 use Rattle.nc_schema.specs.Tables.{Tables}
 use Rattle.nc_branches.specs.Entries.{are_some}
 use Rattle.nc_branches.specs.Orders.{first_order}
 use Rattle.nc_branches.specs.Tallies.{IsTallied}
+use Rattle.nc_branches.specs.inner.Free.{FreeWhere}
 use Rattle.nc_branches.specs.inner.Putting.{Aiming, IsFrom, IsPut, Laying}
 use Rattle.nc_branches.specs.inner.Shoots.{Shoot, rows_of}
 use Rattle.nc_branches.specs.declared.labels.Turn.{Turn}
@@ -27,10 +28,9 @@ entry_by aim depth asked keys = entry_at (take depth aim.steps) asked.node keys
 abbrev pub is_ahead : Aiming → ℕ → Step → List (List ℕ) → Bool
 is_ahead aim depth asked keys = stands_before (first_order (drop depth aim.orders)) keys asked.keys
 
--- among the numbers of its siblings the step stands by its own, and it is in no case
+-- among the numbers of its siblings the step stands by its own
 pub record IsSingle (tables : Tables) (above : Option ℕ) (step : Step) : Type 0 where
   pub keys : All (λ key. key < step.node) (keys_above tables above)
-  pub cases : cases_of tables step.node ≡ []
 
 -- a row parts from the path at a depth, and stands on that side of it
 pub record IsSided (before : Bool) (aim : Aiming) (depth : ℕ) (above : Option ℕ) (asked : Step)
@@ -111,10 +111,12 @@ unfoldable pub IsPartOf : Aiming → List Row → Type 0
 IsPartOf aim rows =
     IfSome aim.lay (λ lay. (before : List Row) × (after : List Row) × (lay.laid ≡ before ++ rows ++ after))
 
--- the new rows are from the old ones and the block, which is in its place where the entries stand so
-pub record Puts (turn : Turn) (aim : Aiming) (depth : ℕ) (above : Option ℕ) (old new : List Row) : Type 0 where
+-- the new rows are from the old ones and the block, which is in its place where the entries stand so, and where no
+-- sibling gives way, if that was seen
+pub record Puts (turn : Turn) (free : Bool) (aim : Aiming) (depth : ℕ) (above : Option ℕ)
+    (old new : List Row) : Type 0 where
   pub from : IsFrom aim.block old new
-  pub put : IsTurned turn aim depth old → IsPut aim depth above old new
+  pub put : IsTurned turn aim depth old → FreeWhere free aim depth old → IsPut aim depth above old new
 
 -- so it is with those of a node
 pub record PutsIn (aim : Aiming) (depth : ℕ) (shoot : Shoot) (new : List Row) : Type 0 where

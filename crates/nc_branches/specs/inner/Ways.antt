@@ -7,6 +7,7 @@ use Rattle.nc_branches.specs.Branches.{Branches}
 use Rattle.nc_branches.specs.Entries.{are_some, is_entry}
 use Rattle.nc_branches.specs.inner.Shoots.{Shoot, rows_of}
 use Rattle.nc_branches.specs.inner.Forks.{IsForkOf}
+use Rattle.nc_branches.specs.inner.Free.{FreeAt}
 use Rattle.nc_branches.specs.inner.Order.{AreUnder, depth_of}
 use Rattle.nc_branches.specs.inner.Putting.{Aiming, IsPut, Laying}
 use Rattle.nc_branches.specs.inner.Turning.{IsSingle, IsTurned}
@@ -56,6 +57,7 @@ pub record IsOfNumber (turn : Turn) (aim : Aiming) (depth : ℕ) (above : Option
   pub at : IsOwn depth own fork.twig
   pub same : own.node ≡ asked.node
   pub turned : IsTurned turn aim depth branches.rows
+  pub free : FreeAt aim depth branches.rows
 
 -- and of the list to which the path leads there, and the orders are not listed
 pub record IsMet (turn : Turn) (aim : Aiming) (lay : Laying) (depth : ℕ) (above : Option ℕ) (asked : Step)
@@ -70,6 +72,7 @@ pub record IsMet (turn : Turn) (aim : Aiming) (lay : Laying) (depth : ℕ) (abov
   pub same : own.node ≡ asked.node
   pub some : are_some own.keys ≡ true
   pub turned : IsTurned turn aim depth branches.rows
+  pub free : FreeAt aim depth branches.rows
 
 -- and the user orders the list, whose entries have rows of their own
 pub record IsUsers (turn : Turn) (aim : Aiming) (lay : Laying) (depth : ℕ) (above : Option ℕ) (asked : Step)

@@ -10,4 +10,5 @@ returns c =
     let turned = c.turn_at-turn.ensures c.args.lay.now.laid in
     let aim = rw c.laid-aim.ensures at (rw laid at inner) in
     let turn = rw c.laid-aim.ensures at turned in
-    put_top _ c.args.lay.now.laid c.in-Some.tree.rows c.requires.under (aim.put (turn (part_itself _ c.args.lay.now.laid refl)))
+    let free = rw c.laid-aim.ensures at (rw laid at c.is_free-free.ensures) in
+    put_top _ c.args.lay.now.laid c.in-Some.tree.rows c.requires.under (aim.put (turn (part_itself _ c.args.lay.now.laid refl)) free)

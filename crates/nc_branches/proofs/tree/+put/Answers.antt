@@ -7,19 +7,19 @@ use Rattle.nc_branches.proofs.tree.+put.Goals as goal
 pub Tree::put-returns-in_ok-join-in-Some-2 : goal.Tree::put-returns-in_ok-join-in-Some-2
 Tree::put-returns-in_ok-join-in-Some-2 t c =
     let inner = rw c.in-Some-2.is at c.in_ok-put-in-Left.ensures in
-    puts_left c.args.turn c.way-way.result.1 c.way-way.result.0 c.args.aim.now c.args.depth c.args.above c.args.self.now c.in-Some.fork.now c.in-Some-2.left.rows c.in_ok-join-in-Some-2.field-0.rows
+    puts_left c.args.turn c.way-way.result.1 c.args.free c.way-way.result.0 c.args.aim.now c.args.depth c.args.above c.args.self.now c.in-Some.fork.now c.in-Some-2.left.rows c.in_ok-join-in-Some-2.field-0.rows
     c.in-Some.ensures c.in-Left.is (c.way-way.ensures c.args.self.now c.in-Some.ensures) inner c.in_ok-join-in-Some-2.ensures
 
 pub Tree::put-returns-in_ok-joined-in-Some-3 : goal.Tree::put-returns-in_ok-joined-in-Some-3
 Tree::put-returns-in_ok-joined-in-Some-3 t c =
     let inner = rw c.in-Some-3.is at c.in_ok-put-in-Here.ensures in
-    puts_here c.args.turn c.way-way.result.1 c.way-way.result.0 c.args.aim.now c.args.depth c.args.above c.args.self.now c.in-Some.fork.now (option_map_or rows_of c.in-Some-3.here []) c.in_ok-joined-in-Some-3.field-0.rows
+    puts_here c.args.turn c.way-way.result.1 c.args.free c.way-way.result.0 c.args.aim.now c.args.depth c.args.above c.args.self.now c.in-Some.fork.now (option_map_or rows_of c.in-Some-3.here []) c.in_ok-joined-in-Some-3.field-0.rows
     c.in-Some.ensures c.in-Here.is (c.way-way.ensures c.args.self.now c.in-Some.ensures) inner c.in_ok-joined-in-Some-3.ensures
 
 pub Tree::put-returns-in_ok-join-in-Some-4 : goal.Tree::put-returns-in_ok-join-in-Some-4
 Tree::put-returns-in_ok-join-in-Some-4 t c =
     let inner = rw c.in-Some-4.is at c.in_ok-put-in-Right.ensures in
-    puts_right c.args.turn c.way-way.result.1 c.way-way.result.0 c.args.aim.now c.args.depth c.args.above c.args.self.now c.in-Some.fork.now c.in-Some-4.right.rows c.in_ok-join-in-Some-4.field-0.rows
+    puts_right c.args.turn c.way-way.result.1 c.args.free c.way-way.result.0 c.args.aim.now c.args.depth c.args.above c.args.self.now c.in-Some.fork.now c.in-Some-4.right.rows c.in_ok-join-in-Some-4.field-0.rows
     c.in-Some.ensures c.in-Right.is (c.way-way.ensures c.args.self.now c.in-Some.ensures) inner c.in_ok-join-in-Some-4.ensures
 
 longer : (depth len n : ℕ) → depth < len → n ≡ len → (n ≡ depth + 1 → ⊥) → depth + 1 < len
@@ -35,7 +35,7 @@ Twig::put-with_below-requires t c =
     let at = c.is_on_way.ensures c.if-not-is_on_way.false in
     let inner = rw c.in-Some-2.is at c.in_ok-put.ensures in
     let below = ap (λ s. s.below.rows) c.self.view_is in
-    puts_under _ c.args.aim.now c.args.depth _ c.args.self.now c.in-Some-2.below.rows at (rw below at inner)
+    puts_under _ _ c.args.aim.now c.args.depth _ c.args.self.now c.in-Some-2.below.rows at (rw below at inner)
 
 pub Twig::put-returns-in_ok-with_below-in-Some-2 : goal.Twig::put-returns-in_ok-with_below-in-Some-2
 Twig::put-returns-in_ok-with_below-in-Some-2 t c =
@@ -45,5 +45,5 @@ Twig::put-returns-in_ok-with_below-in-Some-2 t c =
     let long : c.args.depth + 1 < length aim.steps = longer _ _ c.len.result within c.len.ensures c.if-len-depth.false in
     let inner = rw c.in-Some-2.is at c.in_ok-put.ensures in
     let below = ap (λ s. s.below.rows) c.self.view_is in
-    let put = puts_on _ aim c.args.depth c.in-Some.step.now c.args.self.now c.in-Some-2.below.rows at long (sym c.in-Some.ensures.step) c.turn_at-turn.ensures (rw below at inner) in
+    let put = puts_on _ _ aim c.args.depth c.in-Some.step.now c.args.self.now c.in-Some-2.below.rows at long (sym c.in-Some.ensures.step) c.turn_at-turn.ensures (rw below at c.is_free-free.ensures) (rw below at inner) in
     rw c.in_ok-with_below-in-Some-2.ensures put

@@ -7,7 +7,7 @@ use Rattle.nc_branches.proofs.tree.Fork.entry_way.Goals as goal
 pub returns-then-is_same_step : goal.returns-then-is_same_step
 returns-then-is_same_step c = λ above branches of.
     same_turn Here c.args.turn c.args.aim.now c.args.depth above branches c.args.self.now of.is of.turned
-    (numbered_here c.args.aim.now c.args.depth above c.args.asked.now c.args.own.now branches c.args.self.now of.is of.numbered of.single of.asked_is of.at
+    (numbered_here c.args.aim.now c.args.depth above c.args.asked.now c.args.own.now branches c.args.self.now of.is of.numbered of.single of.asked_is of.at of.free
     (sym c.is_same_step.ensures ∙ c.if-is_same_step.true) (sym c.has_keys.ensures ∙ c.if-not-has_keys.true))
 
 pub returns-then-not-has_keys : goal.returns-then-not-has_keys

@@ -11,5 +11,6 @@ pub returns : goal.returns
 returns c =
     let inner = rw c.in-Some.is at c.in_ok-put.ensures in
     let aim = rw c.new-aim.ensures at inner in
-    put_top _ c.args.self.now.rows c.in-Some.tree.rows c.requires (aim.put (turned_listed Kept _ 0 c.args.self.now.rows refl))
+    let free = rw c.new-aim.ensures at c.is_free-free.ensures in
+    put_top _ c.args.self.now.rows c.in-Some.tree.rows c.requires (aim.put (turned_listed Kept _ 0 c.args.self.now.rows refl) free)
     ∙ ap (λ orders. among c.args.schema.now orders c.args.steps.now (option_map_or rows_of c.args.node []) c.args.self.now.rows) c.in_ok-fronts.ensures

@@ -1,5 +1,5 @@
 -- The first row at some steps, where it is looked for in a part of the rows.
-use Rattle.std.proofs.Common.{◌≡◌, ◌++◌, Bool, true, false, List, [], ◌∷◌, Option, Some, None, refl, sym, ap, ◌∙◌}
+use Rattle.std.proofs.Common.{◌≡◌, ◌++◌, ℕ, ◌<◌, ◌≤◌, Bool, true, false, List, [], ◌∷◌, length, Option, Some, None, refl, sym, ap, ◌∙◌, arith}
 use Rattle.std.specs.Option.{option_or}
 use Rattle.std.proofs.lemmas.List.Folds.{find-append}
 use Rattle.std.proofs.lemmas.List.Elements.{All-head, All-tail}
@@ -12,6 +12,7 @@ use Rattle.nc_branches.specs.Branches.{Branches}
 use Rattle.nc_branches.specs.inner.Shoots.{rows_of}
 use Rattle.nc_branches.specs.inner.Forks.{IsForkOf}
 use Rattle.nc_branches.specs.declared.tree.Fork.{Fork}
+use Rattle.nc_branches.specs.inner.Depths.{AreLong}
 use Rattle.nc_branches.specs.inner.Places.{AreApart}
 use Rattle.nc_branches.proofs.Places.{is_below}
 use Rattle.std.proofs.lemmas.List.{append-nil}
@@ -30,6 +31,21 @@ found_apart steps [] apart = refl
 found_apart steps (row ∷ rows) apart =
     let P : Row → Type 0 = λ row. is_at_or_below steps row.path ≡ false in
     rw (not_same steps row (All-head P row rows apart)) (found_apart steps rows (All-tail P row rows apart))
+
+-- a path is not one of fewer steps
+not_longer : (path steps : List Step) → length steps < length path → (b : Bool) → is_same_path path steps ≡ b → b ≡ false
+not_longer path steps longer false e = refl
+not_longer path steps longer true e = absurd (omega (arith, longer, ap length ((path_decide path steps).0 e)))
+
+-- rows whose paths all have more steps have none at some
+pub found_long : (steps : List Step) (least : ℕ) (rows : List Row) → AreLong least rows → length steps < least → row_at rows steps ≡ None
+unfolding AreLong
+found_long steps least [] long few = refl
+found_long steps least (row ∷ rows) long few =
+    let P : Row → Type 0 = λ row. least ≤ length row.path.steps in
+    let own : least ≤ length row.path.steps = All-head P row rows long in
+    rw (not_longer row.path.steps steps (omega (arith, own, few)) (is_same_path row.path.steps steps) refl)
+    (found_long steps least rows (All-tail P row rows long) few)
 
 found_among : (steps : List Step) (left here right : List Row) → row_at (left ++ here ++ right) steps ≡ option_or (option_or (row_at left steps) (row_at here steps)) (row_at right steps)
 found_among steps left here right =

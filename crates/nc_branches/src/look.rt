@@ -100,12 +100,16 @@ impl Twig {
 }
 
 impl Tree {
-    /// The row at some steps, where there is one.
+    /// The row at some steps, where there is one. Where all paths are longer none is looked at: a container
+    /// without presence, say, has no row, and below it may be many.
     #[cycle(get)]
-    #[tactic(auto, using(crate::proofs::Found::found_left, crate::proofs::Found::found_here, crate::proofs::Found::found_right, crate::proofs::Found::found_first, crate::proofs::Found::found_second, crate::proofs::Found::found_last))]
+    #[tactic(auto, using(crate::proofs::Found::found_long, crate::proofs::Found::found_left, crate::proofs::Found::found_here, crate::proofs::Found::found_right, crate::proofs::Found::found_first, crate::proofs::Found::found_second, crate::proofs::Found::found_last))]
     pub fn get(&self, steps: &[Step]) -> Option<&Row>
         ensures { option_copied result ≡ row_at self.now.rows steps.now }
     {
+        if steps.len() < self.shortest() {
+            return None;
+        }
         let Some(fork) = self.fork() else {
             return None;
         };

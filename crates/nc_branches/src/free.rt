@@ -1,5 +1,5 @@
-//! Whether no sibling gives way to a path, since it is of another case of a choice (RFC 7950 7.9): seen by the numbers
-//! of siblings, each number once.
+//! Whether no sibling gives way to a path, since it is of another case of a choice (RFC 7950 7.9): seen by
+//! the numbers of siblings, each number once.
 ghost use Rattle.std.specs.Prelude.{◌≡◌, Option, true, IfSome};
 ghost use Rattle.nc_branches.specs.inner.Free.{AreFree, AreIn, FreeAt, IsOnly};
 

@@ -146,8 +146,8 @@ impl Tree {
         }
     }
 
-    /// Whether it is seen at once that each entry more than so many steps deep has a row of its own, where rows
-    /// stand below it.
+    /// Whether it is seen at once that each entry more than so many steps deep has a row of its own, where
+    /// rows stand below it.
     #[tactic(auto, using(crate::proofs::Wholes::none_whole, crate::proofs::Wholes::fork_whole))]
     pub(crate) fn is_whole(&self, depth: usize) -> bool
         ensures { result ≡ true → AreWhole depth self.now.rows }

@@ -86,8 +86,8 @@ impl Twig {
 }
 
 impl Tree {
-    /// Other rows at and below a path, where it is known on which side the path goes on. Where it was seen that no
-    /// sibling gives way to it, none is looked at for that.
+    /// Other rows at and below a path, where it is known on which side the path goes on. Where it was seen
+    /// that no sibling gives way to it, none is looked at for that.
     #[cycle(put)]
     #[tactic(auto, using(crate::proofs::Going::puts_none))]
     pub(crate) fn put<'b, 'a>(

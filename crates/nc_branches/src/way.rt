@@ -180,8 +180,8 @@ impl Twig {
 }
 
 impl Fork {
-    /// Where the path goes on, and where it goes among the entries there. Where it was not seen that no sibling
-    /// gives way, each is looked at.
+    /// Where the path goes on, and where it goes among the entries there. Where it was not seen that no
+    /// sibling gives way, each is looked at.
     #[tactic(auto, using(crate::proofs::Beside::same_turn))]
     pub(crate) fn way<'b, 'a>(
         &'a self,
@@ -208,8 +208,8 @@ impl Fork {
         (self.seen_way(aim, depth, above), turn)
     }
 
-    /// Where the path goes on, by the numbers of siblings, and among the entries of a list that the user orders by
-    /// one of them.
+    /// Where the path goes on, by the numbers of siblings, and among the entries of a list that the user
+    /// orders by one of them.
     #[tactic(auto, using(crate::proofs::Beside::same_turn, crate::proofs::Beside::unknown_goes, crate::proofs::Numbered::numbered_left, crate::proofs::Numbered::numbered_right, crate::proofs::Numbered::numbered_here))]
     fn numbered_way(&self, aim: &Aim, depth: usize, above: Option<u32>, turn: Turn) -> (Way, Turn)
         ensures { (branches : Branches) → IsForkOf branches self.now →

@@ -170,8 +170,8 @@ fn rows_apart<'a>(
 }
 
 /// Of the rows of a configuration those that may be updated, and those that come anew: these stand now where
-/// those that go stood, between `above` and `below`. Entries that the user orders do not rise, nor do the rows
-/// in them: where these are many, one look at all rows tells that none of them stands twice.
+/// those that go stood, between `above` and `below`. Entries that the user orders do not rise, nor do the
+/// rows in them: where these are many, one look at all rows tells that none of them stands twice.
 pub(crate) fn rows_asked<'a>(
     alloc: Global,
     schema: &Schema,

@@ -2,8 +2,8 @@
 //! commit. It stands on the definitions of `nc_model`, on payloads and replies, and on access control.
 //!
 //! `Governed` is the running configuration with the policies that it and the pending commit's base hold;
-//! `Reach` is the access of one session; `Draft` is rows for the candidate. Contracts see them as the parts of
-//! the state that they are, and nothing here knows the state.
+//! `Reach` is the access of one session; `Draft` is rows for the candidate. Contracts see them as the parts
+//! of the state that they are, and nothing here knows the state.
 #![tactic(auto)]
 
 mod causes;

@@ -20,8 +20,8 @@ pub record IsReady (folder : List ℕ) (before now : Ground) (first : State) (sc
   pub files : now.files ≡ before.files
   pub begun : IsBegunOf device
 
--- the files failed, or no memory was found and the disk did not fail, or the folder makes no device, or its store is not
--- opened
+-- the files failed, or no memory was found and the disk did not fail, or the folder makes no device, or its store is
+-- not opened
 abbrev pub Fails : List ℕ → (before now : Ground) → RunEnd → Type 0
 Fails folder before now Files =
     Rose before.files.failed now.files.failed × (now ≡ record before { files = now.files; maker = now.maker })

@@ -169,8 +169,8 @@ fn first_denied<R: Rights>(
     denied_among(alloc, schema, &before, &after, &block, &edit.path, rights)
 }
 
-// Whether an edit leaves its node as it stands, with one value at each path, and where it is. The rows are gone
-// over only where it is not seen at once that each path stands once.
+// Whether an edit leaves its node as it stands, with one value at each path, and where it is. The rows are
+// gone over only where it is not seen at once that each path stands once.
 #[tactic(auto, using(crate::proofs::StillLemmas::single_marked))]
 fn changes_nothing(
     alloc: Global,

@@ -21,7 +21,8 @@ impl<D: Disk> Journal<D> {
     ///
     /// The disk is handed back with the fault: `DiskFault` where a call of it failed, `Damaged` and
     /// `OtherHeader` where the file has no reading with this header, `Memory` where no memory was found. A
-    /// file without a reading is left as it was whatever the fault is, and any file but where the disk failed.
+    /// file without a reading is left as it was whatever the fault is, and any file but where the disk
+    /// failed.
     pub fn begin(
         alloc: Global,
         disk: D,

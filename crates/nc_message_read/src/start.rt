@@ -366,8 +366,8 @@ fn differ(alloc: Global, attrs: &[Attr]) -> Result<bool, Memory>
     Ok(true)
 }
 
-// A name with its local name in the first place. A long namespace may stand in many names under a short prefix, and
-// is not to be read for each comparison.
+// A name with its local name in the first place. A long namespace may stand in many names under a short
+// prefix, and is not to be read for each comparison.
 fn local_first(name: &QName) -> Result<QName, Memory>
     ensures { IfOk result (λ it. it ≡ swapped name.now) }
 {

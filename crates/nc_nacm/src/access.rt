@@ -20,8 +20,8 @@ use nc_tree::Config;
 use std::alloc::Global;
 use std::marker::Model;
 
-/// The access of one user to the data nodes of a schema. The rules that apply to the user are found once, with
-/// an index that tells which of them is the first that matches, where many nodes are asked for.
+/// The access of one user to the data nodes of a schema. The rules that apply to the user are found once,
+/// with an index that tells which of them is the first that matches, where many nodes are asked for.
 #[derive(Drop)]
 pub struct Access<'a> {
     schema: &'a Schema,

@@ -27,8 +27,8 @@ fn first_in<'a, A: Asked>(list: &'a RuleList, asked: &A) -> Option<&'a Rule>
         .find(|rule| asked.is_matched_by(rule))
 }
 
-// The first rule of a rule-list that matches, where the rule-list applies to the user. Of most lists none matches:
-// so whether one applies, for which each of its groups is looked at, is asked last.
+// The first rule of a rule-list that matches, where the rule-list applies to the user. Of most lists none
+// matches: so whether one applies, for which each of its groups is looked at, is asked last.
 fn first_of<'a, A: Asked>(
     policy: &Policy,
     peer: &Peer,

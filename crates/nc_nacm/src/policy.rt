@@ -116,8 +116,9 @@ impl Policy {
         self.access_to(alloc, schema, peer, u64::MAX)
     }
 
-    /// The same for decisions on so many nodes at most. For a few of them no index of the rules is made, which
-    /// takes longer than to ask each rule; where more are asked for than that, each takes the time of all rules.
+    /// The same for decisions on so many nodes at most. For a few of them no index of the rules is made,
+    /// which takes longer than to ask each rule; where more are asked for than that, each takes the time of
+    /// all rules.
     pub fn access_to<'a>(
         &'a self,
         alloc: Global,

@@ -68,9 +68,9 @@ NothingButOutput before now = now ≡ record before {
 -- What a run came to: the words have no valid reading; the files failed; no memory was found; what the folder holds
 -- makes no server; its store was not opened; or that was done which the words ask for. A file is asked for, a pattern
 -- made and the store opened in this order and before all else, but for the file of a script. What a server of the store
--- did lasts over crashes; where the store was looked at, its history has no entry; and where connections were served, no
--- recovery session (RFC 8341 3.3.3) was begun. Where no server did anything, the
--- store keeps what it held; and where no folder is named, nothing is done to the disk.
+-- did lasts over crashes; where the store was looked at, its history has no entry; and where connections were served,
+-- no recovery session (RFC 8341 3.3.3) was begun. Where no server did anything, the store keeps what it held; and where
+-- no folder is named, nothing is done to the disk.
 pub data Runs (crashes : Crashing) (words : List (List ℕ)) (before now : Outside) : RunEnd → Type 0 where
   AreFaulty : HasNoReading words → now ≡ before → Unharmed crashes → Runs crashes words before now Words
   HasFailed : (task : Task) (folder : List ℕ) → Asks words task → IsIn folder task

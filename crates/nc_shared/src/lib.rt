@@ -11,10 +11,10 @@
 //! which went on by all of the history since it was handed in, and the clock, which answered once for each
 //! of its entries. Nothing is promised of when a turn comes.
 //!
-//! `Seats` gives each connection of a server a desk of its own: a pass is split off for it, and compared again
-//! when the desk is given back. Its calls keep the home of all these desks, and count those that are out;
-//! `finish` gives the pass back with which the machine is closed. `serve_shared` serves a listener so, and
-//! promises that the machine that it leaves stands for one legal history. That stands on nc_server.
+//! `Seats` gives each connection of a server a desk of its own: a pass is split off for it, and compared
+//! again when the desk is given back. Its calls keep the home of all these desks, and count those that are
+//! out; `finish` gives the pass back with which the machine is closed. `serve_shared` serves a listener so,
+//! and promises that the machine that it leaves stands for one legal history. That stands on nc_server.
 #![tactic(auto)]
 
 mod desk;

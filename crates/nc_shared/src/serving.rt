@@ -109,9 +109,9 @@ where
 
 /// Serves the connections of a listener over one machine that has made no entry, each at a desk of its own,
 /// until serving ends. All that was entered is one history, legal from the machine's state and the clock's
-/// answers as they are handed in, in which no recovery session (RFC 8341 3.3.3) is begun. The machine and the clock that are left stand for it, and the machine went
-/// on by it from the one that was handed in: so what a crash leaves since then is known. The schema is the
-/// machine's.
+/// answers as they are handed in, in which no recovery session (RFC 8341 3.3.3) is begun. The machine and the
+/// clock that are left stand for it, and the machine went on by it from the one that was handed in: so what a
+/// crash leaves since then is known. The schema is the machine's.
 ///
 /// # Errors
 ///

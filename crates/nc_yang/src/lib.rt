@@ -16,8 +16,8 @@
 //! `modules_are_proper` the modules of a schema have names and namespaces of their own; the whole schema is
 //! proper by `schemas_are_proper`, and each default in it is a canonical text by `defaults_are_canonical`. By
 //! `never_both` modules that break a rule have no schema, and by `one_schema` the others have one, but for
-//! the numbers of its types; by `same_configurations` these have the same configurations. By `rules_refuse_nothing` PatternRefused is the reason of no rule: it comes only
-//! where the maker refused.
+//! the numbers of its types; by `same_configurations` these have the same configurations. By
+//! `rules_refuse_nothing` PatternRefused is the reason of no rule: it comes only where the maker refused.
 #![tactic(auto)]
 
 mod access;

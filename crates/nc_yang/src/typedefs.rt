@@ -109,8 +109,8 @@ fn keep_if(kept: &mut Many<usize>, number: usize, keeps: bool) -> Result<(), Mem
     Ok(())
 }
 
-/// The numbers of the typedefs at the top of modules that have a default and a type that is an entry by itself,
-/// whose values do not refer to other data.
+/// The numbers of the typedefs at the top of modules that have a default and a type that is an entry by
+/// itself, whose values do not refer to other data.
 pub(crate) fn judged(
     alloc: Global,
     scopes: &Scopes,

@@ -207,7 +207,8 @@ chosen stands listed ss names =
 abbrev pub guarded_by : (List ℕ → Bool) → Named → Named
 guarded_by test n = record n { conditional = n.conditional || test n.name }
 
--- what is left of those that it lists, whether conditions hold or not; its own conditions count beside those of the base
+-- what is left of those that it lists, whether conditions hold or not; its own conditions count beside those of the
+-- base
 abbrev pub still_listed : Listed → List Statement → List Named → List Named
 still_listed listed ss names =
     if has (member_word listed) ss

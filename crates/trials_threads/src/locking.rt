@@ -1,7 +1,7 @@
 //! Two sessions in two threads, which lock and unlock the running configuration.
 //!
-//! Each request is answered once, whatever the other thread does: a lock with ok, or with the error that it is
-//! the other's; an unlock with ok exactly where the lock before it was.
+//! Each request is answered once, whatever the other thread does: a lock with ok, or with the error that it
+//! is the other's; an unlock with ok exactly where the lock before it was.
 use crate::sample::machine;
 use nc_names::{Bytes, Many, Text};
 use nc_outside::{MemClock, MemSink, MemSource};

@@ -18,8 +18,8 @@ IsDeclaredToo before after name =
     (prefix : List ℕ) → has after prefix ≡ ((is_xmlns name.prefix && is_same_text prefix name.local)
     || has before prefix)
 
--- a name with its texts the other way round: so names are ordered by their local names first, and those of one namespace
--- are told apart without a look at it
+-- a name with its texts the other way round: so names are ordered by their local names first, and those of one
+-- namespace are told apart without a look at it
 abbrev pub swapped : QName → QName
 swapped name = record { space = name.name; name = name.space }
 

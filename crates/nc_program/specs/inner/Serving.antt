@@ -9,8 +9,8 @@ use Rattle.nc_device.specs.Sessions.{HasMade}
 use Rattle.nc_words.specs.declared.end.RunEnd.{RunEnd}
 use Rattle.nc_words.specs.declared.end.RunEnd.TheVariants.{Memory, Served}
 
--- serving ended so, all that was entered is one history, which begins no recovery session, and so much of it lasts; or no memory was found, nothing was
--- served, the disk did not fail, and so much is kept
+-- serving ended so, all that was entered is one history, which begins no recovery session, and so much of it lasts; or
+-- no memory was found, nothing was served, the disk did not fail, and so much is kept
 abbrev pub ServesAt : State → ℕ → (List Entry → Type 0) → (Kept : Type 0) → (before now : Times) →
     (listener later : Listening) → RunEnd → Type 0
 ServesAt first failed Lasts Kept before now listener later (Served end) =

@@ -105,7 +105,8 @@ impl<T: Stands> Turn<T> {
     pub fn close(self, pass: Pass<T>) -> T
         requires { IsOf T.home self pass × IsIdle pass × ((view pass).parts ≡ all_parts) }
         ensures stands { T.stands result (view pass).seen × (T.home result ≡ T.home (first_of self)) }
-        // What it saw was entered with it, or with a pass that was joined to it, but for readings of the clock.
+        // What it saw was entered with it, or with a pass that was joined to it, but for readings of the
+        // clock.
         ensures gathered { (e : Entry) → Contains (own_of (view pass).seen) e → Contains (view pass).gathered e }
     {
         let Turn { table } = self;

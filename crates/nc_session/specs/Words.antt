@@ -17,6 +17,7 @@ capability_word = codes "capability"
 unfoldable pub base_10 : List ℕ
 base_10 = codes "urn:ietf:params:netconf:base:1.0"
 
+-- the one whose messages come in chunks once both sides offer it (RFC 6242 4.1)
 unfoldable pub base_11 : List ℕ
 base_11 = codes "urn:ietf:params:netconf:base:1.1"
 

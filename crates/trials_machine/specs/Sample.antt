@@ -9,6 +9,7 @@ use Rattle.nc_schema.specs.declared.value_type.ValueType.{ValueType}
 use Rattle.nc_schema.specs.declared.value_type.ValueType.TheVariants.{Chars}
 use Rattle.nc_schema.specs.Tables.{Tables}
 
+-- a data node of the tests' module, of strings where it has values, neither mandatory nor with defaults
 abbrev pub node : List ℕ → Option ℕ → Kind → List ℕ → Option ℕ → Node
 node name parent kind keys most = record {
   name = record { space = codes "urn:ex"; name = name };
@@ -27,24 +28,31 @@ node name parent kind keys most = record {
   deny = NotDenied;
 }
 
+-- leaf host, at the top
 unfoldable pub host : Node
 host = node (codes "host") None Leaf [] None
 
+-- leaf-list tag, at the top, of at most two entries
 unfoldable pub tag : Node
 tag = node (codes "tag") None LeafList [] (Some 2)
 
+-- list port, at the top, with node 3 as its key
 unfoldable pub port : Node
 port = node (codes "port") None ListKind (3 ∷ []) None
 
+-- leaf name in the list, its key
 unfoldable pub name : Node
 name = node (codes "name") (Some 2) Leaf [] None
 
+-- leaf speed in the list
 unfoldable pub speed : Node
 speed = node (codes "speed") (Some 2) Leaf [] None
 
+-- strings of any length
 abbrev pub chars : ValueType
 chars = Chars (record { least = pos 0; most = pos (2 ^ 64 - 1) } ∷ []) false []
 
+-- the module that defines them
 abbrev pub ex : Module
 ex = record { name = codes "ex"; space = codes "urn:ex"; revision = []; features = [] }
 

@@ -39,6 +39,7 @@ use Rattle.nc_courses.specs.declared.course.Change.TheVariants.{Nothing, Candida
 use Rattle.nc_courses.specs.declared.course.Course.{Course}
 use Rattle.nc_courses.specs.declared.course.Course.TheVariants.{Answer, Commit}
 
+-- the candidate is set to rows, or nothing is changed
 abbrev pub changed_to : Option (List Row) → Change
 changed_to None = Nothing
 changed_to (Some rows) = Candidate rows
@@ -54,6 +55,7 @@ abbrev pub violation_by : Tables → TestOption → List Row → Option Cause
 violation_by tables Set rows = None
 violation_by tables test rows = refusal.violation_in tables rows
 
+-- refused for one cause, which changes nothing
 abbrev pub refused_course : Cause → Course
 refused_course cause = Answer (Refused (cause ∷ [])) Nothing
 
@@ -152,6 +154,7 @@ cancel_refused s session persist_id =
     option_or (meant.cancel_admission s session persist_id)
     (option_or (meant.in_use s session Running) (reversion_refusal s session))
 
+-- what a copy comes to: the candidate is set to the source's rows, or it is refused
 abbrev pub copy_course : Result (List Row) Cause → Course
 copy_course copied = Answer (meant.done_where copied) (changed_to (rows_of_ok copied))
 
@@ -159,6 +162,7 @@ copy_course copied = Answer (meant.done_where copied) (changed_to (rows_of_ok co
 abbrev pub confirmed_course : State → ℕ → Option (List ℕ) → Course
 confirmed_course s timeout persist = Answer Done (Confirm (candidate_in_force s) timeout persist)
 
+-- what any commit comes to that nothing stands against, whether it has to be confirmed or not
 abbrev pub commit_made : State → Bool → ℕ → Option (List ℕ) → Course
 commit_made s false timeout persist = Commit
 commit_made s true timeout persist = confirmed_course s timeout persist
@@ -199,51 +203,65 @@ selects_course s session (Some paths) =
 
 -- each operation; the words are opaque, so that what is made of several of them stays short
 
+-- get: of running what the session sees and the filter keeps
 unfoldable pub get_course : State → ℕ → Option Elem → Course
 get_course s session filter = Answer (Selected (meant.shown s session Running filter)) Nothing
 
+-- get-config: refused, or the same of a datastore
 unfoldable pub get_config_course : State → ℕ → Datastore → Option Elem → Course
 get_config_course s session source filter =
     Answer (refusal.checked (meant.unsupported meant.is_source source)
     (Selected (meant.shown s session source filter))) Nothing
 
+-- edit-config: what the edits of its payload come to
 unfoldable pub edit_config_course : State → ℕ → Datastore → Default3 → TestOption → ErrorOption → Elem → Course
 edit_config_course s session target default_operation test on_error config =
     edit_course s.schema test (meant.edits_made s session target default_operation on_error config)
 
+-- copy-config: what the copy of its source comes to
 unfoldable pub copy_config_course : State → ℕ → Datastore → Origin → Course
 copy_config_course s session target source = copy_course (meant.copied s session target source)
 
+-- commit: refused, or made
 unfoldable pub commit_asked_course : State → ℕ → Bool → ℕ → Option (List ℕ) → Option (List ℕ) → Course
 commit_asked_course s session confirmed timeout persist persist_id =
     unless_refused (commit_refused s session persist_id) (commit_made s confirmed timeout persist)
 
+-- cancel-commit: refused, or the pending commit is reverted
 unfoldable pub cancel_course : State → ℕ → Option (List ℕ) → Course
 cancel_course s session persist_id = done_unless (cancel_refused s session persist_id) Revert
 
+-- discard-changes: refused, or the candidate is running again
 unfoldable pub discard_course : State → ℕ → Course
 discard_course s session = done_unless (meant.in_use s session CandidateStore) Discard
 
+-- lock: refused, or the session gets the datastore's lock
 unfoldable pub lock_course : State → ℕ → Datastore → Course
 lock_course s session target = done_unless (lock_refused s session target) (Grant target)
 
+-- unlock: refused, or the datastore's lock is released
 unfoldable pub unlock_course : State → ℕ → Datastore → Course
 unlock_course s session target = done_unless (unlock_refused s session target) (Release target)
 
+-- kill-session: refused, or the session of that number is over
 unfoldable pub kill_course : State → ℕ → ℕ → Course
 kill_course s session number = done_unless (meant.kill_refusal s session number) (Over number)
 
+-- partial-lock: refused, or what the nodes that its selects name come to
 unfoldable pub partial_lock_course : State → ℕ → List Select → Course
 partial_lock_course s session selects =
     unless_refused (partly_hindered s) (selects_course s session (paths_of s.schema selects))
 
+-- partial-unlock: refused, or the partial lock of that number is released
 unfoldable pub partial_unlock_course : State → ℕ → ℕ → Course
 partial_unlock_course s session lock =
     done_unless (meant.partial_unlock_refusal s session lock) (ReleaseNodes lock)
 
+-- validate: whether the rows of its source keep the schema's rules, which changes nothing
 unfoldable pub validate_course : State → Origin → Course
 validate_course s source = Answer (meant.validated s.schema (meant.rows_to_validate s source)) Nothing
 
+-- why no datastore is deleted, whichever it is
 abbrev pub unoffered_cause : Datastore → Cause
 unoffered_cause store = plain_cause UnsupportedTarget (refusal.datastore_name store ∷ [])
 
@@ -267,6 +285,7 @@ asked_course s session (Validate source) = validate_course s source
 asked_course s session (PartialLock selects) = partial_lock_course s session selects
 asked_course s session (PartialUnlock lock) = partial_unlock_course s session lock
 
+-- what a request comes to as it was read: refused for what is wrong with it, or what it asks for
 abbrev pub course_on : State → ℕ → Result Asked Cause → Course
 course_on s session (Err cause) = refused_course cause
 course_on s session (Ok asked) = asked_course s session asked
@@ -301,6 +320,7 @@ abbrev pub with_given : State → ℕ → List Path → Result ℕ PartialFault 
 with_given s session nodes (Ok lock) = with_partial s session lock nodes
 with_given s session nodes (Err fault) = s
 
+-- the session gets a partial lock of these nodes, unless that is refused
 unfoldable pub partly_granted : State → ℕ → List Path → State
 partly_granted s session nodes = with_given s session nodes (lock_given s session nodes)
 

@@ -74,10 +74,12 @@ IsBeforeAt tables rows low place =
 abbrev pub EndsBefore : Tables → List Row → Path → ℕ → Type 0
 EndsBefore tables rows low place = (place ≡ 0) ⊎ ((last : ℕ) × (place ≡ last + 1) × IsBeforeAt tables rows low last)
 
+-- the rows from a place on stand after a node, as the first of them shows, if there is one
 abbrev pub BeginsAfter : Tables → List Row → Path → ℕ → Type 0
 BeginsAfter tables rows high place =
     IfSome (slice_get rows place) (λ row. steps_before tables rows Kept [] high.steps row.path.steps ≡ true)
 
+-- at some place the rows before it stand before one node, and those from there on after the other: none is between
 abbrev pub IsCutBetween : Tables → List Row → Path → Path → Type 0
 IsCutBetween tables rows low high = (place : ℕ) × EndsBefore tables rows low place × BeginsAfter tables rows high place
 

@@ -20,6 +20,7 @@ use Rattle.nc_filter.specs.inner.Tables.{has_text}
 abbrev pub asked_in : Option ℕ → Elem → List (List ℕ)
 asked_in upper elem = option_map_or (λ at. (0 ∷ name_key elem) ∷ []) upper [] ++ map (λ key. 1 ∷ key) (asked elem)
 
+-- the labels of the data node of a number
 abbrev pub number_labels : Tables → ℕ → List (List ℕ)
 number_labels tables number = option_map_or node_labels (slice_get tables.nodes number) []
 
@@ -28,6 +29,7 @@ abbrev pub step_labels : Tables → Option ℕ → List Step → List (List ℕ)
 step_labels tables upper above =
     option_map_or (λ at. option_map_or (λ step. number_labels tables step.node) (slice_get above at) []) upper []
 
+-- what an instance has that elements ask for: labels of the data node above, and keys of the rows directly in it
 abbrev pub instance_keys : Tables → List Row → Option ℕ → List Step → List (List ℕ)
 instance_keys tables all upper above = step_labels tables upper above ++ map (λ key. 1 ∷ key) (keys_in tables all above)
 
@@ -57,11 +59,13 @@ abbrev pub AddsNames : List Elem → BTreeSet (List ℕ) → BTreeSet (List ℕ)
 AddsNames elems before now = (wanted : List ℕ) → has_text now wanted
     ≡ (has_text before wanted || list_any (λ elem. is_same_text (0 ∷ name_key elem) wanted) elems)
 
+-- the set has the names of the elements of all wants, and nothing else
 abbrev pub AreNamesOf : List Want → BTreeSet (List ℕ) → Type 0
 AreNamesOf wants names = (wanted : List ℕ) → has_text names wanted
     ≡ list_any
     (λ want. list_any (λ elem. is_same_text (0 ∷ name_key elem) wanted) (map (λ elem. elem.now) want.elems)) wants
 
+-- the row of a spot is at or below a data node, at that depth, that has one of the names
 abbrev pub is_asked : Tables → ℕ → BTreeSet (List ℕ) → Spot → Bool
 is_asked tables depth names spot =
     option_map_or (λ number. list_any (has_text names) (number_labels tables number)) (node_at depth spot.row.now) false

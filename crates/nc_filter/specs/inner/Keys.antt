@@ -19,6 +19,7 @@ abbrev pub marked : List ℕ → List ℕ
 marked [] = 0 ∷ []
 marked (x ∷ xs) = 1 ∷ x ∷ marked xs
 
+-- a namespace and a name, each with its end, and the text after them
 abbrev pub key : List ℕ → List ℕ → List ℕ → List ℕ
 key space name text = marked space ++ marked name ++ text
 
@@ -32,9 +33,11 @@ abbrev pub value_keys : Node → List ℕ → List (List ℕ)
 value_keys node value =
     key node.name.space node.name.name (trimmed value) ∷ key [] node.name.name (trimmed value) ∷ []
 
+-- the data node at which a row is
 abbrev pub row_node : Tables → Row → Option Node
 row_node tables row = option_and_then (λ step. slice_get tables.nodes step.node) (last_or None row.path.steps)
 
+-- the keys of the value of a row; a row without a value has none
 abbrev pub row_keys : Tables → Row → List (List ℕ)
 row_keys tables row =
     option_map_or (λ node. option_map_or (value_keys node) row.value []) (row_node tables row) []
@@ -43,6 +46,7 @@ row_keys tables row =
 abbrev pub keys_in : Tables → List Row → List Step → List (List ℕ)
 keys_in tables all above = flat_map (row_keys tables) (children all above)
 
+-- a text is one of some keys
 abbrev pub among : List (List ℕ) → List ℕ → Bool
 among keys wanted = list_any (λ key. is_same_text key wanted) keys
 

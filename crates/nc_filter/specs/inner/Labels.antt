@@ -27,6 +27,7 @@ level_labels elem =
     (if is_of_matches (level_of elem) then [] ∷ [] else [])
     ++ map elem_label (filter (λ elem. not (is_containment elem)) (level_of elem))
 
+-- the labels of a row's value, where its path ends at that depth
 abbrev pub text_labels : Tables → ℕ → Row → List (List ℕ)
 text_labels tables depth row = if ends depth row then map (λ key. 1 ∷ key) (row_keys tables row) else []
 
@@ -66,12 +67,15 @@ AreSpots groups whole spots = (f : Group → Row → Bool) →
     (λ n run. has group.members n && list_any (f group) (map (λ row. row.now) run.rows)) whole) groups
     ≡ list_any (λ group. list_any (λ spot. has group.members spot.number && f group spot.row.now) spots) groups
 
+-- a row has a label, in its instance at that depth
 abbrev pub spot_has : Tables → ℕ → Spot → List ℕ → Bool
 spot_has tables depth spot wanted = among (row_labels tables depth spot.row.now) wanted
 
+-- a want selects by a label
 abbrev pub want_has : Want → List ℕ → Bool
 want_has want wanted = among want.labels wanted
 
+-- the labels of the levels at a group's elements
 abbrev pub group_labels : Group → List (List ℕ)
 group_labels group = flat_map level_labels (map (λ elem. elem.now) group.elems)
 
@@ -86,15 +90,18 @@ IsWant group want =
     × IsSame (group_labels group) want.labels
     × (map (λ elem. elem.now) want.elems ≡ below_of (map (λ elem. elem.now) group.elems))
 
+-- a group passes one of two tests with its instances: of its labels, or of the containment nodes at its levels
 abbrev pub group_wants : ((ℕ → Bool) → List ℕ → Bool) → ((ℕ → Bool) → List Elem → Bool) → Group → Bool
 group_wants f g group =
     list_any (f (has group.members)) (group_labels group)
     || g (has group.members) (below_of (map (λ elem. elem.now) group.elems))
 
+-- so does a want, which has both in lists of its own
 abbrev pub want_wants : ((ℕ → Bool) → List ℕ → Bool) → ((ℕ → Bool) → List Elem → Bool) → Want → Bool
 want_wants f g want =
     list_any (f (has want.members)) want.labels || g (has want.members) (map (λ elem. elem.now) want.elems)
 
+-- the wants pass the same tests as the groups
 abbrev pub AreWants : List Group → List Want → Type 0
 AreWants groups wants = (f : (ℕ → Bool) → List ℕ → Bool) (g : (ℕ → Bool) → List Elem → Bool) →
     list_any (want_wants f g) wants ≡ list_any (group_wants f g) groups

@@ -21,9 +21,11 @@ children rows above = filter (λ row. is_same_path (above_last row.path.steps) a
 abbrev pub fits : Tables → Elem → Row → Bool
 fits tables elem row = option_map_or (is_of_node tables elem) (last_or None row.path.steps) false && is_of_text elem row
 
+-- a part is an element, and no text
 abbrev pub is_element : Part → Bool
 is_element part = is_some (elem_of part)
 
+-- a part is a content match, or no element
 abbrev pub is_part_match : Part → Bool
 is_part_match part = option_map_or is_content_match (elem_of part) true
 

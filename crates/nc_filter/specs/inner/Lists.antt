@@ -10,6 +10,7 @@ IsSame {X} before now = (test : X → Bool) → list_any test now ≡ list_any t
 abbrev pub AddsOne : {X : Type 0} → List X → List X → X → Type 0
 AddsOne {X} before now x = (test : X → Bool) → list_any test now ≡ (list_any test before || test x)
 
+-- a list ends with that element
 abbrev pub IsLast : {X : Type 0} → List X → X → Type 0
 IsLast xs x = slice_get xs (length xs - 1) ≡ Some x
 

@@ -14,10 +14,12 @@ use Rattle.nc_filter.specs.inner.Levels.{is_free}
 abbrev pub node_at : ℕ → Row → Option ℕ
 node_at depth row = option_map (λ step. step.node) (slice_get row.path.steps depth)
 
+-- the data node at a depth of the path to the first of some rows
 abbrev pub first_node : ℕ → List Row → Option ℕ
 first_node depth [] = None
 first_node depth (row ∷ rows) = node_at depth row
 
+-- both are the same data node, or neither is one
 abbrev pub is_number : Option ℕ → Option ℕ → Bool
 is_number None None = true
 is_number (Some a) (Some b) = a == b
@@ -31,6 +33,7 @@ has_node depth node row = is_number (node_at depth row) (Some node)
 abbrev pub ends : ℕ → Row → Bool
 ends depth row = length row.path.steps == depth + 1
 
+-- an element has the name of the data node of a number
 abbrev pub is_named : Tables → ℕ → Elem → Bool
 is_named tables node elem = option_map_or (is_of_name elem) (slice_get tables.nodes node) false
 
@@ -54,6 +57,7 @@ abbrev pub picks_at : Tables → List Row → ℕ → List Elem → Row → ℕ 
 picks_at tables rows depth level row node =
     list_any (λ elem. is_named tables node elem && says tables rows depth row elem) level
 
+-- so it is with the data node to which the row's path leads at that depth, if it goes so far
 abbrev pub picked : Tables → List Row → ℕ → List Elem → Row → Bool
 picked tables rows depth level row = option_map_or (picks_at tables rows depth level row) (node_at depth row) false
 
@@ -65,6 +69,7 @@ opens tables rows depth row elem = is_of_matches (level_of elem) || picked table
 abbrev pub is_plain : Elem → Bool
 is_plain elem = list_all is_free elem.parts
 
+-- the level of an element has a content match
 abbrev pub is_guarded : Elem → Bool
 is_guarded elem = not (is_plain elem)
 

@@ -40,15 +40,19 @@ has_key tables all upper run wanted = among (instance_keys tables all upper run.
 abbrev pub IsKnown : Tables → List Row → Option ℕ → Run → Type 0
 IsKnown tables all upper run = (wanted : List ℕ) → has_text run.keys wanted ≡ has_key tables all upper run wanted
 
+-- each of some runs has the keys of its instance
 abbrev pub AreKnown : Tables → List Row → Option ℕ → List Run → Type 0
 AreKnown tables all upper runs = All (IsKnown tables all upper) runs
 
+-- lists of numbers by keys
 abbrev pub Slots : Type 0
 Slots = BTreeMap (List ℕ) (List ℕ)
 
+-- the numbers in the list at a key
 abbrev pub in_slot : Slots → List ℕ → List ℕ
 in_slot items wanted = option_map_or (λ numbers. numbers) (get (slice_cmp nat_cmp) items wanted) []
 
+-- there is no list at a key, and at the others what there was
 abbrev pub without_slot : List ℕ → Slots → Slots → Type 0
 without_slot gone before now =
     (other : List ℕ) → get (slice_cmp nat_cmp) now other
@@ -59,9 +63,11 @@ abbrev pub Puts : Slots → Slots → (List ℕ → Bool) → ℕ → Type 0
 Puts before now here number = (other : List ℕ) (test : ℕ → Bool) →
     list_any test (in_slot now other) ≡ (list_any test (in_slot before other) || (here other && test number))
 
+-- in the lists, at one key a number more
 abbrev pub adds_key : Slots → Slots → List ℕ → ℕ → Type 0
 adds_key before now wanted number = Puts before now (is_same_text wanted) number
 
+-- in the lists, at each of some keys a number more
 abbrev pub adds_keys : Slots → Slots → List (List ℕ) → ℕ → Type 0
 adds_keys before now keys number = Puts before now (among keys) number
 
@@ -73,9 +79,11 @@ at_number whole test number = option_map_or test (slice_get whole number) false
 abbrev pub Keyed : Type 0
 Keyed = BTreeMap (List ℕ) Members
 
+-- a number is in the set at a key
 abbrev pub has_at : Keyed → List ℕ → ℕ → Bool
 has_at items wanted n = option_map_or (λ members. has members n) (get (slice_cmp nat_cmp) items wanted) false
 
+-- there is no set at a key, and at the others what there was
 abbrev pub without_members : List ℕ → Keyed → Keyed → Type 0
 without_members gone before now =
     (other : List ℕ) → get (slice_cmp nat_cmp) now other
@@ -86,9 +94,11 @@ abbrev pub Marks : Keyed → Keyed → (List ℕ → Bool) → ℕ → Type 0
 Marks before now here number =
     (other : List ℕ) (n : ℕ) → has_at now other n ≡ (has_at before other n || (here other && (number == n)))
 
+-- in the sets, at one key a number more
 abbrev pub marks_key : Keyed → Keyed → List ℕ → ℕ → Type 0
 marks_key before now wanted number = Marks before now (is_same_text wanted) number
 
+-- in the sets, at each of some keys a number more
 abbrev pub marks_keys : Keyed → Keyed → List (List ℕ) → ℕ → Type 0
 marks_keys before now keys number = Marks before now (among keys) number
 
@@ -118,6 +128,7 @@ IsFrom whole here from = (n : ℕ) → bit_of from n ≡ at_number whole here n
 abbrev pub AreNumbered : List Run → (Run → Bool) → List ℕ → Type 0
 AreNumbered whole here numbers = (n : ℕ) → list_any (λ one. one == n) numbers ≡ at_number whole here n
 
+-- those numbers in one of the two forms: as a list, or as bits
 abbrev pub AreReached : List Run → (Run → Bool) → Reached → Type 0
 AreReached whole here (Few numbers) = AreNumbered whole here numbers
 AreReached whole here (Bits words) = IsFrom whole here words
@@ -135,6 +146,7 @@ AreOf passes some numbers =
 abbrev pub AreHeld : List (List ℕ) → List Run → (Run → Bool) → Members → Type 0
 AreHeld keys whole here members = (n : ℕ) → has members n ≡ at_number whole (λ run. here run && holds_in keys run) n
 
+-- the same, by a list of their numbers
 abbrev pub AreListed : List (List ℕ) → List Run → (Run → Bool) → List ℕ → Type 0
 AreListed keys whole here numbers = AreNumbered whole (λ run. here run && holds_in keys run) numbers
 
@@ -142,13 +154,16 @@ AreListed keys whole here numbers = AreNumbered whole (λ run. here run && holds
 abbrev pub class_says : (List ℕ → Bool) → (Elem → Bool) → Class → Bool
 class_says has test class = has_all has class.keys && list_any test (map (λ elem. elem.now) class.elems)
 
+-- what an element says, by a test, in an instance with these keys: nothing, unless all that it asks for is there
 abbrev pub elem_says : Option ℕ → (List ℕ → Bool) → (Elem → Bool) → Elem → Bool
 elem_says upper has test elem = has_all has (asked_in upper elem) && test elem
 
+-- a class says what one element says
 abbrev pub IsClass : Option ℕ → Class → Elem → Type 0
 IsClass upper class elem =
     (has : List ℕ → Bool) (test : Elem → Bool) → class_says has test class ≡ elem_says upper has test elem
 
+-- one of some classes says what one of some elements says
 abbrev pub AreClasses : Option ℕ → List Elem → List Class → Type 0
 AreClasses upper elems classes = (has : List ℕ → Bool) (test : Elem → Bool) →
     list_any (class_says has test) classes ≡ list_any (elem_says upper has test) elems
@@ -175,11 +190,13 @@ want_tells whole upper test want =
     list_any (elem_says upper (λ wanted. has_text run.keys wanted) (test run)) (map (λ elem. elem.now) want.elems))
     whole
 
+-- what a want says is added to what the groups say
 abbrev pub AddsWant : List Run → Option ℕ → Want → List Group → List Group → Type 0
 AddsWant whole upper want before now = (test : Run → Elem → Bool) →
     list_any (group_tells whole test) now
     ≡ (list_any (group_tells whole test) before || want_tells whole upper test want)
 
+-- the groups say what the wants say
 abbrev pub AreGroups : List Run → Option ℕ → List Want → List Group → Type 0
 AreGroups whole upper wants groups = (test : Run → Elem → Bool) →
     list_any (group_tells whole test) groups ≡ list_any (want_tells whole upper test) wants
@@ -195,6 +212,7 @@ AddsGroups whole here classes before now = (test : Run → Elem → Bool) →
     list_any (group_tells whole test) now
     ≡ (list_any (group_tells whole test) before || list_any (class_tells whole here test) classes)
 
+-- groups say what others said
 abbrev pub AreSameGroups : List Group → List Group → Type 0
 AreSameGroups before now = (whole : List Run) (test : Run → Elem → Bool) →
     list_any (group_tells whole test) now ≡ list_any (group_tells whole test) before
@@ -204,6 +222,7 @@ abbrev pub AddsIf : Bool → ℕ → List ℕ → List ℕ → Type 0
 AddsIf passes number before now = (test : ℕ → Bool) →
     list_any test now ≡ (list_any test before || (passes && test number))
 
+-- a group says what a class says of those instances that pass a test
 abbrev pub IsGroup : List Run → (Run → Bool) → Group → Class → Type 0
 IsGroup whole here group class =
     (test : Run → Elem → Bool) → group_tells whole test group ≡ class_tells whole here test class

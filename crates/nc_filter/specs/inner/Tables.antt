@@ -22,6 +22,7 @@ use Rattle.nc_filter.specs.inner.Levels.{children}
 abbrev pub order : Bor (List Step) → Bor (List Step) → Ordering
 order steps others = slice_cmp ghosts.cmp steps.now others.now
 
+-- the rows that a table has at some steps, none where it does not have the steps
 abbrev pub in_table : BTreeMap (Bor (List Step)) (List (Bor Row)) → Bor (List Step) → List (Bor Row)
 in_table table key = option_map_or (λ inside. inside) (get order table key) []
 

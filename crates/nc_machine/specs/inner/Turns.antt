@@ -54,6 +54,7 @@ pub record Answers (old new : State) (session : ℕ) (request : Request) (outcom
   pub faults : CountsFaults (reaches_disk old (Requested session request)) (has_failed outcome) old.faults new.faults
   pub state_is : new ≡ record (changed old (Requested session request) outcome) { faults = new.faults }
 
+-- what is answered to a session's request: a verdict, and the reply that tells it
 unfoldable pub answered_by : State → ℕ → Request → Verdict → Outcome
 answered_by s session request verdict = Answered verdict (reply_of s.schema (sees_of s session) request verdict)
 

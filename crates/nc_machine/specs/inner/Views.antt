@@ -40,6 +40,7 @@ own_is_mine opening seen legal = record {
       (λ k d within. (k, within, get_or_default seen k (slice_index_or seen k d) d within));
 }
 
+-- what the desk of one session stands for is a view of the history
 pub solo_views : {K : Type 0} (coded : Coded K) (words : Lasting K) (seat : Seat K) (home : Home)
     (seen mine : List Entry) →
     SoloStands coded words seat home seen mine → IsView home seen mine

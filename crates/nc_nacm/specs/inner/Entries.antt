@@ -18,5 +18,6 @@ part_between depth rows from to = record { step = next_at depth rows from; rows 
 abbrev pub name_in : List Step → List ℕ
 name_in steps = option_map_or (λ step. option_map_or (λ name. name) (first_text step.keys) []) (last_or None steps) []
 
+-- the first key of the entry to which steps lead, if it has one
 abbrev pub first_key : List Step → Option (List ℕ)
 first_key steps = option_and_then (λ step. first_text step.keys) (last_or None steps)

@@ -11,11 +11,13 @@ use Rattle.nc_nacm.specs.declared.index.Index.{Index}
 use Rattle.nc_nacm.specs.inner.Keys.{is_at_with, key_cmp, sought}
 use Rattle.nc_nacm.specs.inner.Tables.{HasPlaces, HasShapes, in_entries}
 
+-- the index has each rule that may be about a node, by what its path names
 pub record IsIndex (rules : List Rule) (index : Index) : Type 0 where
   pub sorted : IsStrictlySortedBy key_cmp (keys_of index.entries.items)
   pub places : HasPlaces (in_entries index.entries.items) rules
   pub shapes : HasShapes index.shapes rules
 
+-- the lower of two places, of which each may be none
 abbrev pub earlier : Option ℕ → Option ℕ → Option ℕ
 earlier None other = other
 earlier (Some place) None = Some place

@@ -18,12 +18,15 @@ use Rattle.nc_nacm.specs.declared.key.KeyStep.{KeyStep}
 abbrev pub text_cmp : List ℕ → List ℕ → Ordering
 text_cmp a b = slice_cmp nat_cmp a b
 
+-- the keys of a step are ordered in turn, those that are not given first
 abbrev pub given_cmp : List (Option (List ℕ)) → List (Option (List ℕ)) → Ordering
 given_cmp a b = slice_cmp (option_cmp text_cmp) a b
 
+-- steps are ordered by their nodes, then by their keys
 abbrev pub step_cmp : KeyStep → KeyStep → Ordering
 step_cmp a b = ordering_then (nat_cmp a.node b.node) (given_cmp a.keys b.keys)
 
+-- keys are ordered by their modules, then by their steps
 abbrev pub key_cmp : Key → Key → Ordering
 key_cmp a b = ordering_then (text_cmp a.module b.module) (slice_cmp step_cmp a.steps b.steps)
 
@@ -31,11 +34,13 @@ key_cmp a b = ordering_then (text_cmp a.module b.module) (slice_cmp step_cmp a.s
 abbrev pub key_step : PatternStep → KeyStep
 key_step step = record { node = step.node; keys = step.keys }
 
+-- the pattern of a rule about data nodes: a rule about all has the empty one, another rule none
 abbrev pub pattern_in : RuleKind → Option (List PatternStep)
 pattern_in OfAll = Some []
 pattern_in (OfData pattern) = Some pattern.steps
 pattern_in kind = None
 
+-- the key of a rule of that pattern: its module, and the steps of the pattern
 abbrev pub key_of : Rule → List PatternStep → Key
 key_of rule pattern = record { «module» = rule.module; steps = map key_step pattern }
 
@@ -43,6 +48,7 @@ key_of rule pattern = record { «module» = rule.module; steps = map key_step pa
 abbrev pub is_at : Key → Rule → Bool
 is_at key rule = option_map_or (λ pattern. is_eq (key_cmp (key_of rule pattern) key)) (pattern_in rule.kind) false
 
+-- so it is, and the rule is about the right
 abbrev pub is_at_with : Key → Right → Rule → Bool
 is_at_with key right rule = is_at key rule && has_right rule.operations right
 
@@ -54,6 +60,7 @@ shape_of pattern = map (λ step. map is_some step.keys) pattern
 abbrev pub shape_cmp : List (List Bool) → List (List Bool) → Ordering
 shape_cmp a b = slice_cmp (slice_cmp bool_cmp) a b
 
+-- a key, if it is given
 abbrev pub wanted : Bool → Option (List ℕ) → Option (List ℕ)
 wanted true key = key
 wanted false key = None
@@ -71,5 +78,6 @@ masked (given ∷ more) [] = []
 masked (given ∷ more) (step ∷ steps) =
     record { node = step.node; keys = masked_keys given step.keys } ∷ masked more steps
 
+-- the key of a rule of that module whose pattern gives such keys and covers the path
 abbrev pub sought : List ℕ → List (List Bool) → List Step → Key
 sought name shape steps = record { «module» = name; steps = masked shape steps }

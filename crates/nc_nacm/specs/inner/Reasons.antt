@@ -6,6 +6,7 @@ use Rattle.nc_nacm.specs.declared.made.Made.{Made}
 use Rattle.nc_nacm.specs.declared.made.Reason.{Reason}
 use Rattle.nc_nacm.specs.declared.made.Reason.TheVariants.{Off, Recovery, CloseSession, Ruled, DenyAll, DenyWrite, OperationDefault, Default}
 
+-- what decided; a rule is told by its list and its name
 abbrev pub by_of : Reason → By
 by_of Off = ByOff
 by_of Recovery = ByRecovery
@@ -16,5 +17,6 @@ by_of DenyWrite = ByDenyWrite
 by_of OperationDefault = ByOperationDefault
 by_of Default = ByDefault
 
+-- the decision for which the code's own stands
 abbrev pub decision_of : Made → Decision
 decision_of made = record { permit = made.permit; by = by_of made.reason }

@@ -13,6 +13,7 @@ use Rattle.nc_nacm.specs.declared.key.Key.{Key}
 use Rattle.nc_nacm.specs.inner.Keys.{is_at_with, key_cmp, pattern_in, shape_cmp, shape_of}
 use Rattle.nc_nacm.specs.inner.Places.{no_places, place_with, with_place}
 
+-- the place for a right in what is found at a key, if anything is
 abbrev pub place_in : Right → Option Places → Option ℕ
 place_in right found = option_and_then (place_with right) found
 
@@ -21,6 +22,7 @@ abbrev pub HasPlaces : (Key → Option Places) → List Rule → Type 0
 HasPlaces found rules =
     (key : Key) (right : Right) → place_in right (found key) ≡ position_from (is_at_with key right) 0 rules
 
+-- what a table has at a key
 abbrev pub in_table : BTreeMap Key Places → Key → Option Places
 in_table table key = get key_cmp table key
 
@@ -32,6 +34,7 @@ Puts old new key operations at =
     ≡ cond (is_eq (key_cmp key other))
     (Some (with_place (unwrap_or (in_table old key) no_places) operations at)) (in_table old other)
 
+-- what a list of entries has at a key: that of the first such entry
 abbrev pub in_entries : List (Key × Places) → Key → Option Places
 in_entries entries key = lookup (λ (other : Key). is_eq (key_cmp key other)) entries
 

@@ -18,6 +18,7 @@ told_of found many spent last =
     option_map_or (λ lock. Err (Taken (covered_of lock))) found
     (if many then Err (TooMany most_locks) else (if spent then Err (IdsSpent last_lock_id) else Ok (last + 1)))
 
+-- what a session is told that asks for these nodes, where so much is granted
 abbrev pub given_in : Granted → ℕ → List Path → Result ℕ PartialFault
 given_in granted session nodes =
     told_of (other_in granted session (locks_some nodes))

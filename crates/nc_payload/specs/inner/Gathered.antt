@@ -31,6 +31,7 @@ use Rattle.nc_payload.specs.inner.Places.{order}
 abbrev pub in_pairs : List Step × ℕ → List Step × ℕ → Ordering
 in_pairs pair other = ordering_then (order pair.0 other.0) (nat_cmp pair.1 other.1)
 
+-- the case that a choice has in the node of some steps, if the merges say one
 abbrev pub case_of : Turns → List Step → ℕ → Option ℕ
 case_of turns above choice = get in_pairs turns.cases (above, choice)
 
@@ -42,9 +43,11 @@ AreChosen turns above cases = All (λ case. case_of turns above case.choice ≡ 
 abbrev pub row_marks : Tables → Turns → Row → List Mark
 row_marks tables turns row = marks tables (turn_of turns) row.path.steps
 
+-- a row, after its marks
 abbrev pub with_marks : Tables → Turns → Row → List Mark × Row
 with_marks tables turns row = (row_marks tables turns row, row)
 
+-- the marks of a row come before those of another
 abbrev pub goes_before : Tables → Turns → Row → Row → Bool
 goes_before tables turns row other = is_lt (in_marks (row_marks tables turns row) (row_marks tables turns other))
 
@@ -74,6 +77,7 @@ pub record IsKnown (tables : Tables) (turns : Turns) (so_far : Gathered) (rows :
   pub chosen : AreChosen turns above (cases_of tables step.node)
   pub inner : at_node tables (record { steps = above }) has_value ≡ false
 
+-- so it is with each further step, from the node of some steps down
 abbrev pub AreKnown : Tables → Turns → Gathered → List Row → List Step → List Step → Type 0
 AreKnown tables turns so_far rows above [] = Unit {0}
 AreKnown tables turns so_far rows above (step ∷ rest) =
@@ -117,6 +121,7 @@ pub record Stands (tables : Tables) (turns : Turns) (so_far : Gathered) (path : 
   pub at : row.path.steps ≡ path.steps
   pub only : block ≡ row ∷ []
 
+-- rows are at a node or below it
 abbrev pub AreBelow : Path → List Row → Type 0
 AreBelow path rows = All (λ row. is_at_or_below path.steps row.path ≡ true) rows
 
@@ -133,12 +138,14 @@ Receives tables turns next steps number None = Unit {0}
 Receives tables turns next steps number (Some after) =
     (is_by_user tables number ≡ true → (next ≤ turn_of turns steps) × (turn_of turns steps < after)) × (next ≤ after)
 
+-- with one row more of a node that may be merged now, put in its place
 abbrev pub TakesRow : Tables → Turns → Gathered → Row → Option Gathered → Type 0
 TakesRow tables turns before row None = Unit {0}
 TakesRow tables turns before row (Some after) =
     IsFresh tables turns before row.path.steps ×
     ((rows : List Row) → Holds tables turns before rows → Holds tables turns after (put tables turns rows row))
 
+-- with several rows more, each put in its place in turn
 abbrev pub TakesRows : Tables → Turns → Gathered → List Row → Option Gathered → Type 0
 TakesRows tables turns before block None = Unit {0}
 TakesRows tables turns before block (Some after) =

@@ -29,6 +29,7 @@ abbrev pub has : Places → List Step → Bool
 has places [] = places.some
 has places (step ∷ steps) = contains order places.items (step ∷ steps)
 
+-- the node of a path is a place or above one
 abbrev pub has_place : Places → Path → Bool
 has_place places path = has places path.steps
 

@@ -33,6 +33,7 @@ pub record IsFound (reading : Reading) (at : Position) (earlier : List Step) (na
   pub merge : found.merge ≡ merge_of reading at named
   pub place : found.place ≡ place_of reading named
 
+-- an element that names a data node there: what is found of it, or its own fault
 abbrev pub OwnsNamed : Reading → Position → List Step → Named → Result Found PayloadFault → Type 0
 OwnsNamed reading at earlier named (Ok found) = IsFound reading at earlier named found
 OwnsNamed reading at earlier named (Err (Bad cause)) = own_fault reading at earlier named ≡ Some cause

@@ -11,9 +11,11 @@ use Rattle.nc_names.specs.declared.path.Step.{Step}
 use Rattle.nc_schema.specs.Places.{Part, is_same_next, parts}
 use Rattle.nc_defaults.specs.Within.{rows_between}
 
+-- steps are ordered by their nodes, then by their keys
 abbrev pub step_order : Bor Step → Bor Step → Ordering
 step_order step other = ghosts.cmp step.now other.now
 
+-- where the rows of a node begin and end, by the step to it
 abbrev pub Spans : Type 0
 Spans = BTreeMap (Bor Step) (ℕ × ℕ)
 
@@ -25,6 +27,7 @@ part_at rows step span = record { step = Some step; rows = rows_between rows spa
 abbrev pub first_part : Step → List Part → Option Part
 first_part step found = find (λ part. is_same_next part.step (Some step)) found
 
+-- a part from one number up to another, which is not past the end of the rows
 abbrev pub IsSpan : List Row → ℕ × ℕ → Type 0
 IsSpan rows span = (span.0 ≤ span.1) × (span.1 ≤ length rows)
 

@@ -9,6 +9,7 @@ use Rattle.nc_refs.specs.declared.refs.About.{About}
 use Rattle.nc_refs.specs.inner.Named.{AllExist}
 use Rattle.nc_refs.specs.inner.Referred.{IsKnown}
 
+-- what is known of the rows: which references were looked up, and which nodes exist
 pub record IsAbout (tables : Tables) (rows : List Row) (about : About) : Type 0 where
   pub known : IsKnown tables rows about.known
   pub nodes : IfSome about.nodes (AllExist rows)

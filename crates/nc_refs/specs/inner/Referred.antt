@@ -13,6 +13,7 @@ use Rattle.nc_refs.specs.declared.referred.Known.{Known}
 use Rattle.nc_refs.specs.declared.referred.Referred.{Referred}
 use Rattle.nc_refs.specs.inner.Trails.{IsTrail}
 
+-- texts are ordered byte by byte
 abbrev pub text_order : Bor (List ℕ) → Bor (List ℕ) → Ordering
 text_order text other = slice_cmp nat_cmp text.now other.now
 
@@ -20,6 +21,7 @@ text_order text other = slice_cmp nat_cmp text.now other.now
 abbrev pub HasValues : BTreeSet (Bor (List ℕ)) → List (List ℕ) → Type 0
 HasValues set values = (key : Bor (List ℕ)) → contains text_order set key ≡ has_text key.now values
 
+-- the values that are known are those of the leafref's target below the place where its path turned down last
 abbrev pub AreReferred : Tables → List Row → Referred → Type 0
 AreReferred tables rows referred =
     HasValues referred.values (values_referred tables rows referred.turning.now referred.target)

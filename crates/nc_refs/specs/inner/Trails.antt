@@ -24,6 +24,7 @@ pub record IsReached (tables : Tables) (rows : List Row) (steps : List Step) (fo
   pub place : option_map (place_here rows steps) found ≡ place_at tables (top_place rows) steps
   pub within : IfSome found (IsWithin rows)
 
+-- the table is that of the nodes directly in the place to which the steps lead
 abbrev pub AreBranchesAt : List Row → List Step → Branches → Type 0
 AreBranchesAt rows steps branches = AreBranches rows (length steps) branches.from branches.to branches.table
 

@@ -12,9 +12,11 @@ use Rattle.nc_protocol.specs.Words as w
 use Rattle.nc_requests.specs.declared.parameter.Parameter.{Parameter}
 use Rattle.nc_requests.specs.declared.parameter.Parameter.TheVariants.{Target, Source, Origin, Config, Filter, DefaultOperation, TestOption, ErrorOption, Confirmed, ConfirmTimeout, SessionId, LockId, Persist, PersistId, Select as SelectParameter}
 
+-- a parameter that stands at most once, and is a bad one where nothing is read of it
 abbrev pub read_as : {A : Type 0} → QName → (Elem → Option A) → asking.Parameter
 read_as name read = asking.single name (asking.bad_parameter name) read
 
+-- which parameter of the protocol each of the code's is
 abbrev pub means : Parameter → asking.Parameter
 means Target = read_as (base_name w.target_word) asking.datastore_in
 means Source = read_as (base_name w.source_word) asking.datastore_in
@@ -39,6 +41,7 @@ needs parameter read elems =
     asking.read_or (Err (asking.missing_parameter (means parameter).name)) (means parameter).refused read
     (asking.element_named (means parameter).name elems)
 
+-- the latter: where it is absent, what is given for that
 abbrev pub has_or : {A : Type 0} → Parameter → (Elem → Option A) → A → List Elem → Result A Cause
 has_or parameter read absent elems =
     asking.read_or (Ok absent) (means parameter).refused read (asking.element_named (means parameter).name elems)

@@ -57,6 +57,7 @@ pub record IsOpenAt (number place : ℕ) (connections : List Connection) : Type 
   pub number_is : connection.number ≡ number
   pub unended : connection.is_over ≡ false
 
+-- the place of the open connection of a number, among so many, or that each of that number is closed
 abbrev pub FindsOpen : ℕ → List Connection → ℕ → Option ℕ → Type 0
 FindsOpen number connections many None = IsClosed number connections
 FindsOpen number connections many (Some place) = IsOpenAt number place connections × (place < many)
@@ -112,6 +113,7 @@ pub record HasDone {K : Type 0} (words : Lasting K) (schema : Tables) (script : 
   pub stand : StandFor schema talks board
   pub tallied : Tallied nothing talks.tally entries
 
+-- how a script ends whose step in that place ended so
 abbrev pub Faults : StepFault → ℕ → ScriptFault → Type 0
 Faults Bad n fault = fault ≡ BadStep n
 Faults Spent n fault = fault ≡ ScriptSpent n

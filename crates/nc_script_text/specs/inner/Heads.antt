@@ -14,9 +14,11 @@ use Rattle.nc_script_text.specs.declared.head.Head.{Head}
 use Rattle.nc_script_text.specs.declared.head.Head.TheVariants.{Begin, Send, End, Clock}
 use Rattle.nc_script_text.specs.declared.line.Found.{Found}
 
+-- a byte is the one between words
 abbrev pub is_blank : ℕ → Bool
 is_blank byte = byte == blank
 
+-- the words of a text
 abbrev pub cut : List ℕ → List (List ℕ)
 cut text = slice_split is_blank text
 
@@ -39,6 +41,7 @@ head_words (Send connection size) = codes "send" ∷ decimal connection ∷ deci
 head_words (End connection) = codes "end" ∷ decimal connection ∷ []
 head_words (Clock at) = codes "clock" ∷ decimal at ∷ []
 
+-- a word is not empty
 abbrev pub IsSome : List ℕ → Type 0
 IsSome word = 0 < length word
 
@@ -61,6 +64,7 @@ ReadsNames words (Ok names) = (words ≡ names) × All IsSome names
 ReadsNames words (Err Bad) = All IsSome words → ⊥
 ReadsNames words (Err Memory) = Unit {0}
 
+-- one name
 abbrev pub ReadsName : List ℕ → Result (List ℕ) LineFault → Type 0
 ReadsName word (Ok name) = (word ≡ name) × IsSome name
 ReadsName word (Err Bad) = IsSome word → ⊥
@@ -79,6 +83,7 @@ step_of (Send connection size) bytes = Piece connection bytes
 step_of (End connection) bytes = StepEnd connection
 step_of (Clock at) bytes = Reading at
 
+-- how many bytes come after the line: those that are sent, or none
 abbrev pub size_of : Head → ℕ
 size_of (Send connection size) = size
 size_of head = 0
@@ -91,6 +96,7 @@ pub record IsCompleted (head : Head) (after : List ℕ) (found : Found) : Type 0
   pub few : found.len ≤ length after
   pub body : after ≡ body_of found.step ++ drop found.len after
 
+-- what stands after a line comes to: the step of its words, whose body is first, or that it begins with none
 abbrev pub Completes : Head → List ℕ → Result Found LineFault → Type 0
 Completes head after (Ok found) = IsCompleted head after found
 Completes head after (Err Bad) =
@@ -105,6 +111,7 @@ pub record IsFound (text : List ℕ) (found : Found) : Type 0 where
   pub some : 0 < found.len
   pub text_is : text ≡ line_of found.step ++ drop found.len text
 
+-- what a text comes to: the step that stands first, or that none does
 abbrev pub Finds : List ℕ → Result Found LineFault → Type 0
 Finds text (Ok found) = IsFound text found
 Finds text (Err Bad) = BeginsNone text

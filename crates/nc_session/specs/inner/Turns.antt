@@ -43,6 +43,7 @@ pub record Underway (schema : Tables) (call : Call) (session : ℕ) (Stands : Li
 abbrev pub entered_all : List Request → List Request
 entered_all requests = requests
 
+-- what was entered, and that request
 abbrev pub one_ahead : Request → List Request → List Request
 one_ahead request requests = requests ++ request ∷ []
 
@@ -73,9 +74,11 @@ pub record Intake : Type 0 where
   pub ends : ℕ
   pub failed : ℕ
 
+-- what a source tells: the bytes that are left, how often it ended, and how often reading failed
 abbrev pub intake : Option (List ℕ) → ℕ → ℕ → Intake
 intake left ends failed = record { left = left; ends = ends; failed = failed }
 
+-- it neither ended nor failed since; of the bytes nothing is said
 abbrev pub SameIntake : Intake → Intake → Type 0
 SameIntake before now = (now.ends ≡ before.ends) × (now.failed ≡ before.failed)
 
@@ -147,6 +150,7 @@ abbrev pub IsProperAsk : Result Request SessionEnd → Type 0
 IsProperAsk (Ok request) = IsProper request
 IsProperAsk (Err end) = Unit {0}
 
+-- so is one that a step gives, if it gives one
 abbrev pub IsProperStep : Result (Option Request) SessionEnd → Type 0
 IsProperStep (Ok (Some request)) = IsProper request
 IsProperStep result = Unit {0}

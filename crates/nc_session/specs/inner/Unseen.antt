@@ -7,6 +7,7 @@ use Rattle.nc_frames.specs.declared.fault.FrameFault.{FrameFault}
 use Rattle.nc_frames.specs.declared.fault.FrameFault.TheVariants.{Memory as FrameMemory}
 use Rattle.nc_names.specs.declared.memory.Memory.{Memory}
 
+-- what was taken of the stream and not given: bytes without a message, and a message
 pub record Held : Type 0 where
   pub frames : Kept
   pub waiting : Option (List ℕ)
@@ -19,6 +20,7 @@ pub record Gives (After : ℕ → List ℕ → Type 0) (mode : Mode) (first : �
   pub is_message : IsMessage mode framed body
   pub unread : After (first + length framed) rest
 
+-- the same, where a message waits or none does
 abbrev pub UnseenIn : Kept → Option (List ℕ) → Mode → ℕ → List ℕ → Type 0
 UnseenIn kept None mode first bytes = Unread kept mode first bytes
 UnseenIn kept (Some body) mode first bytes = Gives (Unread kept mode) mode first bytes body

@@ -6,6 +6,7 @@ use Rattle.nc_model.specs.Desks.{Home, IsView}
 use Rattle.nc_model.specs.History.{IsLegal, IsMineIn}
 use Rattle.nc_shared.specs.Chairs.{Chair, ChairStands}
 
+-- what a chair stands for is a view of the history
 pub chair_views : (chair : Chair) (home : Home) (seen mine : List Entry) → ChairStands chair home seen mine →
     IsView home seen mine
 chair_views chair home seen mine stood = record {

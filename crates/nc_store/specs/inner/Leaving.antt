@@ -20,6 +20,7 @@ some_more : (setup : Setup) (these those : List (List Row)) → AreAmong these t
 some_more setup these those more None it = tt
 some_more setup these those more (Some d) it = among_more setup these those d more it
 
+-- what reopens to one of these reopens to one of those, among which these are
 pub reopens_fewer : (setup : Setup) (these those : List (List Row)) (c : List ℕ) → AreAmong these those
     → Reopens setup these c → Reopens setup those c
 reopens_fewer setup these those c more (as_new new has) = as_new new (more setup.initial has)
@@ -27,12 +28,14 @@ reopens_fewer setup these those c more (as_held bodies doubt holds stands in_dou
     as_held bodies doubt holds (among_more setup these those bodies more stands)
     (some_more setup these those more doubt in_doubt)
 
+-- the same of all that a crash leaves
 pub leaves_fewer : {D : Type 0} (seen : D → Option (List ℕ)) (left_since : D → ℕ → List ℕ → Type 0) (s : Storing D)
     (t : ℕ) (these those : List (List Row)) → AreAmong these those
     → StoreLeaves seen left_since s t these → StoreLeaves seen left_since s t those
 leaves_fewer seen left_since s t these those more leaves =
     λ file told c left. reopens_fewer s.setup these those c more (leaves file told c left)
 
+-- a store goes on to itself
 pub unmoved : {D : Type 0} (seen : D → Option (List ℕ)) (moment : D → ℕ) (left_since : D → ℕ → List ℕ → Type 0)
     (s : Storing D) → Continues seen moment left_since s s
 unmoved seen moment left_since s = record {
@@ -55,6 +58,7 @@ bounded_twice moment left_since one two three same a b = record {
       b.file_is limit (omega (arith, same, le, a.live_is, a.start_is)) (a.file_is limit le before);
 }
 
+-- a store that goes on to another, which goes on to a third, goes on to it
 pub further : {D : Type 0} (seen : D → Option (List ℕ)) (moment : D → ℕ) (left_since : D → ℕ → List ℕ → Type 0)
     (one two three : Storing D) → Continues seen moment left_since one two → Continues seen moment left_since two three
     → Continues seen moment left_since one three

@@ -12,6 +12,7 @@ use Rattle.nc_turn.specs.Views.{Begins, AreApart, found_at, drawn_at, holding, w
 abbrev pub Sat : Type 0 → Type 0
 Sat T = Me (Option T) (View T)
 
+-- a step of the table, in whose slots the value is or is not
 abbrev pub Done : Type 0 → Type 0
 Done T = Step (Option T)
 

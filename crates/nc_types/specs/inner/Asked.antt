@@ -9,9 +9,11 @@ use Rattle.nc_names.specs.declared.name.Bound.{Bound}
 use Rattle.nc_schema.specs.Tables.{Tables}
 use Rattle.nc_schema.specs.Values.{Givers, Gives, type_text}
 
+-- canonical texts are given by keys, and by types, of which those of the chain are not asked again
 abbrev pub givers : Tables → (List Bound → Gives) → ℕ → List ℕ → Givers
 givers tables keys most chain = record { keys = keys; types = type_text tables keys most chain }
 
+-- a name is one of some words
 abbrev pub is_word : List (List ℕ) → List ℕ → Bool
 is_word words name = list_any (λ word. is_same_text word name) words
 

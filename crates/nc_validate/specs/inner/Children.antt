@@ -20,6 +20,7 @@ use Rattle.nc_schema.specs.declared.violation.Violation.{Violation}
 abbrev pub node_at : Tables → Place → ℕ × Node → List Violation
 node_at tables place one = if stands_in one.1.parent place then child_violations tables place one.0 one.1 else []
 
+-- those of all these data nodes, in the order of their numbers
 abbrev pub nodes_from : Tables → Place → ℕ → List Violation
 nodes_from tables place number = flat_map (node_at tables place) (enumerate_from number (drop number tables.nodes))
 
@@ -31,6 +32,7 @@ child_at tables place number = option_map_or (child_violations tables place numb
 abbrev pub bare_at : Tables → Place → ℕ × Choice → List Violation
 bare_at tables place one = if stands_in one.1.parent place then bare_violations tables place one.0 else []
 
+-- those of all these choices, in the order of their numbers
 abbrev pub bare_from : Tables → Place → ℕ → List Violation
 bare_from tables place number = flat_map (bare_at tables place) (enumerate_from number (drop number tables.choices))
 

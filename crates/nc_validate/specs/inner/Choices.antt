@@ -11,6 +11,7 @@ use Rattle.nc_schema.specs.declared.node.Case.{Case}
 use Rattle.nc_schema.specs.declared.node.Node.{Node}
 use Rattle.nc_schema.specs.declared.violation.Violation.{Violation}
 
+-- one of the cases is of the choice
 abbrev pub is_in : ℕ → List Case → Bool
 is_in choice cases = list_any (λ one. one.choice == choice) cases
 
@@ -18,6 +19,7 @@ is_in choice cases = list_any (λ one. one.choice == choice) cases
 abbrev pub first_from : List Node → ℕ → ℕ → Option ℕ
 first_from nodes choice number = position_from (λ node. is_in choice node.cases) number (drop number nodes)
 
+-- the first data node of a choice, as a list has it
 abbrev pub first_at : List (Option ℕ) → ℕ → Option ℕ
 first_at firsts choice = unwrap_or (slice_get firsts choice) None
 
@@ -33,6 +35,7 @@ pub record HasFirsts (cases : List Case) (number : ℕ) (before now : List (Opti
   pub exact : (choice : ℕ) → choice < length before →
       first_at now choice ≡ (if is_in choice cases then Some number else first_at before choice)
 
+-- there is a first data node, and it is below a number
 abbrev pub is_below : Option ℕ → ℕ → Bool
 is_below None number = false
 is_below (Some first) number = ltb first number

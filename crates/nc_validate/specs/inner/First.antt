@@ -1,6 +1,7 @@
 -- The first of a list, piece by piece.
 use Rattle.std.specs.Prelude.{List, [], ◌∷◌, Option, Some, None}
 
+-- what stands first in a list, if anything does
 abbrev pub first : {X : Type 0} → List X → Option X
 first [] = None
 first (x ∷ xs) = Some x

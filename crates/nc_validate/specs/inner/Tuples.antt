@@ -11,9 +11,11 @@ use Rattle.nc_schema.specs.InUse.{values_below}
 use Rattle.nc_schema.specs.Places.{Place}
 use Rattle.nc_schema.specs.Tables.{Tables}
 
+-- the texts to which references lead
 abbrev pub texts : List (Bor (List ℕ)) → List (List ℕ)
 texts values = map (λ value. value.now) values
 
+-- those of each of some tuples
 abbrev pub all_texts : List (List (Bor (List ℕ))) → List (List (List ℕ))
 all_texts tuples = map texts tuples
 
@@ -29,6 +31,7 @@ tuples_of tables leafs entry = fold (λ tuples leaf. extended tuples (values_bel
 abbrev pub is_tuple_in : List (List (List ℕ)) → List (List ℕ) → Bool
 is_tuple_in tuples tuple = list_any (is_same_keys tuple) tuples
 
+-- one of the tuples of an entry is a tuple of another
 abbrev pub shares : List (List (List ℕ)) → List (List (List ℕ)) → Bool
 shares tuples others = list_any (is_tuple_in others) tuples
 

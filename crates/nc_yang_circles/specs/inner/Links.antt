@@ -14,12 +14,15 @@ use Rattle.nc_yang_circles.specs.declared.site.Site.{Site}
 use Rattle.nc_yang_circles.specs.declared.link.Link.{Link}
 use Rattle.nc_yang_circles.specs.Circles.{Refers, fault_at}
 
+-- the prefixes are those that the texts declare
 abbrev pub HasPrefixes : Site → Type 0
 HasPrefixes site = ArePrefixes site.scopes.now.texts site.prefixes.now
 
+-- each plan that may have a leafref in it is marked
 abbrev pub HasMarks : Site → Type 0
 HasMarks site = AreMarks site.meanings.now site.marks.now
 
+-- the basis of the texts, their data nodes and the schema
 abbrev pub basis_of : (on : ℕ → List ℕ → Bool) → Site → Basis
 basis_of on site = basis_on on site.scopes.now site.plan.now site.schema.now
 
@@ -27,6 +30,7 @@ basis_of on site = basis_on on site.scopes.now site.plan.now site.schema.now
 abbrev pub OnMeanings : Site → (Basis → Type 0) → Type 0
 OnMeanings site P = (on : ℕ → List ℕ → Bool) → AreMeanings on site.scopes.now site.meanings.now → P (basis_of on site)
 
+-- the link by the `path` statement of a number to the data node at which its path ends
 abbrev pub link_to : (path : ℕ) → LeafrefEnd → Link
 link_to path end = record { path = path; target = end.target }
 
@@ -55,6 +59,7 @@ pub record AreSomeLinks (b : Basis) (count : ℕ) (links : List (List Link)) : T
 abbrev pub AreAllLinks : Basis → List (List Link) → Type 0
 AreAllLinks b links = AreSomeLinks b (length b.given.nodes) links
 
+-- the data node to which a link leads
 abbrev pub target_of : Link → ℕ
 target_of link = link.target
 

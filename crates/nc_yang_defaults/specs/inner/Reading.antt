@@ -52,6 +52,7 @@ pub record IsAgain (values : List (List ℕ)) (place : ℕ) : Type 0 where
   pub apart : AllPairs (λ one later. one ≢ later) before
   pub again : Contains before value
 
+-- the place of the first text that came before, too, or that all texts are apart
 abbrev pub IsFirstAgain : List (List ℕ) → Option ℕ → Type 0
 IsFirstAgain values None = AllPairs (λ one later. one ≢ later) values
 IsFirstAgain values (Some place) = IsAgain values place
@@ -82,6 +83,7 @@ pub record IsFault (texts : List Statement) (tables : Tables) (d : Defined) (fau
   pub breaks : BreaksAt texts tables d default
   pub is : fault ≡ bad_default breaks.stops.why (blamed (own_of d.node.kind d.statement) d.statement default)
 
+-- a data node with its number and the statement that defines it
 abbrev pub defined : ℕ → Node → Located → Defined
 defined number node l = record { number = number; node = node; statement = l }
 

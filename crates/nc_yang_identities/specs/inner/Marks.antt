@@ -12,6 +12,7 @@ abbrev pub Tells : Bool → Type 0 → Type 0
 Tells true P = P
 Tells false P = ¬ P
 
+-- there is a mark at a place
 abbrev pub is_marked : List Bool → ℕ → Bool
 is_marked marks place = unwrap_or (slice_get marks place) false
 

@@ -14,9 +14,11 @@ use Rattle.nc_yang_identities.specs.Identities.{identities}
 abbrev pub is_known : ℕ → List ℕ → Located → Bool
 is_known text word l = is_key l.place.text (name l.statement) text word
 
+-- the place of the first of these that has the module and name of an identity
 abbrev pub place_in : List Located → Located → Option ℕ
 place_in ls l = position_from (is_known l.place.text (name l.statement)) 0 ls
 
+-- that place among the identities of the texts
 abbrev pub place_of : List Statement → Located → Option ℕ
 place_of texts l = place_in (identities texts) l
 

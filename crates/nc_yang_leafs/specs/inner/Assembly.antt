@@ -27,6 +27,7 @@ pub record HasBareTypes (old : Tables) (types : List ValueType) (typed : Typed) 
   pub schema : typed.schema ≡ record old { types = old.types ++ map bare types }
   pub patterns : typed.patterns ≡ map numbers_in types
 
+-- the schema, whose data node of that number has that type
 abbrev pub with_kind : Tables → ℕ → ℕ → Tables
 with_kind tables number kind =
     record tables { nodes = node_with tables.nodes number kind (slice_get tables.nodes number) }

@@ -21,6 +21,7 @@ use Rattle.nc_yang_leafs.specs.Marks.{AreMarks}
 use Rattle.nc_yang_leafs.specs.inner.Sites.{work}
 use Rattle.nc_yang_leafs.specs.inner.Tables.{AddsTypes, IsReady, IsSettled, LosesPath, Work}
 
+-- the basis of the types of a plan's data nodes
 abbrev pub basis_of : (on : ℕ → List ℕ → Bool) → Site → Plan → Basis
 basis_of on site plan = basis_on on site.scopes.now plan site.schema.now
 

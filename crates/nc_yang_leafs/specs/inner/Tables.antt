@@ -37,6 +37,7 @@ pub record Work : Type 0 where
 abbrev pub number_in : (marked : Bool) → (node : ℕ) → Slot → Option ℕ
 number_in marked node slot = if marked && not (slot.node == node) then None else Some slot.number
 
+-- the number of a plan, with the data node for which it was given last, if it was
 abbrev pub slot_at : List (Option Slot) → ℕ → Option Slot
 slot_at known plan = unwrap_or (slice_get known plan) None
 
@@ -107,6 +108,7 @@ Fits derived w known (Bases bases) other =
     (names : List QName) × (other ≡ IdentityType names) × HaveNames derived w.scoping.located bases names
 Fits derived w known (Leafref path need) other = IsLeafref w path need other
 
+-- the members of a union; another plan has none
 abbrev pub members_in : Planned → List ℕ
 members_in (Members members) = members
 members_in planned = []
@@ -143,6 +145,7 @@ pub record IsLost (w : Work) (planned : Planned) (fault : TextFault) : Type 0 wh
   pub is : planned ≡ Leafref path need
   pub lost : LosesNumber w path fault
 
+-- the plan of that number is of a leafref that leads nowhere
 pub record LosesPlan (w : Work) (plan : ℕ) (fault : TextFault) : Type 0 where
   pub planned : Planned
   pub there : slice_get w.meanings.plans plan ≡ Some planned

@@ -53,6 +53,7 @@ AreIn scoping number = AddsAt scoping number []
 abbrev pub IsMarked : List Bool → ℕ → Type 0
 IsMarked marks number = slice_get marks number ≡ Some true
 
+-- whether a number is marked
 abbrev pub is_marked : List Bool → ℕ → Bool
 is_marked marks number = unwrap_or (slice_get marks number) false
 
@@ -192,6 +193,7 @@ pub record AreAllLinks (scoping : Scoping) (sort : Defined)
   pub counted : length links ≡ length scoping.located
   pub each : (number : ℕ) (own : List Link) → slice_get links number ≡ Some own → AreLinks scoping sort marks number own
 
+-- the number of the definition to which a link leads
 abbrev pub target_of : Link → ℕ
 target_of link = link.target
 
@@ -208,6 +210,7 @@ abbrev pub reference_at : Scoping → List (List Link) → ℕ → ℕ → Optio
 reference_at scoping links number place =
     option_and_then (λ x. slice_get scoping.located x.reference) (slice_get (links_at links number) place)
 
+-- the fault of a statement by which a definition leads back to itself
 abbrev pub fault_at : Located → TextFault
 fault_at l = record { text = l.place.text; fault = record { line = line l.statement; why = Loop } }
 
@@ -215,6 +218,7 @@ fault_at l = record { text = l.place.text; fault = record { line = line l.statem
 abbrev pub KeepsLoop : List Statement → Defined → Type 0
 KeepsLoop texts sort = (text : ℕ) (fault : Fault) → BreaksLoop texts sort text fault → ⊥
 
+-- the fault of the circle that was found, if one was
 abbrev pub circle_in : Arranged → Option TextFault
 circle_in (Order order) = None
 circle_in (Circle found) = Some found

@@ -8,6 +8,7 @@ use Rattle.nc_yang_meanings.specs.Places.{base_of, built_in}
 use Rattle.nc_yang_meanings.specs.declared.footing.Footing.{Footing}
 use Rattle.nc_yang_meanings.specs.declared.footing.Footing.TheVariants.{OnBuiltIn, OnNothing, OnType}
 
+-- on what a `type` statement rests: on a built-in type, on the type of a number, or on no type that is there
 abbrev pub IsFooting : Scoping → Located → Footing → Type 0
 IsFooting scoping l (OnBuiltIn one) = built_in l ≡ Some one
 IsFooting scoping l (OnType number) =

@@ -18,6 +18,7 @@ use Rattle.nc_yang_meanings.specs.declared.planned.Meanings.{Meanings}
 use Rattle.nc_yang_meanings.specs.declared.planned.Planned.{Planned}
 use Rattle.nc_yang_meanings.specs.inner.Planning.{names_in, shape_of}
 
+-- the fault that was found of a statement, if one was
 abbrev pub fault_in : Option Finding → Option Fault
 fault_in (Some (Broken fault)) = Some fault
 fault_in finding = None
@@ -27,6 +28,7 @@ abbrev pub refers_by : List Planned → Option Finding → Bool
 refers_by plans (Some (Plan place)) = option_map_or (λ p. is_reference (shape_of p)) (slice_get plans place) false
 refers_by plans finding = false
 
+-- so it is with what was found of the statement of a number
 abbrev pub refers_at : Meanings → ℕ → Bool
 refers_at meanings number = refers_by meanings.plans (slice_get meanings.findings number)
 
@@ -39,6 +41,7 @@ abbrev pub is_union_type : Option BuiltIn → Bool
 is_union_type (Some Union) = true
 is_union_type one = false
 
+-- a `type` statement of the built-in type union
 abbrev pub is_union : Statement → Bool
 is_union s = is_same_keyword TypeName (kind s) && is_union_type (built_in_of (name s))
 
@@ -59,6 +62,7 @@ names_by plans text (Some (Plan place)) =
     option_map_or (λ p. names_conditional (shape_of p) (names_in p) text) (slice_get plans place) false
 names_by plans text finding = false
 
+-- so it is with what was found of the statement of a number
 abbrev pub names_at : Meanings → ℕ → List ℕ → Bool
 names_at meanings number text = names_by meanings.plans text (slice_get meanings.findings number)
 
@@ -88,6 +92,7 @@ Judges scoping meanings number result =
     ≡ Some l →
     MatchOption result ((fault : Fault) → BreaksType on scoping.texts l fault → ⊥) (BreaksType on scoping.texts l)
 
+-- what is wrong with the types of a text, or that nothing is
 abbrev pub JudgesText : Scoping → Meanings → ℕ → Option Fault → Type 0
 JudgesText scoping meanings text result =
     (on : ℕ → List ℕ → Bool) → AreMeanings on scoping meanings →

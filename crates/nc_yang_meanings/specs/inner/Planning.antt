@@ -52,6 +52,7 @@ meant_with entry IdentityRef l = Some (DerivedFrom (parts_of Base l))
 meant_with entry LeafRef l = option_map (λ path. Refers path (required true (below l.statement))) (part_of Path l)
 meant_with entry one l = option_map (λ it. Entry it (parts_of Pattern l) (listing_of one (below l.statement))) entry
 
+-- a plan is of what a type means, and there is none where it means nothing
 abbrev pub ArePlan : List Located → Option Planned → Option Meaning → Type 0
 ArePlan located None None = Unit {0}
 ArePlan located (Some planned) (Some m) = IsPlan located planned m
@@ -95,6 +96,7 @@ abbrev pub FindsPlan : Meanings → ℕ → ℕ → Planned → Type 0
 FindsPlan meanings number place planned =
     (slice_get meanings.findings number ≡ Some (Plan place)) × (slice_get meanings.plans place ≡ Some planned)
 
+-- no plan was found of the statement of a number
 abbrev pub LacksPlan : Meanings → ℕ → Type 0
 LacksPlan meanings number = (place : ℕ) (planned : Planned) → FindsPlan meanings number place planned → ⊥
 
@@ -131,6 +133,7 @@ with_found meanings number (New planned) =
 abbrev pub blank : ℕ → Meanings
 blank count = record { findings = replicate count Nothing; plans = [] }
 
+-- on what the statement of a number rests, as a list has it
 abbrev pub footing_at : List Footing → ℕ → Footing
 footing_at footings number = unwrap_or (slice_get footings number) OnNothing
 

@@ -11,6 +11,7 @@ pub record Keeps (scoping : Scoping) (given on : FeatureTest) : Type 0 where
   pub among : AreAmong on given
   pub most : (other : FeatureTest) → AreAmong other given → AreTogether scoping other → AreAmong other on
 
+-- whatever features were given, what is left keeps all that can be on together, if what was there did
 abbrev pub Narrows : Scoping → FeatureTest → FeatureTest → Type 0
 Narrows scoping on left = (given : FeatureTest) → Keeps scoping given on → Keeps scoping given left
 

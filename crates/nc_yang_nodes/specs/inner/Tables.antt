@@ -21,6 +21,7 @@ use Rattle.nc_yang_nodes.specs.Expansion.{Gives}
 abbrev pub children_at : Scoping → ℕ → List Located
 children_at scoping number = option_map_or children (slice_get scoping.located number) []
 
+-- what stands directly in the statement of a number, if a number is given
 abbrev pub block_at : Scoping → Option ℕ → List Located
 block_at scoping number = option_map_or children (option_and_then (slice_get scoping.located) number) []
 
@@ -40,15 +41,18 @@ pub record IsEntry (scoping : Scoping) (on : FeatureTest) (l : Located) (entry :
       → MatchOption entry.block (Barren scoping on (block scoping.texts l r))
       (λ b. block scoping.texts l r ≡ children_at scoping b)
 
+-- each entry has what the statement of its number gives, and the number of the one expanded there
 abbrev pub AreStored : Scoping → FeatureTest → List Entry → Type 0
 AreStored scoping on entries =
     (number : ℕ) (l : Located) (entry : Entry) → slice_get scoping.located number ≡ Some l
     → slice_get entries number ≡ Some entry → IsStored scoping on l entry
 
+-- where there is a mark, what stands directly in the statement of that number plans nothing
 abbrev pub AreBarren : Scoping → FeatureTest → List Bool → Type 0
 AreBarren scoping on marks =
     (number : ℕ) → slice_get marks number ≡ Some true → Barren scoping on (children_at scoping number)
 
+-- whether a feature is on, by the table
 abbrev pub test_of : Table → FeatureTest
 test_of table = is_on table.features.now
 

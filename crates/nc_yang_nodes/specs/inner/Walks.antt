@@ -83,6 +83,7 @@ pub record StopsAt (scoping : Scoping) (on : FeatureTest) (old : List Left) (bef
   pub past : IsPast scoping on moment
   pub at : fault ≡ fault_at moment
 
+-- the same with the fault that is given; of want of memory nothing is said
 abbrev pub Stops : Scoping → FeatureTest → List Left → Plan → Stop TextFault → Type 0
 Stops scoping on old before = OnBroken (StopsAt scoping on old before)
 
@@ -128,9 +129,11 @@ pub record StopsInText (scoping : Scoping) (on : FeatureTest) (text : ℕ) (befo
   pub past : IsPast scoping on moment
   pub at : fault ≡ fault_at moment
 
+-- the same with the fault that is given in a text; of want of memory nothing is said
 abbrev pub StopsText : Scoping → FeatureTest → ℕ → Plan → Stop TextFault → Type 0
 StopsText scoping on text before = OnBroken (StopsInText scoping on text before)
 
+-- a text's module adds to what was planned, or such a moment comes there
 abbrev pub AddsOrStops : {T : Type 0} → Scoping → FeatureTest → ℕ → Result T (Stop TextFault) → Plan → Walk → Type 0
 AddsOrStops scoping on text result before walk =
     MatchResult result (λ _. AddsText scoping on text before walk) (StopsText scoping on text before)

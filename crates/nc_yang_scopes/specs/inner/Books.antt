@@ -7,10 +7,12 @@ use Rattle.nc_yang_scopes.specs.declared.book.Book.{Book}
 use Rattle.nc_yang_scopes.specs.inner.Frames.{IsWhole}
 use Rattle.nc_yang_scopes.specs.inner.Names.{AreNames}
 
+-- every statement of the texts has a number, and names are found by them
 pub record IsBook (book : Book) : Type 0 where
   pub whole : IsWhole book.texts.now book.numbering.frames book.numbering.firsts
   pub names : AreNames book.texts.now book.numbering.frames book.names
 
+-- a book of these texts
 abbrev pub IsBookOf : List Statement → Book → Type 0
 IsBookOf texts book = IsBook book × (book.texts.now ≡ texts)
 

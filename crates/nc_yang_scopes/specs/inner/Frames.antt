@@ -13,6 +13,7 @@ use Rattle.nc_yang_scopes.specs.declared.frames.Frame.{Frame}
 use Rattle.nc_yang_scopes.specs.declared.table.Table.{Table}
 use Rattle.nc_yang_scopes.specs.Tables.{number_at}
 
+-- the entry for which one of the code stands
 abbrev pub entry_of : Frame → Entry
 entry_of frame = record { statement = frame.statement.now; text = frame.text; outer = frame.outer }
 
@@ -25,6 +26,7 @@ abbrev pub IsBehind : List Entry → ℕ → Entry → ℕ → Type 0
 IsBehind entries number entry outer =
     (outer < number) × (option_map (λ o. o.text) (slice_get entries outer) ≡ Some entry.text)
 
+-- so it is with each statement that stands in another
 abbrev pub AreBehind : List Entry → Type 0
 AreBehind entries =
     (number : ℕ) (entry : Entry) → slice_get entries number ≡ Some entry
@@ -52,9 +54,11 @@ is_import keyword = false
 abbrev pub is_called : Keyword → List ℕ → Statement → Bool
 is_called keyword word s = if is_import keyword then has_prefix word s else is_same_text (name s) word
 
+-- a statement has that keyword, and is looked up by this word
 abbrev pub is_one : Keyword → List ℕ → Statement → Bool
 is_one keyword word s = is_same_keyword keyword (kind s) && is_called keyword word s
 
+-- there is a statement around, and it has that number
 abbrev pub is_in : ℕ → Option ℕ → Bool
 is_in block None = false
 is_in block (Some outer) = outer == block

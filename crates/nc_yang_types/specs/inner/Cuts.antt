@@ -13,6 +13,7 @@ SplitsAt sign text found =
     (λ x. (x.0.now ≡ before_first (λ c. c == sign) text) × (x.1.now ≡ after_first (λ c. c == sign) text)
     × (position_or_len (λ c. c == sign) text < length text))
 
+-- the parts before and after `..`, where it stands
 abbrev pub SplitsAtDots : List ℕ → Option (Bor (List ℕ) × Bor (List ℕ)) → Type 0
 SplitsAtDots text found = MatchOption found (around_dots text ≡ None) (λ x. around_dots text ≡ Some (x.0.now, x.1.now))
 

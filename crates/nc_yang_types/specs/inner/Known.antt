@@ -12,6 +12,7 @@ use Rattle.nc_yang_types.specs.declared.member.Listed.{Listed}
 use Rattle.nc_yang_types.specs.declared.member.Named.{Named}
 use Rattle.nc_yang_types.specs.Members.{has_name, is_chosen, misnumbered, number_in, numbered, renamed}
 
+-- texts are ordered character by character
 abbrev pub text_order : Bor (List ℕ) → Bor (List ℕ) → Ordering
 text_order text other = slice_cmp nat_cmp text.now other.now
 
@@ -38,6 +39,7 @@ pub record NumbersKnown
       misnumbered listed [] (numbered listed None below)
       ≡ misnumbered listed before (numbered listed high (drop at below))
 
+-- whether the set has a text
 abbrev pub has_text : BTreeSet (Bor (List ℕ)) → List ℕ → Bool
 has_text set text = contains text_order set (record { ref_ptr = (0, 0); now = text })
 

@@ -1,4 +1,5 @@
 pub mod Asked
 pub mod Cuts
 pub mod Faults
+pub mod Readings
 pub mod Scopes

@@ -13,6 +13,8 @@ mod identity;
 mod node;
 mod number;
 mod paths;
+mod plain;
+mod reading;
 mod scope;
 mod simple;
 mod value;

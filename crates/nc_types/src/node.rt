@@ -7,7 +7,8 @@ ghost use Rattle.nc_types.specs.inner.Faults.{OnNotInType};
 
 use crate::fault::TypeFault;
 use crate::gives::{Gives, Nothing};
-use crate::value::{type_of, type_text};
+use crate::reading::Reading;
+use crate::value::type_of;
 use nc_names::{Binds, Text};
 use nc_schema::{Kind, Schema};
 use std::alloc::Global;
@@ -66,17 +67,14 @@ pub(crate) fn node_text<K: Gives, B: Binds>(
     let Some(found) = type_of(schema, number) else {
         return Err(TypeFault::NotInType);
     };
-    let value = type_text(
+    let reading = Reading {
         keys,
         alloc,
         schema,
-        schema.types().len(),
-        &[],
         bounds,
-        false,
-        found,
-        text,
-    )?;
+        by_names: false,
+    };
+    let value = reading.type_text(schema.types().len(), &[], found, text)?;
     let stands = is_key_above(schema, number) || is_own_key(schema, number);
     if !stands || is_quotable(value.as_str().as_bytes()) {
         Ok(value)

@@ -1,7 +1,5 @@
 //! The bindings with which a text is read.
-ghost use Rattle.std.specs.Prelude.{◌≡◌};
-ghost use Rattle.nc_schema.specs.Bindings.{module_bounds};
-ghost use Rattle.nc_types.specs.inner.Scopes.{scoped, under};
+ghost use Rattle.nc_types.specs.inner.Scopes.{scoped};
 
 use nc_names::{Binds, Bound, Many, Memory, Text};
 use nc_schema::Schema;
@@ -31,20 +29,5 @@ impl<'a, B: Binds> Binds for Scope<'a, B> {
             Scope::Given(bounds) => bounds.to_many(alloc),
             Scope::Names(schema) => schema.to_many(alloc),
         }
-    }
-}
-
-/// The names of the modules, or else the bindings that were given.
-pub(crate) fn scope_of<'a, B: Binds>(
-    by_names: bool,
-    schema: &'a Schema,
-    bounds: &'a B,
-) -> Scope<'a, B>
-    ensures { scoped B.bound result ≡ under by_names (module_bounds schema.now) (B.bound bounds.now) }
-{
-    if by_names {
-        Scope::Names(schema)
-    } else {
-        Scope::Given(bounds)
     }
 }

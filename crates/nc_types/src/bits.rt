@@ -1,5 +1,6 @@
 //! Sets of bits (RFC 7950 9.7).
-ghost use Rattle.std.specs.Prelude.{◌≡◌, ◌++◌, ◌∷◌, ◌<◌, [], filter, length, nat_lt, Some, None, IfOk, IfErr, OnOk};
+ghost use Rattle.std.specs.Prelude.{◌≡◌, ◌++◌, ◌∷◌, ◌<◌, []};
+ghost use Rattle.std.specs.Prelude.{filter, length, nat_lt, Some, None, IfOk, IfErr, OnOk};
 ghost use Rattle.std.specs.List.{join_with_byte, position_or_len};
 ghost use Rattle.nc_names.specs.Signs as signs;
 ghost use Rattle.nc_schema.specs.Values as values;

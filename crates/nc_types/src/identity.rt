@@ -1,5 +1,6 @@
 //! Identities (RFC 7950 9.10).
-ghost use Rattle.std.specs.Prelude.{◌≡◌, ◌++◌, ◌==◌, ◌≤◌, false, length, Some, None, IfOk, IfErr, option_copied, MatchOption};
+ghost use Rattle.std.specs.Prelude.{◌≡◌, ◌++◌, ◌==◌, ◌≤◌};
+ghost use Rattle.std.specs.Prelude.{false, length, Some, None, IfOk, IfErr, option_copied, MatchOption};
 ghost use Rattle.std.specs.List.{list_any, before_first, after_first, position_or_len};
 ghost use Rattle.nc_names.specs.Same.{is_same_name};
 ghost use Rattle.nc_names.specs.Signs.{colon};

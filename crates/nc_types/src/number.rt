@@ -1,5 +1,6 @@
 //! Integers and decimal64 values (RFC 7950 9.2, 9.3).
-ghost use Rattle.std.specs.Prelude.{◌≡◌, ◌≤◌, ◌-◌, ◌+◌, ◌++◌, ◌==◌, ◌<◌, length, replicate, None, Some, IfOk, IfErr, OnOk};
+ghost use Rattle.std.specs.Prelude.{◌≡◌, ◌≤◌, ◌-◌, ◌+◌, ◌++◌, ◌==◌, ◌<◌};
+ghost use Rattle.std.specs.Prelude.{length, replicate, None, Some, IfOk, IfErr, OnOk};
 ghost use Rattle.std.specs.Char.{is_ascii_digit};
 ghost use Rattle.std.specs.Fmt.{decimal, signed_decimal};
 ghost use Rattle.std.specs.List.{before_first, list_all};

@@ -1,5 +1,6 @@
 //! Strings, booleans, enumerations, bits, binary and empty values (RFC 7950 9.4 to 9.8, 9.11).
-ghost use Rattle.std.specs.Prelude.{◌≡◌, ◌<◌, ◌++◌, All, count_by, not, filter, length, Some, None, IfOk, IfErr, OnOk};
+ghost use Rattle.std.specs.Prelude.{◌≡◌, ◌<◌, ◌++◌};
+ghost use Rattle.std.specs.Prelude.{All, count_by, not, filter, length, Some, None, IfOk, IfErr, OnOk};
 ghost use Rattle.std.specs.List.{join_with_byte, list_any};
 ghost use Rattle.nc_names.specs.Signs as signs;
 ghost use Rattle.nc_schema.specs.PathWords as words;

@@ -1,4 +1,4 @@
--- What gives canonical texts once these types are being asked, and names among words and in sets.
+-- What gives canonical texts, and names among words and in sets.
 use Rattle.std.specs.Prelude.{◌≡◌, ℕ, Bool, List}
 use Rattle.std.specs.BTreeSet.{BTreeSet, contains}
 use Rattle.std.specs.Cmp.Lexicographic.{slice_cmp}
@@ -9,11 +9,11 @@ use Rattle.nc_names.specs.declared.name.Bound.{Bound}
 use Rattle.nc_schema.specs.Tables.{Tables}
 use Rattle.nc_schema.specs.Values.{Givers, Gives, type_text}
 
--- canonical texts are given by keys, and by types, of which those of the chain are not asked again
+-- what gives canonical texts once these types are being asked
 abbrev pub givers : Tables → (List Bound → Gives) → ℕ → List ℕ → Givers
 givers tables keys most chain = record { keys = keys; types = type_text tables keys most chain }
 
--- a name is one of some words
+-- the name is one of the words
 abbrev pub is_word : List (List ℕ) → List ℕ → Bool
 is_word words name = list_any (λ word. is_same_text word name) words
 

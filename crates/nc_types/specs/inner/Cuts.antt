@@ -11,10 +11,10 @@ SplitsAt sign text found =
     (λ x. (x.0.now ≡ before_first (λ c. c == sign) text) × (x.1.now ≡ after_first (λ c. c == sign) text)
     × (position_or_len (λ c. c == sign) text < length text))
 
--- at the first colon: a prefix, and what follows it
+-- the same of the first colon
 abbrev pub SplitsAtColon : List ℕ → Option (Bor (List ℕ) × Bor (List ℕ)) → Type 0
 SplitsAtColon text found = SplitsAt colon text found
 
--- at the first dot: the digits before it, and those after it
+-- the same of the first point
 abbrev pub SplitsAtDot : List ℕ → Option (Bor (List ℕ) × Bor (List ℕ)) → Type 0
 SplitsAtDot text found = SplitsAt dot text found

@@ -5,7 +5,7 @@ use Rattle.nc_schema.specs.Bindings.{module_bounds}
 use Rattle.nc_types.specs.declared.scope.Scope.{Scope}
 use Rattle.nc_types.specs.declared.scope.Scope.TheVariants.{Given, Names}
 
--- the bindings that a text is given, or else the names of the schema's modules
+-- the bindings that are given, or the names of the modules
 abbrev pub scoped : {B : Type 0} → (B → List Bound) → Scope B → List Bound
 scoped bound (Given bounds) = bound bounds.now
 scoped bound (Names schema) = module_bounds schema.now

@@ -187,9 +187,9 @@ module _ (scoping : Scoping) (on : FeatureTest) where
     typedef_broken found bad =
         let same : bad.are.0 ≡ good.are.0 = picks_one (IsJudged (holds scoping.texts on) scoping.texts) (typedefs scoping.texts) bad.are.0 good.are.0 bad.are.2 good.are.2 in
         let numbers : map (slice_get scoping.located) good.numbers ≡ map (slice_get scoping.located) bad.numbers = good.are.1 ∙ sym (ap (map Some) same) ∙ sym bad.are.1 in
-        bare_broken (typedef_plan good.numbers) (typedef_tables good.numbers) (typedefs_mean (holds scoping.texts on) scoping keeps types good.numbers good.are) good.typed good.bare found
-        (bare_here (typedef_plan good.numbers) (typedef_plan bad.numbers) (typedefs_alike scoping good.numbers bad.numbers numbers) (typedef_tables good.numbers) good.bare.straight found
-        (subst (λ g. BreaksBare scoping on (typedef_plan bad.numbers) g found) (sym (tables_same scoping good.numbers bad.numbers numbers)) bad.breaks))
+        bare_broken (typedef_plan good.numbers) (typedef_tables scoping on good.numbers) (typedefs_mean (holds scoping.texts on) scoping on keeps types good.numbers good.are) good.typed good.bare found
+        (bare_here (typedef_plan good.numbers) (typedef_plan bad.numbers) (typedefs_alike scoping good.numbers bad.numbers numbers) (typedef_tables scoping on good.numbers) good.bare.straight found
+        (subst (λ g. BreaksBare scoping on (typedef_plan bad.numbers) g found) (sym (tables_same scoping on good.numbers bad.numbers numbers)) bad.breaks))
 
   -- ---- a schema of a plan, and rules that another plan of the same modules breaks
   module _ (keeps : KeepsTexts scoping.texts) (types : KeepsTypes (holds scoping.texts on) scoping.texts) (plan : Plan) (planned : IsPlan scoping on plan)

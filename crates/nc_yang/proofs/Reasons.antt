@@ -65,7 +65,7 @@ of_plan scoping on plan _ (by_pattern found typed is breaks) = subst OfTextRule 
 
 of_schema : (scoping : Scoping) (on : FeatureTest) (found : TextFault) → BreaksSchema scoping on found → OfTextRule found
 of_schema scoping on _ (ill_typed found breaks) = of_one _ scoping.texts breaks.breaks.statement found.fault breaks.breaks.breaks
-of_schema scoping on _ (of_typedef found types breaks) = of_bare scoping on (typedef_plan breaks.numbers) (typedef_tables breaks.numbers) found breaks.breaks
+of_schema scoping on _ (of_typedef found types breaks) = of_bare scoping on (typedef_plan breaks.numbers) (typedef_tables scoping on breaks.numbers) found breaks.breaks
 of_schema scoping on _ (past found first) = subst OfTextRule (sym first.at) refl
 of_schema scoping on _ (in_plan plan found types planned breaks) = of_plan scoping on plan found breaks
 

@@ -15,6 +15,7 @@ use Rattle.nc_yang_nodes.specs.Plans.{statement_of}
 use Rattle.nc_yang_nodes.specs.Roles.{FeatureTest}
 use Rattle.nc_yang_nodes.specs.declared.planned.Plan.{Plan}
 use Rattle.nc_yang_nodes.proofs.ListLemmas.{got}
+use Rattle.nc_yang_data.specs.Modules.{modules_from}
 use Rattle.nc_yang_texts.specs.Rules.{KeepsTexts}
 use Rattle.nc_yang_meanings.specs.Faults.{KeepsTypes}
 use Rattle.nc_yang_leafs.specs.Bases.{AllMeanWhole}
@@ -34,11 +35,11 @@ use Rattle.nc_yang.proofs.ReadyLemmas.{AreFresh, ready_bare}
 use Rattle.nc_yang.proofs.TypedefLemmas.{judged_at, typedef_stated, typedefs_mean}
 
 -- ---- leafs one after another
-pub leafs_more : (ns : List ℕ) (i : ℕ) (old new : Tables) → i < length ns → old ≡ typedef_tables (take i ns) →
-    new ≡ record old { nodes = old.nodes ++ blank_leaf ∷ [] } → new ≡ typedef_tables (take (i + 1) ns)
-leafs_more ns i old new within so_far put =
+pub leafs_more : (scoping : Scoping) (on : FeatureTest) (ns : List ℕ) (i : ℕ) (old new : Tables) → i < length ns → old ≡ typedef_tables scoping on (take i ns) →
+    new ≡ record old { nodes = old.nodes ++ blank_leaf ∷ [] } → new ≡ typedef_tables scoping on (take (i + 1) ns)
+leafs_more scoping on ns i old new within so_far put =
     put ∙ ap (λ (t : Tables). record t { nodes = t.nodes ++ blank_leaf ∷ [] }) so_far
-    ∙ ap (λ (nodes : List Node). record { nodes = nodes; choices = []; types = []; modules = []; patterns = [] })
+    ∙ ap (λ (nodes : List Node). record { nodes = nodes; choices = []; types = []; modules = modules_from on 0 scoping.texts; patterns = [] })
     (sym (map-append (λ _. blank_leaf) (take i ns) (get_or ns i 0 ∷ [])) ∙ ap blank_leafs (sym (take_next ns i (get_or ns i 0) (slice_get-get_or ns i 0 within))))
 
 -- ---- what is broken
@@ -79,7 +80,7 @@ module _ (scoping : Scoping) (on : FeatureTest) (plan : Plan) (given : Tables) w
 -- ---- the leafs of judged typedefs
 module _ (scoping : Scoping) (on : FeatureTest) (keeps : KeepsTexts scoping.texts) (types : KeepsTypes (holds scoping.texts on) scoping.texts) (numbers : List ℕ)
     (are : AreJudged (holds scoping.texts on) scoping numbers) where
-  typedefs_fresh : AreFresh scoping (typedef_plan numbers) (typedef_tables numbers)
+  typedefs_fresh : AreFresh scoping (typedef_plan numbers) (typedef_tables scoping on numbers)
   typedefs_fresh = record {
     counted = length-map numbers (λ _. blank_leaf) ∙ sym (length-map numbers leaf_by);
     stated = λ place within.
@@ -91,12 +92,12 @@ module _ (scoping : Scoping) (on : FeatureTest) (keeps : KeepsTexts scoping.text
         ap (λ (z : Node). z.defaults) (sym m.2);
   }
 
-  module _ (plan : Plan) (given : Tables) (plan_is : plan ≡ typedef_plan numbers) (given_is : given ≡ typedef_tables numbers) where
-    moved : (P : Plan → Tables → Type 0) → P (typedef_plan numbers) (typedef_tables numbers) → P plan given
+  module _ (plan : Plan) (given : Tables) (plan_is : plan ≡ typedef_plan numbers) (given_is : given ≡ typedef_tables scoping on numbers) where
+    moved : (P : Plan → Tables → Type 0) → P (typedef_plan numbers) (typedef_tables scoping on numbers) → P plan given
     moved P h = subst (λ z. P z given) (sym plan_is) (subst (P (typedef_plan numbers)) (sym given_is) h)
 
     pub typedefs_whole : AllMeanWhole (basis_of scoping on plan given)
-    typedefs_whole = moved (λ p g. AllMeanWhole (basis_of scoping on p g)) (typedefs_mean (holds scoping.texts on) scoping keeps types numbers are)
+    typedefs_whole = moved (λ p g. AllMeanWhole (basis_of scoping on p g)) (typedefs_mean (holds scoping.texts on) scoping on keeps types numbers are)
 
     pub typedefs_ready : GetsReady scoping on plan given
     typedefs_ready = λ typed typings. ready_bare scoping on plan given (moved (AreFresh scoping) typedefs_fresh) (AreNames scoping on) typed typings typedefs_whole
@@ -107,13 +108,13 @@ module _ (scoping : Scoping) (on : FeatureTest) (keeps : KeepsTexts scoping.text
     pub typedefs_end : (result : Result (Unit {0}) (Stop TextFault)) → MatchResult result (λ _. HasBare scoping on plan given) (OnBroken (BreaksBare scoping on plan given)) →
         MatchResult result (λ _. KeepsTypedefs scoping on) (OnBroken (BreaksTypedefs scoping on))
     typedefs_end (Ok u) h =
-        let b : HasBare scoping on (typedef_plan numbers) (typedef_tables numbers) =
-        subst (λ z. HasBare scoping on z (typedef_tables numbers)) plan_is (subst (HasBare scoping on plan) given_is h) in
+        let b : HasBare scoping on (typedef_plan numbers) (typedef_tables scoping on numbers) =
+        subst (λ z. HasBare scoping on z (typedef_tables scoping on numbers)) plan_is (subst (HasBare scoping on plan) given_is h) in
         record { numbers = numbers; are = are; typed = b.0; bare = b.1 }
     typedefs_end (Err (Broken found)) h =
         record {
           numbers = numbers;
           are = are;
-          breaks = subst (λ z. BreaksBare scoping on z (typedef_tables numbers) found) plan_is (subst (λ g. BreaksBare scoping on plan g found) given_is h);
+          breaks = subst (λ z. BreaksBare scoping on z (typedef_tables scoping on numbers) found) plan_is (subst (λ g. BreaksBare scoping on plan g found) given_is h);
         }
     typedefs_end (Err Memory) h = tt

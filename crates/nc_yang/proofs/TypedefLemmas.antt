@@ -19,10 +19,12 @@ use Rattle.nc_yang_scopes.specs.Scopes.{Located, Scoping, root}
 use Rattle.nc_yang_loops.proofs.Lists.{contains_first, contains_later}
 use Rattle.nc_yang_nodes.specs.Alike.{AreAlike, SeenNode, seen_node}
 use Rattle.nc_yang_nodes.specs.Plans.{statement_of}
+use Rattle.nc_yang_nodes.specs.Roles.{FeatureTest}
 use Rattle.nc_yang_nodes.specs.declared.planned.Planned.{Planned}
 use Rattle.nc_yang_identities.specs.Picks.{Picks, none, passed, picked}
 use Rattle.nc_yang_identities.proofs.NumberLemmas.{number_at_place}
 use Rattle.nc_yang_texts.specs.Rules.{KeepsTexts}
+use Rattle.nc_yang_data.specs.Modules.{modules_from}
 use Rattle.nc_yang_meanings.specs.Faults.{KeepsTypes}
 use Rattle.nc_yang_meanings.specs.Wholes.{MeansWhole}
 use Rattle.nc_yang_leafs.specs.Bases.{AllMeanWhole, basis_on}
@@ -57,9 +59,10 @@ blanks : (scoping : Scoping) (ns : List ℕ) → blank_leafs ns ≡ map blank_by
 blanks scoping [] = refl
 blanks scoping (n ∷ ns) = ap (λ zs. blank_leaf ∷ zs) (blanks scoping ns)
 
-pub tables_same : (scoping : Scoping) (ns ms : List ℕ) → map (slice_get scoping.located) ns ≡ map (slice_get scoping.located) ms → typedef_tables ns ≡ typedef_tables ms
-tables_same scoping ns ms same =
-    ap (λ (nodes : List Node). record { nodes = nodes; choices = []; types = []; modules = []; patterns = [] }) (blanks scoping ns ∙ ap (map blank_by) same ∙ sym (blanks scoping ms))
+pub tables_same : (scoping : Scoping) (on : FeatureTest) (ns ms : List ℕ) → map (slice_get scoping.located) ns ≡ map (slice_get scoping.located) ms →
+    typedef_tables scoping on ns ≡ typedef_tables scoping on ms
+tables_same scoping on ns ms same =
+    ap (λ (nodes : List Node). record { nodes = nodes; choices = []; types = []; modules = modules_from on 0 scoping.texts; patterns = [] }) (blanks scoping ns ∙ ap (map blank_by) same ∙ sym (blanks scoping ms))
 
 -- ---- their types
 module _ (on : ℕ → List ℕ → Bool) (texts : List Statement) (keeps : KeepsTexts texts) (types : KeepsTypes on texts) where
@@ -105,9 +108,9 @@ module _ (on : ℕ → List ℕ → Bool) (scoping : Scoping) (numbers : List �
   typedef_stated place j =
       ap (option_and_then (λ (n : Planned). slice_get scoping.located n.statement)) (slice_get-map leaf_by numbers place ∙ ap (option_map leaf_by) j.at) ∙ j.is
 
-pub typedefs_mean : (on : ℕ → List ℕ → Bool) (scoping : Scoping) → KeepsTexts scoping.texts → KeepsTypes on scoping.texts → (numbers : List ℕ) → AreJudged on scoping numbers →
-    AllMeanWhole (basis_on on scoping (typedef_plan numbers) (typedef_tables numbers))
-typedefs_mean on scoping keeps types numbers are place node at has =
+pub typedefs_mean : (on : ℕ → List ℕ → Bool) (scoping : Scoping) (features : FeatureTest) → KeepsTexts scoping.texts → KeepsTypes on scoping.texts → (numbers : List ℕ) →
+    AreJudged on scoping numbers → AllMeanWhole (basis_on on scoping (typedef_plan numbers) (typedef_tables scoping features numbers))
+typedefs_mean on scoping features keeps types numbers are place node at has =
     let m = mapped (λ _. blank_leaf) (slice_get numbers place) node (sym (slice_get-map (λ _. blank_leaf) numbers place) ∙ at) in
     let j = judged_at on scoping numbers are place m.0 m.1 in
     let t = j.judged.of_type in (

@@ -83,13 +83,13 @@ pub record KeepsTypedefs (scoping : Scoping) (on : FeatureTest) : Type 0 where
   pub numbers : List ℕ
   pub are : AreJudged (holds scoping.texts on) scoping numbers
   pub typed : Tables
-  pub bare : IsBareOf scoping on (typedef_plan numbers) (typedef_tables numbers) typed
+  pub bare : IsBareOf scoping on (typedef_plan numbers) (typedef_tables scoping on numbers) typed
 
 -- or one is not, or is read through too many types
 pub record BreaksTypedefs (scoping : Scoping) (on : FeatureTest) (found : TextFault) : Type 0 where
   pub numbers : List ℕ
   pub are : AreJudged (holds scoping.texts on) scoping numbers
-  pub breaks : BreaksBare scoping on (typedef_plan numbers) (typedef_tables numbers) found
+  pub breaks : BreaksBare scoping on (typedef_plan numbers) (typedef_tables scoping on numbers) found
 
 -- the schema of a plan of data nodes with its types, where these keep all rules in which no pattern is asked
 pub record IsTypedOf (scoping : Scoping) (on : FeatureTest) (plan : Plan) (typed : Tables) : Type 0 where

@@ -1,6 +1,6 @@
 -- Typedefs with a default (RFC 7950 7.3.4), each judged as a leaf of its type with that default, used or not: those at
--- the top of a module, of types whose values ask nothing of the schema. Where a leafref or an instance-identifier leads
--- is known at a leaf, and identities, alone or as members of a union, have names by the modules of a schema.
+-- the top of a module, of types whose values do not refer to other data. Where a leafref or an instance-identifier leads
+-- is known at a leaf.
 use Rattle.std.specs.Prelude.{◌≡◌, ℕ, Bool, true, false, not, List, [], length, map, None, Some}
 use Rattle.std.specs.List.{flat_map, range_with_len}
 use Rattle.std.specs.Option.{option_map_or}
@@ -16,8 +16,10 @@ use Rattle.nc_yang_scopes.specs.Scopes.{Located, Scoping, root}
 use Rattle.nc_yang_identities.specs.Picks.{PicksNumbers}
 use Rattle.nc_yang_meanings.specs.Faults.{is_reference}
 use Rattle.nc_yang_meanings.specs.Meanings.{DerivedFrom, Entry, Meaning, Means, OneOf, Refers}
+use Rattle.nc_yang_nodes.specs.Roles.{FeatureTest}
 use Rattle.nc_yang_nodes.specs.declared.planned.Plan.{Plan}
 use Rattle.nc_yang_nodes.specs.declared.planned.Planned.{Planned}
+use Rattle.nc_yang_data.specs.Modules.{modules_from}
 
 -- the typedefs at the top of the module of a text, in their order
 abbrev pub typedefs_in : List Statement → (text : ℕ) → List Located
@@ -27,11 +29,11 @@ typedefs_in texts text = option_map_or (parts_of Typedef) (root texts text) []
 abbrev pub typedefs : List Statement → List Located
 typedefs texts = flat_map (typedefs_in texts) (range_with_len 0 (length texts))
 
--- a type is an entry by itself, and its values do not refer to other data
+-- values of a type do not refer to other data. Those of a union never do, since no member type does
 abbrev pub is_plain : Meaning → Bool
 is_plain (Entry entry patterns names) = not (is_reference entry)
-is_plain (OneOf members) = false
-is_plain (DerivedFrom bases) = false
+is_plain (OneOf members) = true
+is_plain (DerivedFrom bases) = true
 is_plain (Refers path need) = false
 
 -- the type of a statement means that
@@ -82,7 +84,12 @@ blank_leaf = record {
 abbrev pub blank_leafs : List ℕ → List Node
 blank_leafs numbers = map (λ _. blank_leaf) numbers
 
--- the schema of these leafs, without types
-abbrev pub typedef_tables : List ℕ → Tables
-typedef_tables numbers =
-    record { nodes = blank_leafs numbers; choices = []; types = []; modules = []; patterns = [] }
+-- the schema of these leafs, without types. Its modules are those of the texts: identities are known by their names
+abbrev pub typedef_tables : Scoping → FeatureTest → List ℕ → Tables
+typedef_tables scoping on numbers = record {
+  nodes = blank_leafs numbers;
+  choices = [];
+  types = [];
+  modules = modules_from on 0 scoping.texts;
+  patterns = [];
+}

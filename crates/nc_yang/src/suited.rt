@@ -1,5 +1,5 @@
 //! Whether the defaults of typedefs are values of their types (RFC 7950 7.3.4). Each typedef is a leaf with
-//! its type and its default, in a schema of such leafs alone.
+//! its type and its default, in a schema of such leafs alone that has the modules of the texts.
 ghost use Rattle.std.specs.Prelude.{◌≡◌, ◌++◌, ◌∷◌, [], map, length, IfOk, OnOk, MatchResult};
 ghost use Rattle.nc_yang_leafs.specs.Bases.{AllMeanWhole};
 ghost use Rattle.nc_yang_leafs.specs.Conditions.{holds};
@@ -18,7 +18,7 @@ use crate::schema::{keep_straight, with_types};
 use crate::typedefs::judged;
 use nc_names::{Bound, Many, Memory, QName, Text};
 use nc_schema::{Deny, Kind, Node, Schema};
-use nc_yang_data::{all_prefixes, namespaces};
+use nc_yang_data::{add_modules, all_prefixes, namespaces};
 use nc_yang_defaults::keep_defaults;
 use nc_yang_meanings::{Meanings, defaults_of};
 use nc_yang_nodes::{Features, Plan, Planned};
@@ -101,11 +101,33 @@ fn add_leaf(schema: &mut Schema, alloc: Global) -> Result<(), Memory>
     Ok(())
 }
 
-// The schema of so many leafs, without types.
-fn tables_of(alloc: Global, numbers: &[usize]) -> Result<Schema, Memory>
-    ensures { IfOk result (λ it. it ≡ words.typedef_tables numbers.now) }
+// The schema without leafs.
+fn no_leafs<'a>(
+    alloc: Global,
+    scopes: &Scopes<'a>,
+    features: &Features<'a>,
+) -> Result<Schema, Memory>
+    ensures { IfOk result (λ it. it ≡ words.typedef_tables scopes.now (is_on features.now) []) }
 {
+    if scopes.texts() > u32::MAX as usize {
+        // no machine has as many
+        return Err(Memory);
+    }
     let mut schema = Schema::new(alloc);
+    add_modules(alloc, scopes, features, &mut schema)?;
+    Ok(schema)
+}
+
+// The schema of so many leafs, without types.
+fn tables_of<'a>(
+    alloc: Global,
+    scopes: &Scopes<'a>,
+    features: &Features<'a>,
+    numbers: &[usize],
+) -> Result<Schema, Memory>
+    ensures { IfOk result (λ it. it ≡ words.typedef_tables scopes.now (is_on features.now) numbers.now) }
+{
+    let mut schema = no_leafs(alloc, scopes, features)?;
     for number in numbers {
         add_leaf(&mut schema, alloc)?;
     }
@@ -165,7 +187,7 @@ pub(crate) fn keep_typedefs<'a>(
     let found = judged(alloc, scopes, meanings)?;
     let numbers = found.as_slice();
     let plan = plan_of(alloc, numbers)?;
-    let untyped = tables_of(alloc, numbers)?;
+    let untyped = tables_of(alloc, scopes, features, numbers)?;
     let spaces = namespaces(alloc, scopes)?;
     let prefixes = all_prefixes(alloc, scopes, spaces.as_slice())?;
     suited(

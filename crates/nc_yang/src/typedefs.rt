@@ -46,13 +46,14 @@ fn is_reference_type(entry: &ValueType) -> bool
     }
 }
 
-// Whether a plan is of a type that is an entry by itself, and those of it do not.
+// Whether those of the type of a plan do not.
 fn is_plain(planned: &Planned) -> bool
     ensures { result ≡ judging.is_plain_plan planned.now }
 {
     match planned {
         Planned::Finished { entry, .. } => !is_reference_type(entry),
-        Planned::Leafref { .. } | Planned::Members(_) | Planned::Bases(_) => false,
+        Planned::Members(_) | Planned::Bases(_) => true,
+        Planned::Leafref { .. } => false,
     }
 }
 
@@ -109,8 +110,8 @@ fn keep_if(kept: &mut Many<usize>, number: usize, keeps: bool) -> Result<(), Mem
     Ok(())
 }
 
-/// The numbers of the typedefs at the top of modules that have a default and a type that is an entry by
-/// itself, whose values do not refer to other data.
+/// The numbers of the typedefs at the top of modules that have a default and a type whose values do not refer
+/// to other data.
 pub(crate) fn judged(
     alloc: Global,
     scopes: &Scopes,

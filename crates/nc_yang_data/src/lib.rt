@@ -8,8 +8,8 @@
 //! by the law `data_is_in_place` the data nodes and choices then are in place as those of a proper schema,
 //! and by `data_is_fixed` they do not depend on which plan of the modules is taken. `prefixes` promises the
 //! prefixes of a text with their namespaces, `all_prefixes` those of each text, and `namespaces` the
-//! namespaces of all texts. First each node is made by its statement alone; then each again, with the leafs
-//! that it names among those. The folders of cases/ test it.
+//! namespaces of all texts, and `add_modules` adds their modules to a schema. First each node is made by its
+//! statement alone; then each again, with the leafs that it names among those. The folders of cases/ test it.
 #![tactic(auto)]
 
 mod again;
@@ -36,5 +36,6 @@ mod words;
 
 pub use bounds::{all_prefixes, prefixes};
 pub use laws::{data_is_fixed, data_is_in_place};
+pub use modules::add_modules;
 pub use tables::data_nodes;
 pub use texts::namespaces;

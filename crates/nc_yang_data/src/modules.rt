@@ -34,8 +34,9 @@ fn add_module<'a>(
     Ok(())
 }
 
-/// Adds the modules of all texts.
-pub(crate) fn add_modules<'a>(
+/// Adds the modules of all texts, each with what it says of itself: its name, its namespace, its latest
+/// revision and the features of it that are on (RFC 7950 7.1, 7.1.9, 7.20.1).
+pub fn add_modules<'a>(
     alloc: Global,
     scopes: &Scopes<'a>,
     features: &Features<'a>,

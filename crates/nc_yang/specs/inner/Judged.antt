@@ -12,7 +12,7 @@ use Rattle.nc_yang_meanings.specs.declared.planned.Finding.{Finding}
 use Rattle.nc_yang_meanings.specs.declared.planned.Finding.TheVariants.{Plan as PlanOf}
 use Rattle.nc_yang_meanings.specs.declared.planned.Meanings.{Meanings}
 use Rattle.nc_yang_meanings.specs.declared.planned.Planned.{Planned}
-use Rattle.nc_yang_meanings.specs.declared.planned.Planned.TheVariants.{Finished}
+use Rattle.nc_yang_meanings.specs.declared.planned.Planned.TheVariants.{Bases, Finished, Leafref, Members}
 use Rattle.nc_yang_nodes.specs.Roles.{FeatureTest}
 use Rattle.nc_yang_nodes.specs.declared.planned.Plan.{Plan}
 use Rattle.nc_yang_leafs.specs.Patterns.{AreTypings}
@@ -24,7 +24,9 @@ use Rattle.nc_yang.specs.Typedefs.{HasPlainType, IsJudged}
 -- a plan is of such a type
 abbrev pub is_plain_plan : Planned → Bool
 is_plain_plan (Finished entry numbers names) = not (is_reference entry)
-is_plain_plan planned = false
+is_plain_plan (Members numbers) = true
+is_plain_plan (Bases numbers) = true
+is_plain_plan (Leafref path required) = false
 
 -- so is what was found of a statement
 abbrev pub plain_by : List Planned → Option Finding → Bool

@@ -13,6 +13,7 @@ pub mod AlikeNames
 pub mod ReadyLemmas
 pub mod DepthLemmas
 pub mod Reading
+pub mod Bare
 pub mod Outcomes
 pub mod Carried
 pub mod IdentityNames

@@ -43,8 +43,8 @@ use Rattle.nc_yang.specs.Access.{in_file}
 use Rattle.nc_yang.specs.Depths.{BreaksDepth, KeepsDepth, depth_fault, too_deep_at}
 use Rattle.nc_yang.specs.Features.{is_given}
 use Rattle.nc_yang.specs.Laws.{NeverBoth}
-use Rattle.nc_yang.specs.Schemas.{AreNames, Breaks, BreaksBare, BreaksPlan, BreaksSchema, BreaksTypedefs, Defines, GivesSchema, IsBareOf, IsBegun, IsSchemaOf, KeepsTypedefs, basis, basis_of, by_pattern, by_types, circle, deep, default, identity_name, ill_typed, in_place, in_plan, in_schema, leafref, of_typedef, past, text, unread}
-use Rattle.nc_yang.specs.Typedefs.{IsJudged, typedef_plan, typedef_tables, typedefs}
+use Rattle.nc_yang.specs.Schemas.{AreNames, Breaks, BreaksBare, BreaksPlan, BreaksSchema, BreaksTypedefs, Defines, GivesSchema, IsBareOf, IsBegun, IsSchemaOf, KeepsTypedefs, basis, basis_of, by_pattern, by_types, circle, deep, default, identity_name, ill_typed, in_place, in_plan, in_schema, leafref, of_typedef, past, suits_none, text, typedef_basis, unadmitted, unread}
+use Rattle.nc_yang.specs.Typedefs.{AreJudged, IsJudged, typedef_plan, typedef_tables, typedefs}
 use Rattle.nc_yang.proofs.DataTypes.{data_types_mean}
 use Rattle.nc_yang.proofs.Reading.{have_one_way, have_or_faulty}
 use Rattle.nc_yang.proofs.LeafTypes.{LeafAt, leaf_at, leaf_there, leafs_end, no_path_lost, nodes_paired, paths_as_given}
@@ -183,13 +183,42 @@ module _ (scoping : Scoping) (on : FeatureTest) where
 
   -- ---- typedefs that are judged
   module _ (keeps : KeepsTexts scoping.texts) (types : KeepsTypes (holds scoping.texts on) scoping.texts) (good : KeepsTypedefs scoping on) where
+    same_numbers : (numbers : List ℕ) → AreJudged (holds scoping.texts on) scoping numbers → map (slice_get scoping.located) good.numbers ≡ map (slice_get scoping.located) numbers
+    same_numbers numbers are =
+        let same : are.0 ≡ good.suited.are.0 = picks_one (IsJudged (holds scoping.texts on) scoping.texts) (typedefs scoping.texts) are.0 good.suited.are.0 are.2 good.suited.are.2 in
+        good.suited.are.1 ∙ sym (ap (map Some) same) ∙ sym are.1
+
+    typedefs_whole : AllMeanWhole (typedef_basis scoping on good.numbers)
+    typedefs_whole = typedefs_mean (holds scoping.texts on) scoping on keeps types good.numbers good.suited.are
+
+    module _ (numbers : List ℕ) (are : AreJudged (holds scoping.texts on) scoping numbers) where
+      abbrev typedefs_same : typedef_tables scoping on good.numbers ≡ typedef_tables scoping on numbers
+      typedefs_same = tables_same scoping on good.numbers numbers (same_numbers numbers are)
+
+      abbrev plans_same : AreAlike scoping (typedef_plan good.numbers) (typedef_plan numbers)
+      plans_same = typedefs_alike scoping good.numbers numbers (same_numbers numbers are)
+
+      -- types of those leafs are types of these
+      types_there : (typed : Tables) → IsTyped derived (typedef_basis scoping on numbers) typed → IsTyped derived (typedef_basis scoping on good.numbers) typed
+      types_there typed is =
+          typed_here scoping (typedef_plan good.numbers) (typedef_plan numbers) plans_same (holds scoping.texts on) (typedef_tables scoping on good.numbers) derived (NameEach typed.patterns) typed
+          (subst (λ g. IsTyped derived (basis_of scoping on (typedef_plan numbers) g) typed) (sym typedefs_same) is)
+
+      bare_typedef : (found : TextFault) → BreaksBare scoping on (typedef_plan numbers) (typedef_tables scoping on numbers) found → ⊥
+      bare_typedef found breaks =
+          bare_broken (typedef_plan good.numbers) (typedef_tables scoping on good.numbers) typedefs_whole good.typed good.suited.bare found
+          (bare_here (typedef_plan good.numbers) (typedef_plan numbers) plans_same (typedef_tables scoping on good.numbers) good.suited.bare.straight found
+          (subst (λ g. BreaksBare scoping on (typedef_plan numbers) g found) (sym typedefs_same) breaks))
+
+      default_typedef : (typed : Tables) (found : TextFault) → IsTyped derived (typedef_basis scoping on numbers) typed → BreaksDefault scoping (typedef_plan numbers) typed found → ⊥
+      default_typedef typed found is breaks =
+          defaults_keep (typedef_plan good.numbers) (typedef_tables scoping on good.numbers) typedefs_whole good.typed typed (NameEach good.typed.patterns) (NameEach typed.patterns) good.suited.bare.types
+          (types_there typed is) (each_agree good.typed.patterns typed.patterns) good.suited.bare.straight found good.defaults
+          (default_here scoping (typedef_plan good.numbers) (typedef_plan numbers) plans_same typed found breaks)
+
     typedef_broken : (found : TextFault) → BreaksTypedefs scoping on found → ⊥
-    typedef_broken found bad =
-        let same : bad.are.0 ≡ good.are.0 = picks_one (IsJudged (holds scoping.texts on) scoping.texts) (typedefs scoping.texts) bad.are.0 good.are.0 bad.are.2 good.are.2 in
-        let numbers : map (slice_get scoping.located) good.numbers ≡ map (slice_get scoping.located) bad.numbers = good.are.1 ∙ sym (ap (map Some) same) ∙ sym bad.are.1 in
-        bare_broken (typedef_plan good.numbers) (typedef_tables scoping on good.numbers) (typedefs_mean (holds scoping.texts on) scoping on keeps types good.numbers good.are) good.typed good.bare found
-        (bare_here (typedef_plan good.numbers) (typedef_plan bad.numbers) (typedefs_alike scoping good.numbers bad.numbers numbers) (typedef_tables scoping on good.numbers) good.bare.straight found
-        (subst (λ g. BreaksBare scoping on (typedef_plan bad.numbers) g found) (sym (tables_same scoping on good.numbers bad.numbers numbers)) bad.breaks))
+    typedef_broken _ (suits_none numbers found are breaks) = bare_typedef numbers are found breaks
+    typedef_broken _ (unadmitted numbers typed found suited breaks) = default_typedef numbers suited.are typed found suited.bare.types breaks
 
   -- ---- a schema of a plan, and rules that another plan of the same modules breaks
   module _ (keeps : KeepsTexts scoping.texts) (types : KeepsTypes (holds scoping.texts on) scoping.texts) (plan : Plan) (planned : IsPlan scoping on plan)

@@ -1,6 +1,6 @@
 -- What each pass answers, as what modules define or the rule that they break.
 use Rattle.std.proofs.Common.{inl, inr, ◌≡◌, ℕ, suc, List, [], length, ap, sym, subst, ◌∙◌}
-use Rattle.std.specs.Prelude.{slice_get, Option, Result, Ok, Err, Some, IfOk, MatchResult}
+use Rattle.std.specs.Prelude.{slice_get, Option, Result, Ok, Err, Some, IfOk, MatchResult, OnOk}
 use Rattle.nc_names.specs.declared.memory.Memory.{Memory as NamesMemory}
 use Rattle.nc_schema.specs.Tables.{Tables}
 use Rattle.nc_yang_words.specs.declared.statement.Statement.{Statement}
@@ -30,16 +30,20 @@ use Rattle.nc_yang_leafs.specs.Conditions.{holds}
 use Rattle.nc_yang_leafs.specs.Faults.{BreaksLeafref}
 use Rattle.nc_yang_leafs.specs.Patterns.{AreTypings, HasPatterns, Refusals, RefusesType}
 use Rattle.nc_yang_leafs.specs.declared.bare.Typed.{Typed}
-use Rattle.nc_yang_leafs.proofs.PatternLemmas.{patterns_left_out, refused_in_use, stated_typed, with_patterns_typed}
+use Rattle.nc_yang_leafs.proofs.PatternLemmas.{refused_in_use, stated_typed}
 use Rattle.nc_yang_circles.specs.Circles.{BreaksCircle, HasNoCircle}
 use Rattle.nc_yang_defaults.specs.Defaults.{BreaksDefault, HasDefaults, KeepsDefaults}
 use Rattle.nc_yang_defaults.specs.Typed.{IsTyped as IsReady}
 use Rattle.nc_yang.specs.Access.{HaveStatements, in_file}
 use Rattle.nc_yang.specs.Depths.{BreaksDepth, KeepsDepth}
 use Rattle.nc_yang.specs.Features.{is_given}
-use Rattle.nc_yang.specs.Schemas.{AreNames, BreaksSchema, BreaksTypedefs, Defines, GivesNone, GivesSchema, IsBegun, IsSchemaOf, IsTypedOf, KeepsTypedefs, RefusesSchema, basis, basis_of, by_pattern, by_types, circle, deep, default, ill_typed, in_place, in_plan, in_schema, leafref, of_typedef, past, text, unread}
-use Rattle.nc_yang.specs.inner.Finishing.{Ends, Finishes, GivesNoSchema, GivesNothing, broken, refused, too_deep, unsuited}
+use Rattle.nc_yang.specs.Schemas.{AreNames, BreaksSchema, BreaksTypedefs, Defines, GivesNone, GivesSchema, IsBegun, IsSchemaOf, IsTypedOf, RefusesSchema, basis, basis_of, by_pattern, by_types, circle, deep, default, ill_typed, in_place, in_plan, in_schema, leafref, of_typedef, past, text, unread}
+use Rattle.nc_yang.specs.declared.suited.Suited.{Suited}
+use Rattle.nc_yang.specs.inner.Finishing.{Ends, Finishes, GivesNoSchema, GivesNothing, broken, refused as refused_last, too_deep, unsuited as unsuited_last}
+use Rattle.nc_yang.specs.inner.Judged.{BreaksPatterned, HasBare, IsSuited, KeepsPatterned, refused, unsuited}
 use Rattle.nc_yang.specs.inner.Stops.{IsInFile, OnFile}
+use Rattle.nc_yang.proofs.Bare.{bare_stated, bare_with}
+use Rattle.nc_yang.proofs.SuitedLemmas.{keeps_patterned, refused_patterned, suited_stated, unsuited_patterned}
 
 -- ---- faults of the passes
 pub data_stops : (scoping : Scoping) (on : FeatureTest) (plan : Plan) (refusals : Refusals) (met : Stop TextFault) → OnBroken (λ (found : TextFault). Some found ≡ first (data_faults scoping on plan)) met
@@ -89,17 +93,11 @@ circle_stops scoping on plan refusals kept Memory b = tt
 -- the schema with its types as they were found, and what its defaults and patterns come to
 module _ (scoping : Scoping) (on : FeatureTest) (plan : Plan) (typed : Typed) (refusals : Refusals) (kept : data_faults scoping on plan ≡ []) (none : HasNoCircle (basis scoping on plan))
     (are : AreTypings (AreNames scoping on) (basis scoping on plan) typed) where
+  has_bare : KeepsDepth scoping plan typed.schema → KeepsDefaults scoping plan typed.schema → HasBare scoping on plan (data_tables scoping on plan) typed
+  has_bare shallow keeps = record { straight = none; typings = are; shallow = shallow; defaults = keeps }
+
   of_patterns : (tables : Tables) → HasPatterns scoping.located typed tables → KeepsDepth scoping plan typed.schema → KeepsDefaults scoping plan typed.schema → IsTypedOf scoping on plan tables
-  of_patterns tables has shallow keeps = record {
-    keeps = kept;
-    bare =
-        record {
-          straight = none;
-          types = with_patterns_typed (AreNames scoping on) (basis scoping on plan) typed are tables has;
-          shallow = subst (KeepsDepth scoping plan) (sym (patterns_left_out (AreNames scoping on) (basis scoping on plan) typed are tables has)) shallow;
-          defaults = subst (KeepsDefaults scoping plan) (sym (patterns_left_out (AreNames scoping on) (basis scoping on plan) typed are tables has)) keeps;
-        };
-  }
+  of_patterns tables has shallow keeps = record { keeps = kept; bare = bare_with scoping on plan (data_tables scoping on plan) typed (has_bare shallow keeps) tables has }
 
   ends : (found : TextFault) → Ends scoping plan typed refusals found → GivesNoSchema scoping on plan refusals found
   ends _ (too_deep found h) =
@@ -108,18 +106,14 @@ module _ (scoping : Scoping) (on : FeatureTest) (plan : Plan) (typed : Typed) (r
   ends _ (broken found h) =
       let t = stated_typed (AreNames scoping on) (basis scoping on plan) typed are in
       inl (by_types found kept (default found t.0 none t.1 (subst (λ z. BreaksDefault scoping plan z found) (sym t.2) h)))
-  ends _ (refused found shallow keeps h) =
-      let t = stated_typed (AreNames scoping on) (basis scoping on plan) typed are in
+  ends _ (refused_last found shallow keeps h) =
+      let t = bare_stated scoping on plan (data_tables scoping on plan) typed (has_bare shallow keeps) in
       inr (record {
         typed = t.0;
-        is =
-            record {
-              keeps = kept;
-              bare = record { straight = none; types = t.1; shallow = subst (KeepsDepth scoping plan) (sym t.2) shallow; defaults = subst (KeepsDefaults scoping plan) (sym t.2) keeps };
-            };
+        is = record { keeps = kept; bare = t.1 };
         refused = refused_in_use (AreNames scoping on) (basis scoping on plan) typed are refusals found h;
       })
-  ends _ (unsuited found patterned shallow keeps has h) = inl (by_pattern found patterned (of_patterns patterned has shallow keeps) h)
+  ends _ (unsuited_last found patterned shallow keeps has h) = inl (by_pattern found patterned (of_patterns patterned has shallow keeps) h)
 
   pub finishes : (result : Result Tables (Stop TextFault)) → MatchResult result (Finishes scoping plan typed) (OnBroken (Ends scoping plan typed refusals))
       → MatchResult result (IsSchemaOf scoping on plan) (OnBroken (GivesNoSchema scoping on plan refusals))
@@ -140,15 +134,20 @@ broken_first scoping plan typed refusals Memory b = tt
 
 pub refused_then : (scoping : Scoping) (plan : Plan) (typed : Typed) (refusals : Refusals) → KeepsDepth scoping plan typed.schema → KeepsDefaults scoping plan typed.schema → (stop : Stop TextFault)
     → OnBroken (RefusesType scoping.located typed refusals) stop → OnBroken (Ends scoping plan typed refusals) stop
-refused_then scoping plan typed refusals shallow keeps (Broken found) b = refused found shallow keeps b
+refused_then scoping plan typed refusals shallow keeps (Broken found) b = refused_last found shallow keeps b
 refused_then scoping plan typed refusals shallow keeps Memory b = tt
 
-pub unsuited_last : (scoping : Scoping) (plan : Plan) (typed : Typed) (refusals : Refusals) (patterned : Tables) → KeepsDepth scoping plan typed.schema → KeepsDefaults scoping plan typed.schema
+pub defaults_last : (scoping : Scoping) (plan : Plan) (typed : Typed) (refusals : Refusals) (patterned : Tables) → KeepsDepth scoping plan typed.schema → KeepsDefaults scoping plan typed.schema
     → HasPatterns scoping.located typed patterned → (result : Result Tables (Stop TextFault)) → MatchResult result (HasDefaults scoping plan patterned) (OnBroken (BreaksDefault scoping plan patterned))
     → MatchResult result (Finishes scoping plan typed) (OnBroken (Ends scoping plan typed refusals))
-unsuited_last scoping plan typed refusals patterned shallow keeps has (Ok tables) h = record { shallow = shallow; keeps = keeps; patterned = patterned; has = has; defaults = h }
-unsuited_last scoping plan typed refusals patterned shallow keeps has (Err (Broken found)) h = unsuited found patterned shallow keeps has h
-unsuited_last scoping plan typed refusals patterned shallow keeps has (Err Memory) h = tt
+defaults_last scoping plan typed refusals patterned shallow keeps has (Ok tables) h = record { shallow = shallow; keeps = keeps; patterned = patterned; has = has; defaults = h }
+defaults_last scoping plan typed refusals patterned shallow keeps has (Err (Broken found)) h = unsuited_last found patterned shallow keeps has h
+defaults_last scoping plan typed refusals patterned shallow keeps has (Err Memory) h = tt
+
+-- what is so whatever was found
+pub whatever : {A E : Type 0} (P : Type 0) (result : Result A E) → P → OnOk result P
+whatever P (Ok it) p = p
+whatever P (Err e) p = tt
 
 -- what makes a schema ready for its defaults does not depend on its types
 pub ready_again : (scoping : Scoping) (plan : Plan) (typed : Typed) (tables : Tables) → IsReady scoping plan typed.schema → HasPatterns scoping.located typed tables → IsReady scoping plan tables
@@ -166,13 +165,38 @@ pub on_by : (scoping : Scoping) (lines : List (List ℕ)) (given : Features) →
 on_by scoping lines given same result h =
     subst (λ (f : FeatureTest). IfOk result (λ it. AreOn scoping f (is_on it))) (λ i text feature. same text feature i) h
 
-pub plans : (scoping : Scoping) (on : FeatureTest) (plan : Plan) (refusals : Refusals) → KeepsTypes (holds scoping.texts on) scoping.texts → KeepsTypedefs scoping on → IsPlan scoping on plan
-    → (result : Result Tables (Stop TextFault)) → MatchResult result (IsSchemaOf scoping on plan) (OnBroken (GivesNoSchema scoping on plan refusals))
-    → MatchResult result (GivesSchema scoping on) (OnBroken (GivesNothing scoping on refusals))
-plans scoping on plan refusals types typedefs planned (Ok tables) h = record { types = types; typedefs = typedefs; plan = plan; planned = planned; is = h }
-plans scoping on plan refusals types typedefs planned (Err (Broken found)) (inl h) = inl (in_plan plan found types planned h)
-plans scoping on plan refusals types typedefs planned (Err (Broken found)) (inr h) = inr (record { types = types; typedefs = typedefs; plan = plan; planned = planned; refuses = h })
-plans scoping on plan refusals types typedefs planned (Err Memory) h = tt
+-- a schema of a plan, beside typedefs whose defaults suit their types but for patterns
+module _ (scoping : Scoping) (on : FeatureTest) (plan : Plan) (types : KeepsTypes (holds scoping.texts on) scoping.texts) (suited : Suited) (is : IsSuited scoping on suited) (planned : IsPlan scoping on plan) where
+  pub schema_stops : (refusals : Refusals) (stop : Stop TextFault) → OnBroken (GivesNoSchema scoping on plan refusals) stop → OnBroken (GivesNothing scoping on refusals) stop
+  schema_stops refusals (Broken found) (inl h) = inl (in_plan plan found types planned h)
+  schema_stops refusals (Broken found) (inr h) =
+      let t = suited_stated scoping on suited is in
+      inr (record { types = types; numbers = is.numbers; suits = t.0; suited = t.1; plan = plan; planned = planned; typed = h.typed; is = h.is; refused = inl h.refused })
+  schema_stops refusals Memory h = tt
+
+  module _ (tables : Tables) (schema : IsSchemaOf scoping on plan tables) where
+    pub patterned_stops : (refusals : Refusals) (stop : Stop TextFault) → OnBroken (BreaksPatterned scoping suited refusals) stop → OnBroken (GivesNothing scoping on refusals) stop
+    patterned_stops refusals (Broken found) h = by found h
+      where
+        by : (found : TextFault) → BreaksPatterned scoping suited refusals found → GivesNothing scoping on refusals found
+        by _ (refused found r) =
+            let t = suited_stated scoping on suited is in
+            inr (record {
+              types = types;
+              numbers = is.numbers;
+              suits = t.0;
+              suited = t.1;
+              plan = plan;
+              planned = planned;
+              typed = schema.typed;
+              is = schema.is;
+              refused = inr (refused_patterned scoping on suited is refusals found r);
+            })
+        by _ (unsuited found patterned has breaks) = inl (of_typedef found types (unsuited_patterned scoping on suited is found patterned has breaks))
+    patterned_stops refusals Memory h = tt
+
+    pub gives : KeepsPatterned scoping suited → GivesSchema scoping on tables
+    gives keeps = record { types = types; typedefs = keeps_patterned scoping on suited is keeps; plan = plan; planned = planned; is = schema }
 
 pub text_stops : (modules : List ModuleText) (lines : List (List ℕ)) (refusals : Refusals) (roots : List Statement) → HaveStatements modules roots → (stop : Stop TextFault) → OnBroken (BreaksText roots) stop
     → OnBroken (OnFile (GivesNone modules lines refusals)) stop

@@ -26,7 +26,7 @@ use Rattle.nc_yang_leafs.specs.Patterns.{Refusals, without_patterns}
 use Rattle.nc_yang_defaults.specs.Defaults.{IsBroken}
 use Rattle.nc_yang.specs.Access.{in_file}
 use Rattle.nc_yang.specs.Depths.{is_too_deep, too_deep_at}
-use Rattle.nc_yang.specs.Schemas.{Breaks, BreaksBare, BreaksPlan, BreaksSchema, Defines, GivesNone, by_pattern, by_types, circle, deep, default, ill_typed, in_place, in_plan, in_schema, leafref, of_typedef, past, text, unread}
+use Rattle.nc_yang.specs.Schemas.{Breaks, BreaksBare, BreaksPlan, BreaksSchema, BreaksTypedefs, Defines, GivesNone, by_pattern, by_types, circle, deep, default, ill_typed, in_place, in_plan, in_schema, leafref, of_typedef, past, suits_none, text, unadmitted, unread}
 use Rattle.nc_yang.specs.Typedefs.{typedef_plan, typedef_tables}
 use Rattle.nc_yang.proofs.TextReasons.{OfRule, OfTextRule, is_of_rule, no_refusal, of_text, of_unread}
 use Rattle.nc_yang.proofs.TypeReasons.{of_data, of_narrowed, of_own}
@@ -63,9 +63,13 @@ of_plan scoping on plan _ (in_place found here) = All-contains OfTextRule (data_
 of_plan scoping on plan _ (by_types found kept breaks) = of_bare scoping on plan (data_tables scoping on plan) found breaks
 of_plan scoping on plan _ (by_pattern found typed is breaks) = subst OfTextRule (sym breaks.fault_is) (of_default breaks.breaks.stops.earlier _ breaks.breaks.stops.why breaks.breaks.stops.broken)
 
+of_typedefs : (scoping : Scoping) (on : FeatureTest) (found : TextFault) → BreaksTypedefs scoping on found → OfTextRule found
+of_typedefs scoping on _ (suits_none numbers found are breaks) = of_bare scoping on (typedef_plan numbers) (typedef_tables scoping on numbers) found breaks
+of_typedefs scoping on _ (unadmitted numbers typed found suited breaks) = subst OfTextRule (sym breaks.fault_is) (of_default breaks.breaks.stops.earlier _ breaks.breaks.stops.why breaks.breaks.stops.broken)
+
 of_schema : (scoping : Scoping) (on : FeatureTest) (found : TextFault) → BreaksSchema scoping on found → OfTextRule found
 of_schema scoping on _ (ill_typed found breaks) = of_one _ scoping.texts breaks.breaks.statement found.fault breaks.breaks.breaks
-of_schema scoping on _ (of_typedef found types breaks) = of_bare scoping on (typedef_plan breaks.numbers) (typedef_tables scoping on breaks.numbers) found breaks.breaks
+of_schema scoping on _ (of_typedef found types breaks) = of_typedefs scoping on found breaks
 of_schema scoping on _ (past found first) = subst OfTextRule (sym first.at) refl
 of_schema scoping on _ (in_plan plan found types planned breaks) = of_plan scoping on plan found breaks
 
@@ -82,7 +86,7 @@ never_refused modules lines file fault breaks = no_refusal fault (of_modules mod
 pub rose_where_refused : (modules : List ModuleText) (lines : List (List ℕ)) (refusals : Refusals) (file : ℕ) (fault : Fault) → GivesNone modules lines refusals file fault → fault.why ≡ PatternRefused →
     Rose refusals.before refusals.now
 rose_where_refused modules lines refusals file fault (inl breaks) is = absurd (never_refused modules lines file fault breaks is)
-rose_where_refused modules lines refusals file fault (inr refuses) is = refuses.refuses.refuses.refused.refuses.rose
+rose_where_refused modules lines refusals file fault (inr refuses) is = elim refuses.refuses.refused [ inl used ↦ used.refuses.rose | inr judged ↦ judged.refuses.rose ]
 
 pub rose_of : (modules : List ModuleText) (lines : List (List ℕ)) (refusals : Refusals) (result : Result Tables CompileFault) →
     MatchResult result (Defines modules lines) (OnModule (GivesNone modules lines refusals)) → IfErr result (OnModule (λ file fault. fault.why ≡ PatternRefused → Rose refusals.before refusals.now))

@@ -21,15 +21,17 @@ use Rattle.nc_yang_meanings.specs.Faults.{KeepsTypes}
 use Rattle.nc_yang_leafs.specs.Bases.{AllMeanWhole}
 use Rattle.nc_yang_leafs.specs.Conditions.{holds}
 use Rattle.nc_yang_leafs.specs.Faults.{BreaksLeafref}
-use Rattle.nc_yang_leafs.specs.Patterns.{AreTypings}
+use Rattle.nc_yang_leafs.specs.Patterns.{AreTypings, HasPatterns, IsRefused, Refusals, RefusesType}
 use Rattle.nc_yang_leafs.specs.declared.bare.Typed.{Typed}
-use Rattle.nc_yang_leafs.proofs.PatternLemmas.{stated_typed}
+use Rattle.nc_yang_leafs.proofs.PatternLemmas.{refused_in_use, stated_typed}
 use Rattle.nc_yang_circles.specs.Circles.{BreaksCircle, HasNoCircle}
 use Rattle.nc_yang_defaults.specs.Defaults.{BreaksDefault, KeepsDefaults}
 use Rattle.nc_yang.specs.Depths.{BreaksDepth, KeepsDepth}
-use Rattle.nc_yang.specs.Schemas.{AreNames, BreaksBare, BreaksTypedefs, KeepsTypedefs, basis_of, circle, deep, default, leafref}
+use Rattle.nc_yang.specs.Schemas.{AreNames, AreSuited, BreaksBare, BreaksTypedefs, IsBareOf, KeepsTypedefs, basis_of, circle, deep, default, leafref, suits_none, typedef_basis, unadmitted}
 use Rattle.nc_yang.specs.Typedefs.{AreJudged, blank_leaf, blank_leafs, leaf_by, typedef_plan, typedef_tables}
-use Rattle.nc_yang.specs.inner.Judged.{GetsReady, HasBare}
+use Rattle.nc_yang.specs.declared.suited.Suited.{Suited}
+use Rattle.nc_yang.specs.inner.Judged.{BreaksPatterned, GetsReady, HasBare, IsSuited, KeepsPatterned, refused, unsuited}
+use Rattle.nc_yang.proofs.Bare.{bare_stated, bare_with}
 use Rattle.nc_yang.proofs.Lists.{mapped}
 use Rattle.nc_yang.proofs.ReadyLemmas.{AreFresh, ready_bare}
 use Rattle.nc_yang.proofs.TypedefLemmas.{judged_at, typedef_stated, typedefs_mean}
@@ -59,23 +61,11 @@ module _ (scoping : Scoping) (on : FeatureTest) (plan : Plan) (given : Tables) w
         deep found t.0 none t.1 (subst (λ z. BreaksDepth scoping plan z found) (sym t.2) b)
     deep_bare Memory b = tt
 
-    pub bare_ends : KeepsDepth scoping plan typed.schema → (result : Result (Unit {0}) (Stop TextFault)) →
-        MatchResult result (λ _. KeepsDefaults scoping plan typed.schema) (OnBroken (BreaksDefault scoping plan typed.schema)) →
-        MatchResult result (λ _. HasBare scoping on plan given) (OnBroken (BreaksBare scoping on plan given))
-    bare_ends shallow (Ok u) h =
-        let t = stated_typed (AreNames scoping on) (basis_of scoping on plan given) typed are in (
-          t.0,
-          record {
-            straight = none;
-            types = t.1;
-            shallow = subst (KeepsDepth scoping plan) (sym t.2) shallow;
-            defaults = subst (KeepsDefaults scoping plan) (sym t.2) h;
-          },
-        )
-    bare_ends shallow (Err (Broken found)) h =
+    pub default_bare : (stop : Stop TextFault) → OnBroken (BreaksDefault scoping plan typed.schema) stop → OnBroken (BreaksBare scoping on plan given) stop
+    default_bare (Broken found) b =
         let t = stated_typed (AreNames scoping on) (basis_of scoping on plan given) typed are in
-        default found t.0 none t.1 (subst (λ z. BreaksDefault scoping plan z found) (sym t.2) h)
-    bare_ends shallow (Err Memory) h = tt
+        default found t.0 none t.1 (subst (λ z. BreaksDefault scoping plan z found) (sym t.2) b)
+    default_bare Memory b = tt
 
 -- ---- the leafs of judged typedefs
 module _ (scoping : Scoping) (on : FeatureTest) (keeps : KeepsTexts scoping.texts) (types : KeepsTypes (holds scoping.texts on) scoping.texts) (numbers : List ℕ)
@@ -105,16 +95,60 @@ module _ (scoping : Scoping) (on : FeatureTest) (keeps : KeepsTexts scoping.text
     pub typedefs_blank : (given.types ≡ []) × (given.patterns ≡ [])
     typedefs_blank = (ap (λ (t : Tables). t.types) given_is, ap (λ (t : Tables). t.patterns) given_is)
 
-    pub typedefs_end : (result : Result (Unit {0}) (Stop TextFault)) → MatchResult result (λ _. HasBare scoping on plan given) (OnBroken (BreaksBare scoping on plan given)) →
-        MatchResult result (λ _. KeepsTypedefs scoping on) (OnBroken (BreaksTypedefs scoping on))
-    typedefs_end (Ok u) h =
-        let b : HasBare scoping on (typedef_plan numbers) (typedef_tables scoping on numbers) =
-        subst (λ z. HasBare scoping on z (typedef_tables scoping on numbers)) plan_is (subst (HasBare scoping on plan) given_is h) in
-        record { numbers = numbers; are = are; typed = b.0; bare = b.1 }
-    typedefs_end (Err (Broken found)) h =
-        record {
-          numbers = numbers;
-          are = are;
-          breaks = subst (λ z. BreaksBare scoping on z (typedef_tables scoping on numbers) found) plan_is (subst (λ g. BreaksBare scoping on plan g found) given_is h);
-        }
-    typedefs_end (Err Memory) h = tt
+    pub typedefs_broken : (stop : Stop TextFault) → OnBroken (BreaksBare scoping on plan given) stop → OnBroken (BreaksTypedefs scoping on) stop
+    typedefs_broken (Broken found) h =
+        suits_none numbers found are (subst (λ z. BreaksBare scoping on z (typedef_tables scoping on numbers) found) plan_is (subst (λ g. BreaksBare scoping on plan g found) given_is h))
+    typedefs_broken Memory h = tt
+
+    pub typedefs_suited : (typed : Typed) → HasBare scoping on plan given typed → IsSuited scoping on (record { plan = plan; typed = typed })
+    typedefs_suited typed h = record {
+      numbers = numbers;
+      are = are;
+      plan_is = plan_is;
+      bare = subst (λ g. HasBare scoping on plan g typed) given_is h;
+      ready = typedefs_ready typed h.typings;
+    }
+
+-- ---- with the patterns of their types
+module _ (scoping : Scoping) (on : FeatureTest) (suited : Suited) (is : IsSuited scoping on suited) where
+  abbrev own_tables : Tables
+  own_tables = typedef_tables scoping on is.numbers
+
+  of_numbers : (tables : Tables) → IsBareOf scoping on suited.plan own_tables tables → AreSuited scoping on is.numbers tables
+  of_numbers tables bare = record { are = is.are; bare = subst (λ z. IsBareOf scoping on z own_tables tables) is.plan_is bare }
+
+  pub suited_with : (tables : Tables) → HasPatterns scoping.located suited.typed tables → AreSuited scoping on is.numbers tables
+  suited_with tables has = of_numbers tables (bare_with scoping on suited.plan own_tables suited.typed is.bare tables has)
+
+  pub suited_stated : (tables : Tables) × AreSuited scoping on is.numbers tables
+  suited_stated = let t = bare_stated scoping on suited.plan own_tables suited.typed is.bare in (t.0, of_numbers t.0 t.1)
+
+  pub keeps_patterned : KeepsPatterned scoping suited → KeepsTypedefs scoping on
+  keeps_patterned k = record {
+    numbers = is.numbers;
+    typed = k.tables;
+    suited = suited_with k.tables k.has;
+    defaults = subst (λ z. KeepsDefaults scoping z k.tables) is.plan_is k.defaults;
+  }
+
+  pub unsuited_patterned : (found : TextFault) (tables : Tables) → HasPatterns scoping.located suited.typed tables → BreaksDefault scoping suited.plan tables found → BreaksTypedefs scoping on found
+  unsuited_patterned found tables has breaks =
+      unadmitted is.numbers tables found (suited_with tables has) (subst (λ z. BreaksDefault scoping z tables found) is.plan_is breaks)
+
+  pub refused_patterned : (refusals : Refusals) (found : TextFault) → RefusesType scoping.located suited.typed refusals found → IsRefused (typedef_basis scoping on is.numbers) refusals found
+  refused_patterned refusals found r =
+      subst (λ z. IsRefused (basis_of scoping on z own_tables) refusals found) is.plan_is
+      (refused_in_use (AreNames scoping on) (basis_of scoping on suited.plan own_tables) suited.typed is.bare.typings refusals found r)
+
+-- ---- what is found of defaults last
+pub patterned_last : (scoping : Scoping) (suited : Suited) (refusals : Refusals) (tables : Tables) → HasPatterns scoping.located suited.typed tables → (result : Result (Unit {0}) (Stop TextFault)) →
+    MatchResult result (λ _. KeepsDefaults scoping suited.plan tables) (OnBroken (BreaksDefault scoping suited.plan tables)) →
+    MatchResult result (λ _. KeepsPatterned scoping suited) (OnBroken (BreaksPatterned scoping suited refusals))
+patterned_last scoping suited refusals tables has (Ok u) h = record { tables = tables; has = has; defaults = h }
+patterned_last scoping suited refusals tables has (Err (Broken found)) h = unsuited found tables has h
+patterned_last scoping suited refusals tables has (Err Memory) h = tt
+
+pub patterned_refused : (scoping : Scoping) (suited : Suited) (refusals : Refusals) (stop : Stop TextFault) → OnBroken (RefusesType scoping.located suited.typed refusals) stop →
+    OnBroken (BreaksPatterned scoping suited refusals) stop
+patterned_refused scoping suited refusals (Broken found) r = refused found r
+patterned_refused scoping suited refusals Memory r = tt

@@ -78,18 +78,30 @@ pub data BreaksBare (scoping : Scoping) (on : FeatureTest) (plan : Plan) (given 
       → IsTyped (AreNames scoping on) (basis_of scoping on plan given) typed
       → BreaksDefault scoping plan (without_patterns typed) found → BreaksBare scoping on plan given found
 
--- the defaults of typedefs are values of their types, but for patterns
-pub record KeepsTypedefs (scoping : Scoping) (on : FeatureTest) : Type 0 where
-  pub numbers : List ℕ
+-- what the types of typedefs stand on, as leafs of a schema of their own
+abbrev pub typedef_basis : Scoping → FeatureTest → List ℕ → Basis
+typedef_basis scoping on numbers =
+    basis_of scoping on (typedef_plan numbers) (typedef_tables scoping on numbers)
+
+-- the typedefs that are judged, as leafs with their types: their defaults are values of these, but for patterns
+pub record AreSuited (scoping : Scoping) (on : FeatureTest) (numbers : List ℕ) (typed : Tables) : Type 0 where
   pub are : AreJudged (holds scoping.texts on) scoping numbers
-  pub typed : Tables
   pub bare : IsBareOf scoping on (typedef_plan numbers) (typedef_tables scoping on numbers) typed
 
--- or one is not, or is read through too many types
-pub record BreaksTypedefs (scoping : Scoping) (on : FeatureTest) (found : TextFault) : Type 0 where
+-- the defaults of typedefs are values of their types
+pub record KeepsTypedefs (scoping : Scoping) (on : FeatureTest) : Type 0 where
   pub numbers : List ℕ
-  pub are : AreJudged (holds scoping.texts on) scoping numbers
-  pub breaks : BreaksBare scoping on (typedef_plan numbers) (typedef_tables scoping on numbers) found
+  pub typed : Tables
+  pub suited : AreSuited scoping on numbers typed
+  pub defaults : KeepsDefaults scoping (typedef_plan numbers) typed
+
+-- or one is not, whatever the patterns, or is read through too many types; or one is not by the patterns alone
+pub data BreaksTypedefs (scoping : Scoping) (on : FeatureTest) : TextFault → Type 0 where
+  suits_none : (numbers : List ℕ) (found : TextFault) → AreJudged (holds scoping.texts on) scoping numbers
+      → BreaksBare scoping on (typedef_plan numbers) (typedef_tables scoping on numbers) found
+      → BreaksTypedefs scoping on found
+  unadmitted : (numbers : List ℕ) (typed : Tables) (found : TextFault) → AreSuited scoping on numbers typed
+      → BreaksDefault scoping (typedef_plan numbers) typed found → BreaksTypedefs scoping on found
 
 -- the schema of a plan of data nodes with its types, where these keep all rules in which no pattern is asked
 pub record IsTypedOf (scoping : Scoping) (on : FeatureTest) (plan : Plan) (typed : Tables) : Type 0 where
@@ -112,13 +124,6 @@ pub data BreaksPlan (scoping : Scoping) (on : FeatureTest) (plan : Plan) : TextF
   by_pattern : (found : TextFault) (typed : Tables) → IsTypedOf scoping on plan typed
       → BreaksDefault scoping plan typed found → BreaksPlan scoping on plan found
 
--- a maker refused a pattern in use where all rules are kept in which no pattern is asked
-pub record RefusesPlan (scoping : Scoping) (on : FeatureTest) (plan : Plan) (refusals : Refusals)
-    (found : TextFault) : Type 0 where
-  pub typed : Tables
-  pub is : IsTypedOf scoping on plan typed
-  pub refused : IsRefused (basis scoping on plan) refusals found
-
 -- texts whose types and typedefs keep their rules and whose data nodes keep the limits give this schema
 pub record GivesSchema (scoping : Scoping) (on : FeatureTest) (tables : Tables) : Type 0 where
   pub types : KeepsTypes (holds scoping.texts on) scoping.texts
@@ -138,13 +143,19 @@ pub data BreaksSchema (scoping : Scoping) (on : FeatureTest) : TextFault → Typ
   in_plan : (plan : Plan) (found : TextFault) → KeepsTypes (holds scoping.texts on) scoping.texts
       → IsPlan scoping on plan → BreaksPlan scoping on plan found → BreaksSchema scoping on found
 
--- or a maker refused a pattern of them
+-- or a maker refused a pattern that data nodes use, or one that the judged typedefs use, where all rules are kept in
+-- which no pattern is asked
 pub record RefusesSchema (scoping : Scoping) (on : FeatureTest) (refusals : Refusals) (found : TextFault) : Type 0 where
   pub types : KeepsTypes (holds scoping.texts on) scoping.texts
-  pub typedefs : KeepsTypedefs scoping on
+  pub numbers : List ℕ
+  pub suits : Tables
+  pub suited : AreSuited scoping on numbers suits
   pub plan : Plan
   pub planned : IsPlan scoping on plan
-  pub refuses : RefusesPlan scoping on plan refusals found
+  pub typed : Tables
+  pub is : IsTypedOf scoping on plan typed
+  pub refused : IsRefused (basis scoping on plan) refusals found
+      ⊎ IsRefused (typedef_basis scoping on numbers) refusals found
 
 -- the schema that modules define, with the features that lines name
 pub record Defines (modules : List ModuleText) (lines : List (List ℕ)) (tables : Tables) : Type 0 where

@@ -1,5 +1,5 @@
 //! The schema of planned data nodes.
-ghost use Rattle.std.specs.Prelude.{◌≡◌, [], map, MatchResult};
+ghost use Rattle.std.specs.Prelude.{◌≡◌, [], map, MatchResult, OnOk};
 ghost use Rattle.std.specs.List.{All};
 ghost use Rattle.nc_yang_nodes.specs.FeaturesOn.{is_on};
 ghost use Rattle.nc_yang_nodes.specs.Plans.{IsPlan};
@@ -99,7 +99,8 @@ fn finished<M: Maker>(
     requires prefixes { ArePrefixes scopes.now.texts prefixes.now }
     requires ready { IsReady scopes.now plan.now typed.schema }
     requires readable { All (All (IsReadable scopes.now.located)) typed.patterns }
-    ensures { MatchResult result (Finishes scopes.now plan.now typed) (OnBroken
+    ensures same { OnOk result (M.refusals maker.new ≡ M.refusals maker.old) }
+    ensures schema { MatchResult result (Finishes scopes.now plan.now typed) (OnBroken
         (Ends scopes.now plan.now typed
         (refusing (M.refusals maker.old) (M.refusals maker.new) (M.last_refused maker.new)))) }
 {
@@ -130,7 +131,8 @@ fn filled<'a, M: Maker>(
     requires whole { AllMeanWhole (schemas.basis scopes.now (is_on features.now) plan.now) }
     requires spaces { spaces.now ≡ map namespace_in scopes.now.texts }
     requires prefixes { ArePrefixes scopes.now.texts prefixes.now }
-    ensures { MatchResult result (schemas.IsSchemaOf scopes.now (is_on features.now) plan.now)
+    ensures same { OnOk result (M.refusals maker.new ≡ M.refusals maker.old) }
+    ensures schema { MatchResult result (schemas.IsSchemaOf scopes.now (is_on features.now) plan.now)
         (OnBroken (GivesNoSchema scopes.now (is_on features.now) plan.now
         (refusing (M.refusals maker.old) (M.refusals maker.new) (M.last_refused maker.new)))) }
 {
@@ -141,7 +143,7 @@ fn filled<'a, M: Maker>(
     finished(alloc, scopes, plan, prefixes, maker, typed)
 }
 
-/// The schema of a plan.
+/// The schema of a plan. Where there is one the maker has refused nothing.
 pub(crate) fn schema_of<'a, M: Maker>(
     alloc: Global,
     scopes: &Scopes<'a>,
@@ -154,7 +156,8 @@ pub(crate) fn schema_of<'a, M: Maker>(
     requires texts { KeepsTexts scopes.now.texts }
     requires types { KeepsTypes (holds scopes.now.texts (is_on features.now)) scopes.now.texts }
     requires plan { IsPlan scopes.now (is_on features.now) plan.now }
-    ensures { MatchResult result (schemas.IsSchemaOf scopes.now (is_on features.now) plan.now)
+    ensures same { OnOk result (M.refusals maker.new ≡ M.refusals maker.old) }
+    ensures schema { MatchResult result (schemas.IsSchemaOf scopes.now (is_on features.now) plan.now)
         (OnBroken (GivesNoSchema scopes.now (is_on features.now) plan.now
         (refusing (M.refusals maker.old) (M.refusals maker.new) (M.last_refused maker.new)))) }
 {

@@ -1,8 +1,11 @@
 //! Whether the defaults of typedefs are values of their types (RFC 7950 7.3.4). Each typedef is a leaf with
 //! its type and its default, in a schema of such leafs alone that has the modules of the texts.
 ghost use Rattle.std.specs.Prelude.{◌≡◌, ◌++◌, ◌∷◌, [], map, length, IfOk, OnOk, MatchResult};
+ghost use Rattle.std.specs.List.{All};
 ghost use Rattle.nc_yang_leafs.specs.Bases.{AllMeanWhole};
 ghost use Rattle.nc_yang_leafs.specs.Conditions.{holds};
+ghost use Rattle.nc_yang_leafs.specs.Patterns.{IsReadable, refusing};
+ghost use Rattle.nc_yang_defaults.specs.Typed.{IsTyped as IsReady};
 ghost use Rattle.nc_yang_meanings.specs.Faults.{KeepsTypes};
 ghost use Rattle.nc_yang_meanings.specs.Plans.{AreMeanings};
 ghost use Rattle.nc_yang_nodes.specs.FeaturesOn.{is_on};
@@ -11,15 +14,17 @@ ghost use Rattle.nc_yang_statements.specs.Stops.{OnBroken};
 ghost use Rattle.nc_yang_texts.specs.Rules.{KeepsTexts};
 ghost use Rattle.nc_yang.specs.Schemas as schemas;
 ghost use Rattle.nc_yang.specs.Typedefs as words;
-ghost use Rattle.nc_yang.specs.inner.Judged.{GetsReady, HasBare};
+ghost use Rattle.nc_yang.specs.inner.Judged.{BreaksPatterned, GetsReady, HasBare, IsSuited, KeepsPatterned};
 
 use crate::depth::keep_depth;
 use crate::schema::{keep_straight, with_types};
 use crate::typedefs::judged;
 use nc_names::{Bound, Many, Memory, QName, Text};
+use nc_patterns::Maker;
 use nc_schema::{Deny, Kind, Node, Schema};
 use nc_yang_data::{add_modules, all_prefixes, namespaces};
 use nc_yang_defaults::keep_defaults;
+use nc_yang_leafs::{Typed, with_patterns};
 use nc_yang_meanings::{Meanings, defaults_of};
 use nc_yang_nodes::{Features, Plan, Planned};
 use nc_yang_scopes::{Scopes, TextFault};
@@ -28,6 +33,13 @@ use std::alloc::Global;
 
 /// How many leafs a schema of typedefs has at most.
 const MOST_LEAFS: u32 = u32::MAX - 1;
+
+/// Typedefs as leafs, and a schema of these with their types, whose patterns are apart.
+#[derive(Drop)]
+pub(crate) struct Suited {
+    pub plan: Plan,
+    pub typed: Typed,
+}
 
 // A leaf that the statement of a number defines.
 fn leaf_by(alloc: Global, number: usize) -> Planned
@@ -134,8 +146,8 @@ fn tables_of<'a>(
     Ok(schema)
 }
 
-// Nothing where the leafs of a plan get types that keep all rules in which no pattern is asked.
-fn suited<'a>(
+// The schema of the leafs of a plan with their types, which keep all rules in which no pattern is asked.
+fn fitted<'a>(
     alloc: Global,
     scopes: &Scopes<'a>,
     features: &Features<'a>,
@@ -144,14 +156,14 @@ fn suited<'a>(
     spaces: &[Text],
     prefixes: &[Many<Bound>],
     untyped: Schema,
-) -> Result<(), Stop<TextFault>>
+) -> Result<Typed, Stop<TextFault>>
     requires meanings { AreMeanings (holds scopes.now.texts (is_on features.now)) scopes.now meanings.now }
     requires whole { AllMeanWhole (schemas.basis_of scopes.now (is_on features.now) plan.now untyped) }
     requires blank { (untyped.types ≡ []) × (untyped.patterns ≡ []) }
     requires spaces { spaces.now ≡ map namespace_in scopes.now.texts }
     requires prefixes { ArePrefixes scopes.now.texts prefixes.now }
     requires ready { GetsReady scopes.now (is_on features.now) plan.now untyped }
-    ensures { MatchResult result (λ _. HasBare scopes.now (is_on features.now) plan.now untyped)
+    ensures { MatchResult result (HasBare scopes.now (is_on features.now) plan.now untyped)
         (OnBroken (schemas.BreaksBare scopes.now (is_on features.now) plan.now untyped)) }
 {
     keep_straight(alloc, scopes, features, meanings, plan, prefixes, &untyped)?;
@@ -167,21 +179,22 @@ fn suited<'a>(
         defaults.as_slice(),
         prefixes,
         &typed.schema,
-    )
+    )?;
+    Ok(typed)
 }
 
-/// Nothing where the default of each typedef at the top of a module is a value of its type, whatever the
+/// The typedefs at the top of modules with a default, where each of these is a value of its type, whatever the
 /// patterns of the type; else BadArgument at the first `default` that is none, used or not (RFC 7950 7.3.4).
-pub(crate) fn keep_typedefs<'a>(
+pub(crate) fn suited_typedefs<'a>(
     alloc: Global,
     scopes: &Scopes<'a>,
     features: &Features<'a>,
     meanings: &Meanings,
-) -> Result<(), Stop<TextFault>>
+) -> Result<Suited, Stop<TextFault>>
     requires meanings { AreMeanings (holds scopes.now.texts (is_on features.now)) scopes.now meanings.now }
     requires texts { KeepsTexts scopes.now.texts }
     requires types { KeepsTypes (holds scopes.now.texts (is_on features.now)) scopes.now.texts }
-    ensures { MatchResult result (λ _. schemas.KeepsTypedefs scopes.now (is_on features.now))
+    ensures { MatchResult result (IsSuited scopes.now (is_on features.now))
         (OnBroken (schemas.BreaksTypedefs scopes.now (is_on features.now))) }
 {
     let found = judged(alloc, scopes, meanings)?;
@@ -190,7 +203,7 @@ pub(crate) fn keep_typedefs<'a>(
     let untyped = tables_of(alloc, scopes, features, numbers)?;
     let spaces = namespaces(alloc, scopes)?;
     let prefixes = all_prefixes(alloc, scopes, spaces.as_slice())?;
-    suited(
+    let typed = fitted(
         alloc,
         scopes,
         features,
@@ -199,5 +212,46 @@ pub(crate) fn keep_typedefs<'a>(
         spaces.as_slice(),
         prefixes.as_slice(),
         untyped,
-    )
+    )?;
+    Ok(Suited { plan, typed })
+}
+
+// Nothing where the defaults of such leafs suit the patterns of their types too.
+fn keep_patterned<M: Maker>(
+    alloc: Global,
+    scopes: &Scopes,
+    prefixes: &[Many<Bound>],
+    maker: &mut M,
+    suited: Suited,
+) -> Result<(), Stop<TextFault>>
+    requires prefixes { ArePrefixes scopes.now.texts prefixes.now }
+    requires readable { All (All (IsReadable scopes.now.located)) suited.typed.patterns }
+    requires ready { IsReady scopes.now suited.plan suited.typed.schema }
+    ensures { MatchResult result (λ _. KeepsPatterned scopes.now suited)
+        (OnBroken (BreaksPatterned scopes.now suited
+        (refusing (M.refusals maker.old) (M.refusals maker.new) (M.last_refused maker.new)))) }
+{
+    let Suited { plan, typed } = suited;
+    let defaults = defaults_of(alloc, scopes)?;
+    let schema = with_patterns(alloc, scopes, maker, typed)?;
+    keep_defaults(alloc, scopes, &plan, defaults.as_slice(), prefixes, &schema)
+}
+
+/// Nothing where each of those defaults is a value of its type with the patterns of this, too; else
+/// PatternRefused where the maker refuses one, or BadArgument at the first `default` that is none.
+pub(crate) fn keep_patterns<M: Maker>(
+    alloc: Global,
+    scopes: &Scopes,
+    maker: &mut M,
+    suited: Suited,
+) -> Result<(), Stop<TextFault>>
+    requires readable { All (All (IsReadable scopes.now.located)) suited.typed.patterns }
+    requires ready { IsReady scopes.now suited.plan suited.typed.schema }
+    ensures { MatchResult result (λ _. KeepsPatterned scopes.now suited)
+        (OnBroken (BreaksPatterned scopes.now suited
+        (refusing (M.refusals maker.old) (M.refusals maker.new) (M.last_refused maker.new)))) }
+{
+    let spaces = namespaces(alloc, scopes)?;
+    let prefixes = all_prefixes(alloc, scopes, spaces.as_slice())?;
+    keep_patterned(alloc, scopes, prefixes.as_slice(), maker, suited)
 }

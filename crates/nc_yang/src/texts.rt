@@ -20,7 +20,7 @@ ghost use Rattle.nc_yang.specs.inner.Stops.{IsInFile, OnFile};
 use crate::access::all_statements;
 use crate::features::given;
 use crate::schema::schema_of;
-use crate::suited::keep_typedefs;
+use crate::suited::{keep_patterns, suited_typedefs};
 use crate::supported::Supported;
 use nc_names::{Memory, Text};
 use nc_patterns::Maker;
@@ -74,9 +74,11 @@ fn compiled<'a, M: Maker>(
 {
     let supported = Supported { scopes, features };
     let meanings = meanings_of(alloc, scopes, &supported)?;
-    keep_typedefs(alloc, scopes, features, &meanings)?;
+    let suited = suited_typedefs(alloc, scopes, features, &meanings)?;
     let plan = plan_of(alloc, scopes, features)?;
-    schema_of(alloc, scopes, features, &meanings, &plan, maker)
+    let schema = schema_of(alloc, scopes, features, &meanings, &plan, maker)?;
+    keep_patterns(alloc, scopes, maker, suited)?;
+    Ok(schema)
 }
 
 // The schema of modules by their statements, of which the first are those of ietf-netconf-acm.

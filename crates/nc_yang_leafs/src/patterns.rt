@@ -193,6 +193,7 @@ fn set_all<M: Maker>(
     requires { All (All (definitions.IsReadable scopes.now.located)) patterns.now }
     ensures ok { OnOk result (words.HasSomePatterns scopes.now.located
         (assembly.both schema.old patterns.now) (length patterns.now) schema.new) }
+    ensures same { OnOk result (M.refusals maker.new ≡ M.refusals maker.old) }
     ensures fault { IfErr result (OnBroken (definitions.RefusesType scopes.now.located
         (assembly.both schema.old patterns.now)
         (definitions.refusing (M.refusals maker.old) (M.refusals maker.new) (M.last_refused maker.new)))) }
@@ -218,8 +219,8 @@ fn set_all<M: Maker>(
 /// A schema with the patterns of its string types, which are added in the order of the table of types, and of
 /// each type in the order of the text, those of the type on which it rests first (RFC 7950 9.4.5). The
 /// pattern of a statement is made once, however many types have it. It is a fault where the maker refuses
-/// one, and then the maker's count of refusals rose. Time and memory grow with the statements, the patterns
-/// of all types and what `regex` makes of the statements.
+/// one, and then the maker's count of refusals rose; where there is a schema that is as before. Time and
+/// memory grow with the statements, the patterns of all types and what `regex` makes of the statements.
 pub fn with_patterns<M: Maker>(
     alloc: Global,
     scopes: &Scopes,
@@ -228,6 +229,7 @@ pub fn with_patterns<M: Maker>(
 ) -> Result<Schema, Stop<TextFault>>
     requires { All (All (definitions.IsReadable scopes.now.located)) typed.patterns }
     ensures ok { IfOk result (definitions.HasPatterns scopes.now.located typed) }
+    ensures same { OnOk result (M.refusals maker.new ≡ M.refusals maker.old) }
     ensures fault { IfErr result (OnBroken (definitions.RefusesType scopes.now.located typed
         (definitions.refusing (M.refusals maker.old) (M.refusals maker.new) (M.last_refused maker.new)))) }
 {

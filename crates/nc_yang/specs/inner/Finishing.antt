@@ -5,10 +5,10 @@ use Rattle.nc_yang_scopes.specs.Scopes.{Scoping}
 use Rattle.nc_yang_scopes.specs.declared.naming.TextFault.{TextFault}
 use Rattle.nc_yang_nodes.specs.declared.planned.Plan.{Plan}
 use Rattle.nc_yang_leafs.specs.declared.bare.Typed.{Typed}
-use Rattle.nc_yang_leafs.specs.Patterns.{HasPatterns, Refusals, RefusesType}
+use Rattle.nc_yang_leafs.specs.Patterns.{HasPatterns, IsRefused, Refusals, RefusesType}
 use Rattle.nc_yang_nodes.specs.Roles.{FeatureTest}
 use Rattle.nc_yang.specs.Depths.{BreaksDepth, KeepsDepth}
-use Rattle.nc_yang.specs.Schemas.{BreaksPlan, BreaksSchema, RefusesPlan, RefusesSchema}
+use Rattle.nc_yang.specs.Schemas.{BreaksPlan, BreaksSchema, IsTypedOf, RefusesSchema, basis}
 use Rattle.nc_yang_defaults.specs.Defaults.{BreaksDefault, HasDefaults, KeepsDefaults}
 
 -- it has them
@@ -30,6 +30,13 @@ pub data Ends (scoping : Scoping) (plan : Plan) (typed : Typed) (refusals : Refu
       → KeepsDefaults scoping plan typed.schema → HasPatterns scoping.located typed patterned
       → BreaksDefault scoping plan patterned fault
       → Ends scoping plan typed refusals fault
+
+-- a maker refused a pattern in use where all rules are kept in which no pattern is asked
+pub record RefusesPlan (scoping : Scoping) (on : FeatureTest) (plan : Plan) (refusals : Refusals)
+    (found : TextFault) : Type 0 where
+  pub typed : Tables
+  pub is : IsTypedOf scoping on plan typed
+  pub refused : IsRefused (basis scoping on plan) refusals found
 
 -- data nodes of a plan give no schema: they break a rule, or a maker refused a pattern
 abbrev pub GivesNoSchema : Scoping → FeatureTest → Plan → Refusals → TextFault → Type 0

@@ -1,5 +1,5 @@
 -- Whether a typedef is judged by its default, and what comes of those that are.
-use Rattle.std.specs.Prelude.{◌≡◌, ℕ, Bool, false, not, List, Option, Some, slice_get}
+use Rattle.std.specs.Prelude.{◌≡◌, ℕ, Bool, true, false, not, List, Option, Some, slice_get}
 use Rattle.std.specs.Option.{option_map_or}
 use Rattle.nc_schema.specs.Tables.{Tables}
 use Rattle.nc_yang_statements.specs.declared.keyword.Keyword.TheVariants.{Default}
@@ -15,11 +15,17 @@ use Rattle.nc_yang_meanings.specs.declared.planned.Planned.{Planned}
 use Rattle.nc_yang_meanings.specs.declared.planned.Planned.TheVariants.{Bases, Finished, Leafref, Members}
 use Rattle.nc_yang_nodes.specs.Roles.{FeatureTest}
 use Rattle.nc_yang_nodes.specs.declared.planned.Plan.{Plan}
-use Rattle.nc_yang_leafs.specs.Patterns.{AreTypings}
+use Rattle.nc_yang_leafs.specs.Patterns.{AreTypings, HasPatterns, Refusals, RefusesType}
 use Rattle.nc_yang_leafs.specs.declared.bare.Typed.{Typed}
 use Rattle.nc_yang_defaults.specs.Typed.{IsTyped as IsReady}
-use Rattle.nc_yang.specs.Schemas.{AreNames, IsBareOf, basis_of}
-use Rattle.nc_yang.specs.Typedefs.{HasPlainType, IsJudged}
+use Rattle.nc_yang_circles.specs.Circles.{HasNoCircle}
+use Rattle.nc_yang_leafs.specs.Conditions.{holds}
+use Rattle.nc_yang_defaults.specs.Defaults.{BreaksDefault, KeepsDefaults}
+use Rattle.nc_yang_scopes.specs.declared.naming.TextFault.{TextFault}
+use Rattle.nc_yang.specs.declared.suited.Suited.{Suited}
+use Rattle.nc_yang.specs.Depths.{KeepsDepth}
+use Rattle.nc_yang.specs.Schemas.{AreNames, basis_of}
+use Rattle.nc_yang.specs.Typedefs.{AreJudged, HasPlainType, IsJudged, typedef_plan, typedef_tables}
 
 -- a plan is of such a type
 abbrev pub is_plain_plan : Planned → Bool
@@ -56,11 +62,36 @@ TellsJudged scoping meanings number result =
     ≡ Some l → Tells result (IsJudged on scoping.texts l)
 
 -- data nodes get types that keep all rules in which no pattern is asked
-abbrev pub HasBare : Scoping → FeatureTest → Plan → Tables → Type 0
-HasBare scoping on plan given = (typed : Tables) × IsBareOf scoping on plan given typed
+pub record HasBare (scoping : Scoping) (on : FeatureTest) (plan : Plan) (given : Tables)
+    (typed : Typed) : Type 0 where
+  pub straight : HasNoCircle (basis_of scoping on plan given)
+  pub typings : AreTypings (AreNames scoping on) (basis_of scoping on plan given) typed
+  pub shallow : KeepsDepth scoping plan typed.schema
+  pub defaults : KeepsDefaults scoping plan typed.schema
 
 -- with types they are ready for defaults
 abbrev pub GetsReady : Scoping → FeatureTest → Plan → Tables → Type 0
 GetsReady scoping on plan given =
     (typed : Typed) → AreTypings (AreNames scoping on) (basis_of scoping on plan given) typed
     → IsReady scoping plan typed.schema
+
+-- the typedefs that are judged, as leafs with types without patterns, which their defaults suit
+pub record IsSuited (scoping : Scoping) (on : FeatureTest) (suited : Suited) : Type 0 where
+  pub numbers : List ℕ
+  pub are : AreJudged (holds scoping.texts on) scoping numbers
+  pub plan_is : suited.plan ≡ typedef_plan numbers
+  pub bare : HasBare scoping on suited.plan (typedef_tables scoping on numbers) suited.typed
+  pub ready : IsReady scoping suited.plan suited.typed.schema
+
+-- they suit them with their patterns too
+pub record KeepsPatterned (scoping : Scoping) (suited : Suited) : Type 0 where
+  pub tables : Tables
+  pub has : HasPatterns scoping.located suited.typed tables
+  pub defaults : KeepsDefaults scoping suited.plan tables
+
+-- or a maker refused one of these, or one of the defaults does not
+pub data BreaksPatterned (scoping : Scoping) (suited : Suited) (refusals : Refusals) : TextFault → Type 0 where
+  refused : (fault : TextFault) → RefusesType scoping.located suited.typed refusals fault
+      → BreaksPatterned scoping suited refusals fault
+  unsuited : (fault : TextFault) (tables : Tables) → HasPatterns scoping.located suited.typed tables
+      → BreaksDefault scoping suited.plan tables fault → BreaksPatterned scoping suited refusals fault

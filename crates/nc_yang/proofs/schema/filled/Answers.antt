@@ -19,8 +19,8 @@ pub with_types-requires-clause-blank : goal.with_types-requires-clause-blank
 with_types-requires-clause-blank g c =
     no_types c.args.scopes.now (is_on c.args.features.now) c.args.plan.now c.args.untyped c.requires.untyped
 
-pub returns-in_err-keep_straight : goal.returns-in_err-keep_straight
-returns-in_err-keep_straight g c =
+pub returns-in_err-keep_straight-clause-schema : goal.returns-in_err-keep_straight-clause-schema
+returns-in_err-keep_straight-clause-schema g c =
     let p = err_from_is_err_and c.from_residual.result c.from_residual.ensures.1 in
     rw (p.1, p.2)
     (circle_stops c.args.scopes.now (is_on c.args.features.now) c.args.plan.now
@@ -29,8 +29,8 @@ returns-in_err-keep_straight g c =
     (subst (λ (t : Tables). OnBroken (BreaksCircle (basis_of c.args.scopes.now (is_on c.args.features.now) c.args.plan.now t)) c.in_err-keep_straight.field-0.0)
     c.requires.untyped c.in_err-keep_straight.ensures))
 
-pub returns-in_err-typed : goal.returns-in_err-typed
-returns-in_err-typed g c =
+pub returns-in_err-typed-clause-schema : goal.returns-in_err-typed-clause-schema
+returns-in_err-typed-clause-schema g c =
     let p = err_from_is_err_and c.from_residual-in_err-typed.result c.from_residual-in_err-typed.ensures.1 in
     rw (p.1, p.2)
     (leafref_stops c.args.scopes.now (is_on c.args.features.now) c.args.plan.now
@@ -48,11 +48,11 @@ finished-requires-clause-ready g c =
 pub finished-requires-clause-readable : goal.finished-requires-clause-readable
 finished-requires-clause-readable g c = c.in_ok-typed.ensures.readable
 
-pub returns : goal.returns
-returns g c =
+pub returns-clause-schema : goal.returns-clause-schema
+returns-clause-schema g c =
     finishes c.args.scopes.now (is_on c.args.features.now) c.args.plan.now c.in_ok-typed.typed
     (refusing (g.M.Maker.refusals c.args.maker.now) (g.M.Maker.refusals c.finished.new.maker) (g.M.Maker.last_refused c.finished.new.maker)) c.requires.kept
     (subst (λ (t : Tables). HasNoCircle (basis_of c.args.scopes.now (is_on c.args.features.now) c.args.plan.now t)) c.requires.untyped c.in_ok-keep_straight.ensures)
     (subst (λ (t : Tables). AreTypings (AreNames c.args.scopes.now (is_on c.args.features.now)) (basis_of c.args.scopes.now (is_on c.args.features.now) c.args.plan.now t) c.in_ok-typed.typed)
     c.requires.untyped c.in_ok-typed.ensures)
-    c.finished.result c.finished.ensures
+    c.finished.result c.finished.ensures.schema

@@ -4,10 +4,10 @@ use Rattle.std.specs.Prelude.{not, Option, Some, None, Result, Ok, Err, IfOk, Is
 use Rattle.std.specs.Option.{option_map_or}
 use Rattle.nc_names.specs.declared.memory.Memory.{Memory}
 use Rattle.nc_yang_words.specs.declared.statement.Statement.{Statement}
-use Rattle.nc_yang_statements.specs.declared.keyword.Keyword.TheVariants.{Default, TypeName, Typedef}
+use Rattle.nc_yang_statements.specs.declared.keyword.Keyword.TheVariants.{Default, TypeName}
 use Rattle.nc_yang_statements.specs.Statements.{below, has}
-use Rattle.nc_yang_scopes.specs.Numbers.{AreNumbers, IsNumber, OnNumber}
-use Rattle.nc_yang_scopes.specs.Parts.{part_of, parts_of}
+use Rattle.nc_yang_scopes.specs.Numbers.{AreNumbers, IsNumber}
+use Rattle.nc_yang_scopes.specs.Parts.{part_of}
 use Rattle.nc_yang_scopes.specs.Scopes.{Located, Scoping, root}
 use Rattle.nc_yang_scopes.proofs.Lists.{past_end}
 use Rattle.nc_yang_identities.specs.inner.Marks.{Tells}
@@ -20,12 +20,12 @@ use Rattle.nc_yang_meanings.specs.declared.planned.Meanings.{Meanings}
 use Rattle.nc_yang_meanings.specs.declared.planned.Planned.{Planned}
 use Rattle.nc_yang_meanings.specs.declared.planned.Planned.TheVariants.{Bases, Finished, Leafref, Members}
 use Rattle.nc_yang_meanings.proofs.MeaningLemmas.{means_one}
-use Rattle.nc_yang.specs.Typedefs.{HasPlainType, IsJudged, is_plain, typedefs_in}
-use Rattle.nc_yang.specs.inner.Judged.{has_default, is_plain_plan, means_plain, plain_by}
+use Rattle.nc_yang.specs.Typedefs.{HasPlainType, IsJudged, is_plain, typedefs_in, typedefs_within}
+use Rattle.nc_yang.specs.inner.Judged.{AddsTypedefs, has_default, is_plain_plan, means_plain, plain_by}
 
 -- ---- the typedefs of the module of a text
 pub typedefs_there : (scoping : Scoping) (text n : ℕ) → text < length scoping.texts → slice_get scoping.located n ≡ root scoping.texts text → (r : Result (List ℕ) Memory) →
-    IfOk r (λ it. OnNumber scoping n (λ l. AreNumbers scoping.located it (parts_of Typedef l))) → IfOk r (λ it. AreNumbers scoping.located it (typedefs_in scoping.texts text))
+    IfOk r (AddsTypedefs scoping 64 n []) → IfOk r (λ it. AreNumbers scoping.located it (typedefs_in scoping.texts text))
 typedefs_there scoping text n within at (Err e) h = tt
 typedefs_there scoping text n within at (Ok it) h = by (slice_get scoping.texts text) refl
   where
@@ -33,7 +33,9 @@ typedefs_there scoping text n within at (Ok it) h = by (slice_get scoping.texts 
     by None e = absurd (let past = past_end scoping.texts text e in omega arith)
     by (Some s) e =
         let there : root scoping.texts text ≡ Some (record { statement = s; place = record { text = text; blocks = [] } }) = ap (option_map (λ z. record { statement = z; place = record { text = text; blocks = [] } })) e in
-        subst (λ o. AreNumbers scoping.located it (option_map_or (parts_of Typedef) o [])) (sym there) (h (record { statement = s; place = record { text = text; blocks = [] } }) (at ∙ there))
+        let a = h (record { statement = s; place = record { text = text; blocks = [] } }) (at ∙ there) in
+        subst (λ o. AreNumbers scoping.located it (option_map_or (typedefs_within 64) o [])) (sym there)
+        (subst (λ ns. AreNumbers scoping.located ns (typedefs_within 64 (record { statement = s; place = record { text = text; blocks = [] } }))) (sym a.1) a.2)
 
 -- ---- a type whose values do not refer to other data
 abbrev plain_plan : Option Planned → Bool

@@ -26,6 +26,7 @@ pub mod SameDepths
 pub mod SamePlans
 pub mod Never
 pub mod SameTrees
+pub mod TypedefNumbers
 pub mod TypedefLemmas
 pub mod JudgedLemmas
 pub mod SuitedLemmas

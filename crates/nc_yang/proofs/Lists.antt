@@ -27,6 +27,15 @@ pub flat_origin : {A B : Type 0} (f : A → List B) (xs : List A) (y : B) → Co
 flat_origin f [] y h = absurd (contains_none y h)
 flat_origin f (x ∷ xs) y h = elim (Contains-append_cases (f x) (flat_map f xs) y h) [ inl here ↦ (x, here) | inr later ↦ flat_origin f xs y later ]
 
+-- and where that stands
+pub flat_where : {A B : Type 0} (f : A → List B) (xs : List A) (y : B) → Contains (flat_map f xs) y → (i : ℕ) × (x : A) × (slice_get xs i ≡ Some x) × (Contains (f x) y)
+flat_where f [] y h = absurd (contains_none y h)
+flat_where f (x ∷ xs) y h =
+    elim (Contains-append_cases (f x) (flat_map f xs) y h) [
+      | inl here ↦ (0, x, refl, here)
+      | inr later ↦ let r = flat_where f xs y later in (suc r.0, r.1, r.2, r.3)
+    ]
+
 -- what is left by a test passes it
 pub contained_passes : {A : Type 0} (test : A → Bool) (xs : List A) (x : A) → Contains (filter test xs) x → test x ≡ true
 contained_passes test xs x h = subst (λ z. test z ≡ true) h.2 (filter_passes test xs h.0 x h.1)

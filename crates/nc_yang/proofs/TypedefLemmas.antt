@@ -1,8 +1,9 @@
 -- The typedefs that are judged by their defaults.
-use Rattle.std.proofs.Common.{◌≡◌, ℕ, zero, suc, Bool, true, false, List, [], ◌∷◌, length, map, refl, sym, ap, subst, ◌∙◌}
+use Rattle.std.proofs.Common.{inl, inr, ◌≡◌, ℕ, zero, suc, Bool, true, false, cond, List, [], ◌∷◌, length, map, refl, sym, ap, subst, ◌∙◌}
 use Rattle.std.specs.Prelude.{Option, Some, None, Contains, slice_get, option_map, option_and_then}
-use Rattle.std.specs.List.{range_with_len}
+use Rattle.std.specs.List.{flat_map, range_with_len}
 use Rattle.std.specs.Option.{option_map_or}
+use Rattle.std.proofs.lemmas.List.Elements.{Contains-append_cases}
 use Rattle.std.proofs.lemmas.Option.{slice_get-map}
 use Rattle.nc_schema.specs.Tables.{Tables}
 use Rattle.nc_schema.specs.declared.node.Deny.TheVariants.{Nothing as DenyNothing}
@@ -14,9 +15,9 @@ use Rattle.nc_yang_statements.specs.Statements.{below, kind, part}
 use Rattle.nc_yang_statements.proofs.Tags.{same_keyword}
 use Rattle.nc_yang_order.proofs.Lists.{contains_none}
 use Rattle.nc_yang_scopes.specs.Names.{itself}
-use Rattle.nc_yang_scopes.specs.Parts.{part_of, parts_of}
+use Rattle.nc_yang_scopes.specs.Parts.{in_it, part_of}
 use Rattle.nc_yang_scopes.specs.Scopes.{Located, Scoping, root}
-use Rattle.nc_yang_loops.proofs.Lists.{contains_first, contains_later}
+use Rattle.nc_yang_loops.proofs.Lists.{contains_cases, contains_first, contains_later}
 use Rattle.nc_yang_nodes.specs.Alike.{AreAlike, SeenNode, seen_node}
 use Rattle.nc_yang_nodes.specs.Plans.{statement_of}
 use Rattle.nc_yang_nodes.specs.Roles.{FeatureTest}
@@ -28,10 +29,10 @@ use Rattle.nc_yang_data.specs.Modules.{modules_from}
 use Rattle.nc_yang_meanings.specs.Faults.{KeepsTypes}
 use Rattle.nc_yang_meanings.specs.Wholes.{MeansWhole}
 use Rattle.nc_yang_leafs.specs.Bases.{AllMeanWhole, basis_on}
-use Rattle.nc_yang.specs.Typedefs.{AreJudged, IsJudged, blank_leaf, blank_leafs, leaf_by, typedef_plan, typedef_tables, typedefs, typedefs_in}
-use Rattle.nc_yang.proofs.Lists.{find_there, flat_origin, mapped}
-use Rattle.nc_yang.proofs.Looked.{Looked, looked_in, module_open, put, root_of}
-use Rattle.nc_yang.proofs.Meaning.{all_mean, part_there}
+use Rattle.nc_yang.specs.Typedefs.{AreJudged, IsJudged, blank_leaf, blank_leafs, leaf_by, opened, own_typedef, typedef_plan, typedef_tables, typedefs, typedefs_in, typedefs_within}
+use Rattle.nc_yang.proofs.Lists.{find_there, flat_origin, flat_where, mapped}
+use Rattle.nc_yang.proofs.Looked.{Looked, looked_in, put}
+use Rattle.nc_yang.proofs.Meaning.{all_mean}
 
 -- what is picked passes, and stood there
 pub picked_at : {A : Type 0} (P : A → Type 0) (xs found : List A) → Picks P xs found → (i : ℕ) (x : A) → slice_get found i ≡ Some x → P x × Contains xs x
@@ -66,19 +67,44 @@ tables_same scoping on ns ms same =
 
 -- ---- their types
 module _ (on : ℕ → List ℕ → Bool) (texts : List Statement) (keeps : KeepsTexts texts) (types : KeepsTypes on texts) where
-  typedef_looked : (l : Located) → Contains (typedefs texts) l → Looked texts l × (is_same_keyword Typedef (kind l.statement) ≡ true)
+  abbrev IsTypedefHere : Located → Type 0
+  IsTypedefHere l = Looked texts l × (is_same_keyword Typedef (kind l.statement) ≡ true)
+
+  -- what is a typedef by itself
+  own_looked : (k : Located) → Looked texts k → (l : Located) → Contains (own_typedef k) l → IsTypedefHere l
+  own_looked k looked l h = by (is_same_keyword Typedef (kind k.statement)) refl h
+    where
+      by : (b : Bool) → is_same_keyword Typedef (kind k.statement) ≡ b → Contains (cond b (k ∷ []) []) l → IsTypedefHere l
+      by true e among = elim (contains_cases k [] l among) [ inl same ↦ subst IsTypedefHere same (looked, e) | inr none ↦ absurd (contains_none l none) ]
+      by false e among = absurd (contains_none l among)
+
+  -- what stands directly in a statement that is looked at is looked at
+  opened_looked : (k : Located) → Looked texts k → (i : ℕ) (c : Located) → slice_get (opened k) i ≡ Some c → Looked texts c
+  opened_looked k looked i c at = by (is_closed (kind k.statement)) refl at
+    where
+      by : (b : Bool) → is_closed (kind k.statement) ≡ b → slice_get (cond b [] (map (in_it k) (below k.statement))) i ≡ Some c → Looked texts c
+      by true e f = absurd (cc)
+      by false e f =
+          let m = mapped (in_it k) (slice_get (below k.statement) i) c (sym (slice_get-map (in_it k) (below k.statement) i) ∙ f) in
+          subst (Looked texts) m.2 (looked_in texts k i m.0 looked e m.1)
+
+  within_looked : (levels : ℕ) (k : Located) → Looked texts k → (l : Located) → Contains (typedefs_within levels k) l → IsTypedefHere l
+  unfolding typedefs_within
+  within_looked zero k looked l h = own_looked k looked l h
+  within_looked (suc levels) k looked l h =
+      elim (Contains-append_cases (own_typedef k) (flat_map (typedefs_within levels) (opened k)) l h) [
+        | inl own ↦ own_looked k looked l own
+        | inr deeper ↦ let f = flat_where (typedefs_within levels) (opened k) l deeper in within_looked levels f.1 (opened_looked k looked f.0 f.1 f.2) l f.3
+      ]
+
+  typedef_looked : (l : Located) → Contains (typedefs texts) l → IsTypedefHere l
   typedef_looked l h =
       let o = flat_origin (typedefs_in texts) (range_with_len 0 (length texts)) l h in
       by o.0 (root texts o.0) refl o.1
     where
-      by : (text : ℕ) (o : Option Located) → root texts text ≡ o → Contains (option_map_or (parts_of Typedef) o []) l → Looked texts l × (is_same_keyword Typedef (kind l.statement) ≡ true)
+      by : (text : ℕ) (o : Option Located) → root texts text ≡ o → Contains (option_map_or (typedefs_within 64) o []) l → IsTypedefHere l
       by text None is among = absurd (contains_none l among)
-      by text (Some top) is among =
-          let r = root_of texts text top is in
-          let p = part_there top l Typedef among in
-          let is_open : is_closed (kind top.statement) ≡ false = subst (λ (z : Located). is_closed (kind z.statement) ≡ false) r.2 (module_open texts keeps text r.0 r.1) in
-          let k : Looked texts (put top p.1) = looked_in texts top p.0 p.1 (record { text = text; top = top; is_top = is; stands = itself top }) is_open p.2 in
-          (subst (Looked texts) p.4 k, ap (λ (z : Located). is_same_keyword Typedef (kind z.statement)) (sym p.4) ∙ p.3)
+      by text (Some top) is among = within_looked 64 top (record { text = text; top = top; is_top = is; stands = itself top }) l among
 
   type_whole : (l t : Located) → Contains (typedefs texts) l → part_of TypeName l ≡ Some t → MeansWhole on texts t
   type_whole l t h is =

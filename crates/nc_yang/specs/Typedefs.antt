@@ -1,7 +1,7 @@
--- Typedefs with a default (RFC 7950 7.3.4), each judged as a leaf of its type with that default, used or not: those at
--- the top of a module, of types whose values do not refer to other data. Where a leafref or an instance-identifier leads
--- is known at a leaf.
-use Rattle.std.specs.Prelude.{◌≡◌, ℕ, Bool, true, false, not, List, [], length, map, None, Some}
+-- Typedefs with a default (RFC 7950 7.3.4), each judged as a leaf of its type with that default, used or not, wherever
+-- in a module it stands: those of types whose values do not refer to other data. Where a leafref or an
+-- instance-identifier leads is known at a leaf.
+use Rattle.std.specs.Prelude.{◌≡◌, ℕ, zero, suc, Bool, true, false, not, if◌then◌else◌, List, [], ◌∷◌, ◌++◌, length, map, None, Some}
 use Rattle.std.specs.List.{flat_map, range_with_len}
 use Rattle.std.specs.Option.{option_map_or}
 use Rattle.nc_schema.specs.Tables.{Tables}
@@ -10,8 +10,9 @@ use Rattle.nc_schema.specs.declared.node.Kind.TheVariants.{Leaf}
 use Rattle.nc_schema.specs.declared.node.Node.{Node}
 use Rattle.nc_yang_words.specs.declared.statement.Statement.{Statement}
 use Rattle.nc_yang_statements.specs.declared.keyword.Keyword.TheVariants.{Default, TypeName, Typedef}
-use Rattle.nc_yang_statements.specs.Statements.{below, has}
-use Rattle.nc_yang_scopes.specs.Parts.{part_of, parts_of}
+use Rattle.nc_yang_statements.specs.Keywords.{is_closed, is_same_keyword}
+use Rattle.nc_yang_statements.specs.Statements.{below, has, kind}
+use Rattle.nc_yang_scopes.specs.Parts.{in_it, part_of}
 use Rattle.nc_yang_scopes.specs.Scopes.{Located, Scoping, root}
 use Rattle.nc_yang_identities.specs.Picks.{PicksNumbers}
 use Rattle.nc_yang_meanings.specs.Faults.{is_reference}
@@ -21,9 +22,22 @@ use Rattle.nc_yang_nodes.specs.declared.planned.Plan.{Plan}
 use Rattle.nc_yang_nodes.specs.declared.planned.Planned.{Planned}
 use Rattle.nc_yang_data.specs.Modules.{modules_from}
 
--- the typedefs at the top of the module of a text, in their order
+-- a statement, where it is a typedef
+abbrev pub own_typedef : Located → List Located
+own_typedef l = if is_same_keyword Typedef (kind l.statement) then l ∷ [] else []
+
+-- the statements directly in another, unless that is passed over
+abbrev pub opened : Located → List Located
+opened l = if is_closed (kind l.statement) then [] else map (in_it l) (below l.statement)
+
+-- the typedefs that a statement is or has in it so many levels deep, in the order of the text
+unfoldable pub typedefs_within : (levels : ℕ) → Located → List Located
+typedefs_within zero l = own_typedef l
+typedefs_within (suc levels) l = own_typedef l ++ flat_map (typedefs_within levels) (opened l)
+
+-- those in the module of a text, where no statement stands deeper than that
 abbrev pub typedefs_in : List Statement → (text : ℕ) → List Located
-typedefs_in texts text = option_map_or (parts_of Typedef) (root texts text) []
+typedefs_in texts text = option_map_or (typedefs_within 64) (root texts text) []
 
 -- those of all modules, in the order of the texts
 abbrev pub typedefs : List Statement → List Located

@@ -183,7 +183,7 @@ fn fitted<'a>(
     Ok(typed)
 }
 
-/// The typedefs at the top of modules with a default, where each of these is a value of its type, whatever the
+/// The typedefs of modules with a default, where each of these is a value of its type, whatever the
 /// patterns of the type; else BadArgument at the first `default` that is none, used or not (RFC 7950 7.3.4).
 pub(crate) fn suited_typedefs<'a>(
     alloc: Global,

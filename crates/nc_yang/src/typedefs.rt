@@ -3,23 +3,88 @@ ghost use Rattle.std.specs.Prelude.{◌≡◌, ◌<◌, ◌++◌, ◌∷◌, [],
 ghost use Rattle.nc_yang_meanings.specs.Faults.{is_reference};
 ghost use Rattle.nc_yang_meanings.specs.Plans.{AreMeanings};
 ghost use Rattle.nc_yang_scopes.specs.Numbers.{AreNumbers};
+ghost use Rattle.nc_yang_scopes.specs.inner.Naming.{HasNumber};
 ghost use Rattle.nc_yang.specs.Typedefs as words;
 ghost use Rattle.nc_yang.specs.inner.Judged as judging;
 
 use nc_names::{Many, Memory};
 use nc_schema::ValueType;
 use nc_yang_meanings::{Finding, Meanings, Planned};
-use nc_yang_scopes::{Scopes, part_of, parts_of};
-use nc_yang_statements::{Keyword, has};
+use nc_yang_scopes::{Scopes, part_of};
+use nc_yang_statements::{Keyword, has, is_closed, is_same_keyword, kind};
+use nc_yang_words::Statement;
 use std::alloc::Global;
 
-// The typedefs at the top of the module of a text.
+/// How many levels deep statements stand in that of a module at most.
+const MOST_LEVELS: usize = 64;
+
+// Adds a number where it is to be kept.
+fn keep_if(kept: &mut Many<usize>, number: usize, keeps: bool) -> Result<(), Memory>
+    ensures { OnOk result (kept.new ≡ kept.old ++ (if keeps then number ∷ [] else [])) }
+{
+    if keeps {
+        kept.push(number)?;
+    }
+    Ok(())
+}
+
+// Whether nothing so many levels deeper in a statement is asked.
+#[tactic(auto, using(crate::proofs::TypedefNumbers::asks_more))]
+fn is_end(levels: usize, statement: &Statement) -> bool
+    ensures { result ≡ judging.is_end levels statement.now }
+{
+    if levels == 0 {
+        return true;
+    }
+    is_closed(kind(statement))
+}
+
+// Adds the number of a statement where it is a typedef, and those of the typedefs in it, so many levels deep.
+#[tactic(auto, using(nc_yang_scopes::proofs::Misnaming::child_number))]
+fn push<'a>(
+    scopes: &Scopes<'a>,
+    levels: usize,
+    number: usize,
+    statement: &'a Statement,
+    numbers: &mut Many<usize>,
+) -> Result<(), Memory>
+    requires { HasNumber scopes.now number statement.now }
+    ensures { OnOk result (judging.AddsTypedefs scopes.now levels number numbers.old numbers.new) }
+{
+    keep_if(
+        numbers,
+        number,
+        is_same_keyword(Keyword::Typedef, kind(statement)),
+    )?;
+    if is_end(levels, statement) {
+        return Ok(());
+    }
+    let among = statement.below.as_slice();
+    for (place, below) in among.iter().enumerate() {
+        let child = scopes.child(number, place);
+        push(scopes, levels - 1, child, below, numbers)?;
+    }
+    Ok(())
+}
+
+// The typedefs that the statement of a number is or has in it.
+fn typedefs_at(alloc: Global, scopes: &Scopes, number: usize) -> Result<Many<usize>, Memory>
+    ensures { IfOk result (judging.AddsTypedefs scopes.now 64 number []) }
+{
+    let mut numbers = Many::new(alloc);
+    if let Some(statement) = scopes.statement(number) {
+        push(scopes, MOST_LEVELS, number, statement, &mut numbers)?;
+    }
+    Ok(numbers)
+}
+
+// The typedefs in the module of a text.
 fn typedefs_in(alloc: Global, scopes: &Scopes, text: usize) -> Result<Many<usize>, Memory>
     requires { text < length scopes.now.texts }
     ensures { IfOk result (λ it. AreNumbers scopes.now.located it (words.typedefs_in scopes.now.texts text)) }
 {
     match scopes.root(text) {
-        Some(root) => parts_of(alloc, scopes, root, Keyword::Typedef),
+        Some(root) => typedefs_at(alloc, scopes, root),
         None => Ok(Many::new(alloc)),
     }
 }
@@ -100,18 +165,8 @@ fn is_judged(scopes: &Scopes, meanings: &Meanings, number: usize) -> bool
     has_plain_type(scopes, meanings, number)
 }
 
-// Adds a number where it is to be kept.
-fn keep_if(kept: &mut Many<usize>, number: usize, keeps: bool) -> Result<(), Memory>
-    ensures { OnOk result (kept.new ≡ kept.old ++ (if keeps then number ∷ [] else [])) }
-{
-    if keeps {
-        kept.push(number)?;
-    }
-    Ok(())
-}
-
-/// The numbers of the typedefs at the top of modules that have a default and a type whose values do not refer
-/// to other data.
+/// The numbers of the typedefs in modules that have a default and a type whose values do not refer to other
+/// data.
 pub(crate) fn judged(
     alloc: Global,
     scopes: &Scopes,

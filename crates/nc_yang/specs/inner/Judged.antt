@@ -1,9 +1,12 @@
 -- Whether a typedef is judged by its default, and what comes of those that are.
-use Rattle.std.specs.Prelude.{◌≡◌, ℕ, Bool, true, false, not, List, Option, Some, slice_get}
+use Rattle.std.specs.Prelude.{◌≡◌, ℕ, zero, suc, Bool, true, false, not, List, ◌++◌, Option, Some, slice_get}
 use Rattle.std.specs.Option.{option_map_or}
 use Rattle.nc_schema.specs.Tables.{Tables}
 use Rattle.nc_yang_statements.specs.declared.keyword.Keyword.TheVariants.{Default}
-use Rattle.nc_yang_statements.specs.Statements.{below, has}
+use Rattle.nc_yang_words.specs.declared.statement.Statement.{Statement}
+use Rattle.nc_yang_statements.specs.Keywords.{is_closed}
+use Rattle.nc_yang_statements.specs.Statements.{below, has, kind}
+use Rattle.nc_yang_scopes.specs.Numbers.{AreNumbers, OnNumber}
 use Rattle.nc_yang_scopes.specs.Scopes.{Located, Scoping}
 use Rattle.nc_yang_identities.specs.inner.Marks.{Tells}
 use Rattle.nc_yang_meanings.specs.Faults.{is_reference}
@@ -25,7 +28,7 @@ use Rattle.nc_yang_scopes.specs.declared.naming.TextFault.{TextFault}
 use Rattle.nc_yang.specs.declared.suited.Suited.{Suited}
 use Rattle.nc_yang.specs.Depths.{KeepsDepth}
 use Rattle.nc_yang.specs.Schemas.{AreNames, basis_of}
-use Rattle.nc_yang.specs.Typedefs.{AreJudged, HasPlainType, IsJudged, typedef_plan, typedef_tables}
+use Rattle.nc_yang.specs.Typedefs.{AreJudged, HasPlainType, IsJudged, typedef_plan, typedef_tables, typedefs_within}
 
 -- a plan is of such a type
 abbrev pub is_plain_plan : Planned → Bool
@@ -43,6 +46,20 @@ plain_by plans finding = false
 -- and what was found of that of a number
 abbrev pub means_plain : Meanings → ℕ → Bool
 means_plain meanings number = plain_by meanings.plans (slice_get meanings.findings number)
+
+-- nothing so many levels deeper in a statement is asked
+abbrev pub is_end : (levels : ℕ) → Statement → Bool
+is_end zero s = true
+is_end (suc levels) s = is_closed (kind s)
+
+-- numbers were added: those of these statements
+abbrev pub Adds : List Located → List Located → (old new : List ℕ) → Type 0
+Adds located ls old new = (more : List ℕ) × (new ≡ old ++ more) × AreNumbers located more ls
+
+-- those of the typedefs that the statement of a number is or has in it
+abbrev pub AddsTypedefs : Scoping → (levels number : ℕ) → (old new : List ℕ) → Type 0
+AddsTypedefs scoping levels number old new =
+    OnNumber scoping number (λ l. Adds scoping.located (typedefs_within levels l) old new)
 
 -- the statement of a number has a `default`
 abbrev pub has_default : Scoping → ℕ → Bool

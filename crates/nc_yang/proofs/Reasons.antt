@@ -39,7 +39,8 @@ of_parts on texts _ _ (over_base l base n fault is means here) = All-contains Of
 of_one : (on : ℕ → List ℕ → Bool) (texts : List Statement) (l : Located) (fault : Fault) → BreaksOne on texts l fault → OfRule fault
 of_one on texts l fault (inl breaks) = of_parts on texts l fault breaks
 of_one on texts l fault (inr (inl refers)) = subst OfRule (sym refers.at) refl
-of_one on texts l fault (inr (inr defaults)) = subst OfRule (sym defaults.at) refl
+of_one on texts l fault (inr (inr (inl defaults))) = subst OfRule (sym defaults.at) refl
+of_one on texts l fault (inr (inr (inr taken))) = subst OfRule (sym taken.at) refl
 
 -- a value that is read through too many types
 of_depth : (b : Bool) (o : Option Located) (found : TextFault) → cond b (option_map too_deep_at o) None ≡ Some found → OfTextRule found

@@ -15,7 +15,7 @@ use Rattle.nc_yang_scopes.proofs.BookLemmas.{root_past}
 use Rattle.nc_yang_meanings.specs.Faults.{BreaksOne, BreaksType, BreaksTypes, KeepsTypes}
 use Rattle.nc_yang_meanings.specs.Meanings.{Breaks}
 use Rattle.nc_yang_meanings.specs.Plans.{AreMeanings, IsFinding}
-use Rattle.nc_yang_meanings.specs.inner.Judging.{Judges, JudgesDefaults, JudgesMembers, JudgesText, fault_in}
+use Rattle.nc_yang_meanings.specs.inner.Judging.{Judges, JudgesDefaults, JudgesMembers, JudgesTaken, JudgesText, fault_in}
 use Rattle.nc_yang_meanings.specs.declared.planned.Finding.{Finding}
 use Rattle.nc_yang_meanings.specs.declared.planned.Finding.TheVariants.{Broken, Nothing, Plan}
 use Rattle.nc_yang_meanings.specs.declared.planned.Meanings.{Meanings}
@@ -44,18 +44,23 @@ module _ (scoping : Scoping) (meanings : Meanings) (n : ℕ) (s : Statement) (nu
   pub fault_here : (fault : Fault) → BreaksOne on scoping.texts l fault → BreaksType on scoping.texts l fault
   fault_here fault e = record { statement = l; stands = itself l; breaks = e }
 
-  -- by itself, by its members and by its defaults
+  -- by itself, by its members, by its defaults and by one that it takes over
   pub breaks_by_parts : (fault : Fault) → Some fault ≡ fault_in (slice_get meanings.findings n) → BreaksOne on scoping.texts l fault
   breaks_by_parts fault e = inl (breaks_here fault e)
 
   pub breaks_by_members : (fault : Fault) → JudgesMembers scoping meanings n (Some fault) → BreaksOne on scoping.texts l fault
   breaks_by_members fault judged = inr (inl (judged on are l here))
 
-  pub judged_all : (result : Option Fault) → None ≡ fault_in (slice_get meanings.findings n) → JudgesMembers scoping meanings n None → JudgesDefaults scoping meanings n result →
+  pub breaks_by_defaults : (fault : Fault) → JudgesDefaults scoping meanings n (Some fault) → BreaksOne on scoping.texts l fault
+  breaks_by_defaults fault judged = inr (inr (inl (judged on are l here)))
+
+  pub judged_all : (result : Option Fault) → None ≡ fault_in (slice_get meanings.findings n) → JudgesMembers scoping meanings n None → JudgesDefaults scoping meanings n None → JudgesTaken scoping meanings n result →
       MatchOption result ((fault : Fault) → BreaksOne on scoping.texts l fault → ⊥) (BreaksOne on scoping.texts l)
-  judged_all None none members judged = λ fault h.
-      elim h [ inl b ↦ keeps_here none fault b | inr more ↦ elim more [ inl r ↦ members on are l here fault r | inr d ↦ judged on are l here fault d ] ]
-  judged_all (Some fault) none members judged = inr (inr (judged on are l here))
+  judged_all None none members defaults judged = λ fault h. elim h [
+    | inl b ↦ keeps_here none fault b
+    | inr more ↦ elim more [ inl r ↦ members on are l here fault r | inr rest ↦ elim rest [ inl d ↦ defaults on are l here fault d | inr t ↦ judged on are l here fault t ] ]
+  ]
+  judged_all (Some fault) none members defaults judged = inr (inr (inr (judged on are l here)))
 
   -- a statement by itself and those in it
   either : (u : Located) (fault : Fault) → ((fault : Fault) → BreaksOne on scoping.texts l fault → ⊥) →

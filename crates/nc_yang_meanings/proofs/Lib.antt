@@ -7,3 +7,4 @@ pub mod FoundLemmas
 pub mod DefaultLemmas
 pub mod MemberLemmas
 pub mod ConditionalLemmas
+pub mod TakenLemmas

@@ -1,6 +1,7 @@
 -- The rules on types over all `type` statements of modules.
-use Rattle.std.specs.Prelude.{◌≡◌, ◌⊎◌, ◌&&◌, ℕ, Bool, true, false, List, Some}
+use Rattle.std.specs.Prelude.{◌≡◌, ◌⊎◌, ◌&&◌, not, ℕ, Bool, true, false, codes, List, Some, Contains}
 use Rattle.std.specs.List.{list_any}
+use Rattle.std.specs.Option.{option_map_or}
 use Rattle.nc_names.specs.Ends.{trimmed}
 use Rattle.nc_names.specs.Same.{is_same_text}
 use Rattle.nc_schema.specs.Values.{words_of}
@@ -10,13 +11,16 @@ use Rattle.nc_yang_words.specs.declared.statement.Statement.{Statement}
 use Rattle.nc_yang_statements.specs.declared.built_in.BuiltIn.TheVariants.{Union}
 use Rattle.nc_yang_statements.specs.declared.fault.Fault.{Fault}
 use Rattle.nc_yang_statements.specs.declared.fault.ModuleWhy.TheVariants.{BadArgument, Unsupported}
-use Rattle.nc_yang_statements.specs.declared.keyword.Keyword.TheVariants.{Default, TypeName}
+use Rattle.nc_yang_statements.specs.declared.keyword.Keyword.{Keyword}
+use Rattle.nc_yang_statements.specs.declared.keyword.Keyword.TheVariants.{Default, Leaf, LeafList, Mandatory, MinElements, TypeName}
 use Rattle.nc_yang_statements.specs.Keywords.{is_same_keyword}
-use Rattle.nc_yang_statements.specs.Statements.{kind, line, name}
+use Rattle.nc_yang_statements.specs.Rules.{says_true}
+use Rattle.nc_yang_statements.specs.Statements.{below, has, kind, line, name, part}
 use Rattle.nc_yang_scopes.specs.Scopes.{Located, child, root}
 use Rattle.nc_yang_scopes.specs.Names.{StandsIn}
 use Rattle.nc_yang_types.specs.declared.member.Named.{Named}
-use Rattle.nc_yang_meanings.specs.Meanings.{Breaks, Meaning, Means, names_of, shape}
+use Rattle.nc_yang_meanings.specs.Defaults.{Brings}
+use Rattle.nc_yang_meanings.specs.Meanings.{Breaks, Meaning, Means, OneOf, names_of, shape}
 use Rattle.nc_yang_meanings.specs.Places.{built_in, part_of}
 
 -- values of such a type refer to other data (RFC 7950 9.9, 9.13)
@@ -54,14 +58,21 @@ names_conditional (Bits taken) names text = list_any (is_conditional names) (wor
 names_conditional entry names text = false
 
 -- a text has one in it of the names that a `type` statement lists, by itself or through typedefs
-pub record TakesConditional (on : ℕ → List ℕ → Bool) (texts : List Statement) (l : Located)
+pub record ListsConditional (on : ℕ → List ℕ → Bool) (texts : List Statement) (l : Located)
     (text : List ℕ) : Type 0 where
   pub meaning : Meaning
   pub means : Means on texts l meaning
   pub conditional : names_conditional (shape meaning) (names_of meaning) text ≡ true
 
+-- or that a member type of the union lists which it means (RFC 7950 9.12). Of unions in unions nothing is asked
+pub data TakesConditional (on : ℕ → List ℕ → Bool) (texts : List Statement) (l : Located)
+    (text : List ℕ) : Type 0 where
+  listed : ListsConditional on texts l text → TakesConditional on texts l text
+  of_member : (members : List Located) (one : Located) → Means on texts l (OneOf members) → Contains members one
+      → ListsConditional on texts one text → TakesConditional on texts l text
+
 -- a `default` beside a `type` names an enum or a bit that is conditional, whether its feature is on or off; so it is
--- with typedefs, leafs and leaf-lists (RFC 7950 7.3.4, 7.6.4, 7.7.4). Of the members of a union nothing is asked
+-- with typedefs, leafs and leaf-lists (RFC 7950 7.3.4, 7.6.4, 7.7.4)
 pub record DefaultsToConditional (on : ℕ → List ℕ → Bool) (texts : List Statement) (l : Located)
     (fault : Fault) : Type 0 where
   pub of_type : Located
@@ -73,10 +84,38 @@ pub record DefaultsToConditional (on : ℕ → List ℕ → Bool) (texts : List 
   pub takes : TakesConditional on texts of_type (name default.statement)
   pub at : fault ≡ record { line = line default.statement; why = BadArgument }
 
--- a statement breaks a rule by its parts as a type, by what a member of it means, or by a `default` beside its type
+-- the number of a `min-elements` that asks for none (RFC 7950 7.7.5)
+unfoldable pub is_zero_text : List ℕ → Bool
+is_zero_text text = is_same_text text (codes "0")
+
+-- statements in a leaf-list that ask for an entry
+abbrev pub asks_entries : List Statement → Bool
+asks_entries ss = option_map_or (λ s. not (is_zero_text (name s))) (part MinElements ss) false
+
+-- a leaf that need not be there, and a leaf-list that need not have entries, take the default over that their type
+-- brings, where they have none of their own (RFC 7950 7.6.1, 7.7.2)
+abbrev pub takes_over : Keyword → List Statement → Bool
+takes_over Leaf ss = not (has Default ss) && not (says_true (part Mandatory ss))
+takes_over LeafList ss = not (has Default ss) && not (asks_entries ss)
+takes_over keyword ss = false
+
+-- a leaf or leaf-list takes one over that names an enum or bit which is conditional in the type of the leaf, at its
+-- statement (RFC 7950 7.6.4)
+pub record TakesOver (on : ℕ → List ℕ → Bool) (texts : List Statement) (l : Located) (fault : Fault) : Type 0 where
+  pub takes : takes_over (kind l.statement) (below l.statement) ≡ true
+  pub of_type : Located
+  pub is_type : part_of TypeName l ≡ Some of_type
+  pub default : Located
+  pub brings : Brings texts of_type default
+  pub conditional : TakesConditional on texts of_type (name default.statement)
+  pub at : fault ≡ record { line = line l.statement; why = BadArgument }
+
+-- a statement breaks a rule by its parts as a type, by what a member of it means, by a `default` beside its type, or by
+-- one that it takes over
 abbrev pub BreaksOne : (on : ℕ → List ℕ → Bool) → List Statement → Located → Fault → Type 0
 BreaksOne on texts l fault =
-    Breaks on texts l fault ⊎ (RefersInUnion on texts l fault ⊎ DefaultsToConditional on texts l fault)
+    Breaks on texts l fault
+    ⊎ (RefersInUnion on texts l fault ⊎ (DefaultsToConditional on texts l fault ⊎ TakesOver on texts l fault))
 
 -- a statement that stands in another, and in none that is passed over, breaks a rule
 pub record BreaksType (on : ℕ → List ℕ → Bool) (texts : List Statement) (l : Located) (fault : Fault) : Type 0 where

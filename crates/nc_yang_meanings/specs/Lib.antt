@@ -1,10 +1,10 @@
 pub mod Features
 pub mod Places
 pub mod Meanings
-pub mod Faults
 pub mod Wholes
 pub mod Numbers
 pub mod Plans
 pub mod Defaults
+pub mod Faults
 pub mod Laws
 pub mod inner

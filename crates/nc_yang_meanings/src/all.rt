@@ -5,6 +5,7 @@ ghost use Rattle.nc_yang_meanings.specs.Plans.{AreMeanings};
 ghost use Rattle.nc_yang_statements.specs.Stops.{OnBroken};
 
 use crate::check::first_ill_typed;
+use crate::defaults::defaults_of;
 use crate::features::Features;
 use crate::planned::Meanings;
 use crate::table::table;
@@ -27,7 +28,8 @@ pub fn meanings_of<'a, F: Features<'a>>(
         BreaksTypes (F.on features.now) scopes.now.texts it.text it.fault)) }
 {
     let found = table(alloc, scopes, features)?;
-    match first_ill_typed(scopes, &found) {
+    let defaults = defaults_of(alloc, scopes)?;
+    match first_ill_typed(scopes, &found, defaults.as_slice()) {
         Some(fault) => Err(Stop::Broken(fault)),
         None => Ok(found),
     }

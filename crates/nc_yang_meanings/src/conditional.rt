@@ -95,20 +95,48 @@ fn names_at(meanings: &Meanings, number: usize, text: &str) -> bool
     }
 }
 
+// The same for those of a plan, or of one of its members.
+fn plan_takes(meanings: &Meanings, planned: &Planned, text: &str) -> bool
+    ensures { result ≡ words.plan_takes meanings.now text.now planned.now }
+{
+    match planned {
+        Planned::Members(members) => members
+            .as_slice()
+            .iter()
+            .any(|member| names_at(meanings, *member, text)),
+        Planned::Finished { .. } | Planned::Bases(_) | Planned::Leafref { .. } => {
+            plan_names(planned, text)
+        }
+    }
+}
+
+/// Whether a text has a conditional one of the names in it that the type of a number or a member of it lists.
+pub(crate) fn takes_at(meanings: &Meanings, number: usize, text: &str) -> bool
+    ensures { result ≡ words.takes_at meanings.now number text.now }
+{
+    let Some(Finding::Plan(place)) = meanings.findings.get(number) else {
+        return false;
+    };
+    match meanings.plans.get(*place) {
+        Some(planned) => plan_takes(meanings, planned, text),
+        None => false,
+    }
+}
+
 // Whether a statement beside the type of a number is a `default` that names what is conditional.
 fn is_conditional_default(meanings: &Meanings, of_type: usize, statement: &Statement) -> bool
     ensures { result ≡ words.is_conditional_default meanings.now of_type statement.now }
 {
     is_same_keyword(Keyword::Default, kind(statement))
-        && names_at(meanings, of_type, name(statement))
+        && takes_at(meanings, of_type, name(statement))
 }
 
-// The fault of a `default`.
-fn fault(default: &Statement) -> Fault
-    ensures { result ≡ record { line = line default.now; why = Misfit } }
+/// The fault of a `default`, or of a statement that takes one over.
+pub(crate) fn fault(statement: &Statement) -> Fault
+    ensures { result ≡ record { line = line statement.now; why = Misfit } }
 {
     Fault {
-        line: default.line,
+        line: statement.line,
         why: ModuleWhy::BadArgument,
     }
 }

@@ -18,8 +18,8 @@ use nc_yang_scopes::{Scopes, part_of};
 use nc_yang_statements::Keyword;
 use std::alloc::Global;
 
-// The default that is kept for a number.
-fn kept(defaults: &[Option<usize>], number: usize) -> Option<usize>
+/// The default that is kept for a number.
+pub(crate) fn kept(defaults: &[Option<usize>], number: usize) -> Option<usize>
     ensures { result ≡ definitions.default_at defaults.now number }
 {
     match defaults.get(number) {

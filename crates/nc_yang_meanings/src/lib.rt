@@ -10,10 +10,10 @@
 //!
 //! `meanings_of` promises what every type means where none breaks a rule, and else a rule that is broken. One
 //! rule is that no member of a union is a leafref or an instance identifier, through typedefs too: the server
-//! does not have such unions. Another is that no `default` beside a type names an enum or bit of it that an
-//! `if-feature` makes conditional (RFC 7950 7.3.4, 7.6.4).
-//! `defaults_of` and `leaf_default` promise the nearest default along the typedefs. No call recurses
-//! along a chain of typedefs, and each type is looked at once. The folders of cases/ test it.
+//! does not have such unions. Another is that no `default` beside a type names an enum or bit of it, or of a
+//! member of it, that an `if-feature` makes conditional (RFC 7950 7.3.4, 7.6.4), and that no leaf takes such
+//! a default over. `defaults_of` and `leaf_default` promise the nearest default along the typedefs. No call
+//! recurses along a chain of typedefs, and each type is looked at once. The folders of cases/ test it.
 #![tactic(auto)]
 
 mod all;
@@ -30,6 +30,7 @@ mod member;
 mod over;
 mod planned;
 mod table;
+mod taken;
 
 pub use all::meanings_of;
 pub use defaults::{defaults_of, leaf_default};

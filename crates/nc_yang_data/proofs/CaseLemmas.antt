@@ -4,6 +4,7 @@ use Rattle.std.specs.Prelude.{slice_get}
 use Rattle.std.proofs.lemmas.Bool.Decides.{nat_tests}
 use Rattle.std.proofs.lemmas.List.{drop_more}
 use Rattle.std.proofs.lemmas.Option.{get_or_from_slice_get, slice_get_within}
+use Rattle.nc_names.proofs.SameLemmas.{second_true}
 use Rattle.nc_schema.specs.declared.node.Case.{Case}
 use Rattle.nc_yang_data.specs.Leafs.{CaseTest, are_named}
 
@@ -46,6 +47,24 @@ module _ (named : CaseTest) (cases : List Case) (names : List (List ℕ)) (i at 
 
       pub same_name : named k choice word ≡ true → whole ≡ are_named named (drop (i + 1) cases) (drop (at + 2) names)
       same_name on = pair ∙ ap (λ b. b && are_named named (drop (i + 1) cases) (drop (at + 2) names)) on
+
+-- two names lead through each
+counted : (named : CaseTest) (cases : List Case) (names : List (List ℕ)) → are_named named cases names ≡ true → length names ≡ length cases + length cases
+counted named [] [] e = refl
+counted named [] (n ∷ names) e = absurd (cc)
+counted named (k ∷ cases) [] e = absurd (cc)
+counted named (k ∷ cases) (c ∷ []) e = absurd (cc)
+counted named (k ∷ cases) (c ∷ n ∷ names) e = let r = counted named cases names (second_true (named k c n) (are_named named cases names) e) in omega (arith, r)
+
+pub few_named : (named : CaseTest) (cases : List Case) (names : List (List ℕ)) → eqb (length names) (length cases + length cases) ≡ false → are_named named cases names ≡ false
+few_named named cases names none = by (are_named named cases names) refl
+  where
+    by : (b : Bool) → are_named named cases names ≡ b → b ≡ false
+    by true e =
+        let r = counted named cases names e in
+        let s : eqb (length names) (length cases + length cases) ≡ true = grind (arith, nat_tests, r) in
+        absurd (cc (none, s))
+    by false e = refl
 
 pub names_end : (named : CaseTest) (cases : List Case) (names : List (List ℕ)) (i at : ℕ) → length cases ≤ i → at ≤ length names → are_named named (drop i cases) (drop at names) ≡ eqb at (length names)
 names_end named cases names i at past within = ap (λ ks. are_named named ks (drop at names)) (none cases i past) ∙ by at names within

@@ -1,5 +1,5 @@
 //! The cases of choices by their names (RFC 7950 7.9.2).
-ghost use Rattle.std.specs.Prelude.{◌≡◌, false, slice_get};
+ghost use Rattle.std.specs.Prelude.{◌≡◌, ◌==◌, ◌+◌, false, slice_get};
 ghost use Rattle.std.specs.Option.{option_map_or};
 ghost use Rattle.nc_yang_nodes.specs.FeaturesOn.{is_on};
 ghost use Rattle.nc_yang_data.specs.Leafs as leafs;
@@ -41,6 +41,13 @@ fn is_case_of<'a>(
     case_of(scopes, features, at, word) == Some(number as usize)
 }
 
+// Whether there are two names to each case.
+fn are_pairs(names: usize, cases: usize) -> bool
+    ensures { result ≡ (names == cases + cases) }
+{
+    cases <= names && names - cases == cases
+}
+
 impl<'b, 'a> Cases<'b, 'a> {
     // Whether a case is that of a name, in a choice of a name.
     fn is_named(&self, case: Case, choice: &str, word: &str) -> bool
@@ -59,8 +66,8 @@ impl<'b, 'a> Cases<'b, 'a> {
         )
     }
 
-    /// Whether names lead through these cases: two of them through each.
-    pub(crate) fn are_named(&self, cases: &[Case], names: &Many<Text>) -> bool
+    // Whether names, one after another, lead through these cases: two of them through each.
+    fn are_each_named(&self, cases: &[Case], names: &Many<Text>) -> bool
         ensures { result ≡ leafs.are_named (case_test self.now) cases.now names.now }
     {
         let count = names.len();
@@ -78,5 +85,16 @@ impl<'b, 'a> Cases<'b, 'a> {
             at += 2;
         }
         at == count
+    }
+
+    /// Whether names lead through these cases: two of them through each. Where there are more names or fewer
+    /// none is compared.
+    pub(crate) fn are_named(&self, cases: &[Case], names: &Many<Text>) -> bool
+        ensures { result ≡ leafs.are_named (case_test self.now) cases.now names.now }
+    {
+        if !are_pairs(names.len(), cases.len()) {
+            return false;
+        }
+        self.are_each_named(cases, names)
     }
 }

@@ -2,7 +2,7 @@
 use Rattle.std.proofs.Common.{◌≡◌, ◌≤◌, drop, length}
 use Rattle.nc_yang_data.specs.Leafs.{are_named}
 use Rattle.nc_yang_data.specs.inner.Cases.{case_test}
-use Rattle.nc_yang_data.proofs.cases.Cases.are_named.Given as goal
+use Rattle.nc_yang_data.proofs.cases.Cases.are_each_named.Given as goal
 
 abbrev pub invariant-loop-case : goal.invariant-loop-case
 invariant-loop-case l =

@@ -10,6 +10,7 @@ use Rattle.nc_schema.specs.declared.node.Node.{Node}
 use Rattle.nc_schema.specs.declared.value_type.ValueType.{ValueType}
 use Rattle.nc_schema.specs.declared.value_type.ValueType.TheVariants.{Chars as String, Union, Leafref}
 use Rattle.nc_yang_order.proofs.Lists.{contains_none, contains_one, get_none}
+use Rattle.nc_yang_loops.specs.References.{fault_at}
 use Rattle.nc_yang_loops.proofs.Lists.{contains_cases, contains_first}
 use Rattle.nc_yang_scopes.specs.Scopes.{Located}
 use Rattle.nc_yang_scopes.specs.declared.naming.TextFault.{TextFault}
@@ -21,7 +22,7 @@ use Rattle.nc_yang_leafs.specs.Bases.{AllMeanWhole, Basis, leads, type_of}
 use Rattle.nc_yang_leafs.specs.Faults.{BreaksLeafref}
 use Rattle.nc_yang_leafs.specs.Typings.{HasItsType, HasType, HasTypes, HasTypings, IsEntry, IsPatterned, IsSameNode, none, numbers_of, one_more}
 use Rattle.nc_yang_leafs.proofs.ClosingLemmas.{IsOne}
-use Rattle.nc_yang_circles.specs.Circles.{HasNoCircle, Reaches, Refers, fault_at, itself, through}
+use Rattle.nc_yang_circles.specs.Circles.{HasNoCircle, Reaches, Refers, itself, through}
 use Rattle.nc_yang_defaults.proofs.AlikeLemmas.{IsPair, has_others, path_tables}
 use Rattle.nc_yang_defaults.proofs.BareLemmas.{bare_by}
 use Rattle.nc_yang.proofs.Alone.{IsAlone, means_alone}

@@ -1,16 +1,15 @@
 -- The links of data nodes.
-use Rattle.std.proofs.Common.{inl, inr, ◌≡◌, ◌+◌, ℕ, List, [], ◌∷◌, ◌++◌, refl, sym, ap, ◌∙◌, subst}
+use Rattle.std.proofs.Common.{◌≡◌, ℕ, List, refl, sym, ap, ◌∙◌, subst}
 use Rattle.std.specs.Prelude.{Option, Some, None, slice_get, option_map, option_and_then, Contains}
-use Rattle.std.proofs.lemmas.List.{length_push}
 use Rattle.nc_schema.specs.declared.pattern.LeafrefEnd.{LeafrefEnd}
 use Rattle.nc_schema.specs.Tables.{Tables}
 use Rattle.nc_yang_scopes.specs.Scopes.{Located, Scoping}
 use Rattle.nc_yang_leafs.specs.Bases.{Basis, leads}
-use Rattle.nc_yang_circles.specs.declared.link.Link.{Link}
+use Rattle.nc_yang_loops.specs.declared.references.Link.{Link}
 use Rattle.nc_yang_circles.specs.Circles.{HasPath, Refers}
-use Rattle.nc_yang_circles.specs.inner.Links.{AreLinks, AreSomeLinks, link_of, link_to, links_of}
+use Rattle.nc_yang_circles.specs.inner.Links.{AreLinks, link_of, link_to, links_of}
 use Rattle.nc_yang_circles.specs.inner.Plans.{ArePaths}
-use Rattle.nc_yang_circles.proofs.Lists.{contains_flat_map, flat_map_contains, get_push}
+use Rattle.nc_yang_circles.proofs.Lists.{contains_flat_map, flat_map_contains}
 
 -- where a `path` statement leads
 pub record IsLink (scoping : Scoping) (given : Tables) (leaf path : ℕ) (link : Link) : Type 0 where
@@ -35,14 +34,14 @@ module _ (b : Basis) where
   pub links_are : (leaf : ℕ) (paths : List ℕ) → ArePaths b leaf paths → AreLinks b leaf (links_of b.scoping b.given leaf paths)
   links_are leaf paths h = record { only = only; all = all }
     where
-      only : (link : Link) → Contains (links_of b.scoping b.given leaf paths) link → (l : Located) × (slice_get b.scoping.located link.path ≡ Some l) × Refers b leaf l link.target
+      only : (link : Link) → Contains (links_of b.scoping b.given leaf paths) link → (l : Located) × (slice_get b.scoping.located link.reference ≡ Some l) × Refers b leaf l link.target
       only link c =
           let one = contains_flat_map (link_of b.scoping b.given leaf) paths link c in
           let is = link_is b.scoping b.given leaf one.0 link one.2 in
           let has = h.only one.0 one.1 in
           let same : has.0 ≡ is.statement = (let e = has.1 in let f = is.there in cc) in (
             is.statement,
-            ap (λ (z : Link). slice_get b.scoping.located z.path) is.is ∙ is.there,
+            ap (λ (z : Link). slice_get b.scoping.located z.reference) is.is ∙ is.there,
             record {
               has = subst (HasPath b leaf) same has.2;
               end = is.end;
@@ -56,16 +55,3 @@ module _ (b : Basis) where
           let p = h.all l r.has in
           let e : link_of b.scoping b.given leaf p.0 ≡ Some (link_to p.0 r.end) = ap (λ o. option_map (link_to p.0) (option_and_then (leads b.scoping b.given leaf) o)) p.2 ∙ ap (option_map (link_to p.0)) r.leads in
           (link_to p.0 r.end, flat_map_contains (link_of b.scoping b.given leaf) paths p.0 (link_to p.0 r.end) p.1 e, r.to)
-
-  pub links_begin : AreSomeLinks b 0 []
-  links_begin = record { counted = refl; each = λ leaf own is. absurd (cc) }
-
-  -- those of one data node more
-  pub links_more : (count : ℕ) (links : List (List Link)) (own : List Link) (new : List (List Link)) → new ≡ links ++ own ∷ [] → AreLinks b count own → AreSomeLinks b count links → AreSomeLinks b (count + 1) new
-  links_more count links own new is are h = subst (AreSomeLinks b (count + 1)) (sym is) (record {
-    counted = length_push links own ∙ ap (λ n. n + 1) h.counted;
-    each = λ n some at. elim (get_push links own some n at) [
-      | inl a ↦ h.each n some a
-      | inr c ↦ subst (AreLinks b n) c.1 (subst (λ z. AreLinks b z own) (sym (c.0 ∙ h.counted)) are)
-    ];
-  })

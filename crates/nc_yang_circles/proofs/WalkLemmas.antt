@@ -19,7 +19,8 @@ use Rattle.nc_yang_leafs.specs.Marks.{AreMarks, are_unmarked, is_marked, is_plai
 use Rattle.nc_yang_circles.specs.declared.walk.Walk.{Walk}
 use Rattle.nc_yang_circles.specs.inner.Plans.{ArePlanPaths, IsAmong, IsMember, IsPath, UsesNumber, inner, own}
 use Rattle.nc_yang_circles.specs.inner.Walks.{IsMarkedAmong, IsMarkedAt, IsNext, IsOnWay, IsSeen, Looks, Queues}
-use Rattle.nc_yang_circles.proofs.Lists.{and_both, contains_cases}
+use Rattle.nc_yang_loops.proofs.Lists.{contains_cases}
+use Rattle.nc_yang_circles.proofs.Lists.{and_both}
 
 -- the same plans by another name
 pub queues_as : (P Q : ℕ → Type 0) (old new : Walk) → ((q : ℕ) → P q → Q q) → ((q : ℕ) → Q q → P q) → Queues P old new → Queues Q old new

@@ -3,10 +3,9 @@ use Rattle.std.specs.Prelude.{◌≡◌, ℕ, Option, Some, IsTrue, slice_get, M
 use Rattle.nc_schema.specs.declared.node.Node.{Node}
 use Rattle.nc_schema.specs.declared.pattern.LeafrefEnd.{LeafrefEnd}
 use Rattle.nc_schema.specs.Kinds.{has_value}
-use Rattle.nc_yang_statements.specs.declared.fault.ModuleWhy.TheVariants.{Loop}
-use Rattle.nc_yang_statements.specs.Statements.{line}
 use Rattle.nc_yang_scopes.specs.declared.naming.TextFault.{TextFault}
 use Rattle.nc_yang_scopes.specs.Scopes.{Located}
+use Rattle.nc_yang_loops.specs.References.{fault_at}
 use Rattle.nc_yang_meanings.specs.Wholes.{UsesPath}
 use Rattle.nc_yang_leafs.specs.Bases.{Basis, leads, type_of}
 
@@ -31,10 +30,6 @@ pub data Reaches (b : Basis) : ℕ → ℕ → Type 0 where
   itself : (leaf : ℕ) → Reaches b leaf leaf
   through : (leaf : ℕ) (path : Located) (next last : ℕ) → Refers b leaf path next → Reaches b next last
       → Reaches b leaf last
-
--- at a `path` statement
-abbrev pub fault_at : Located → TextFault
-fault_at path = record { text = path.place.text; fault = record { line = line path.statement; why = Loop } }
 
 -- a leaf refers to one that leads back to it
 pub record BreaksCircle (b : Basis) (fault : TextFault) : Type 0 where

@@ -1,47 +1,23 @@
 //! The first leafref that leads in a circle.
-ghost use Rattle.std.specs.Prelude.{◌≡◌, Some, slice_get, option_map, IfOk, ℕ, Bool, List};
+ghost use Rattle.std.specs.Prelude.{◌≡◌, Some, IfOk, ℕ, Bool, List};
 ghost use Rattle.nc_yang_meanings.specs.Plans.{AreMeanings};
 ghost use Rattle.nc_yang_leafs.specs.Bases.{basis_on};
 ghost use Rattle.nc_yang_scopes.specs.Prefixes.{ArePrefixes};
+ghost use Rattle.nc_yang_loops.specs.References.{fault_of};
 ghost use Rattle.nc_yang_circles.specs.Circles as circles;
 ghost use Rattle.nc_yang_circles.specs.inner.Links as words;
 
-use crate::link::{Link, all_links, graph};
+use crate::link::all_links;
 use crate::site::Site;
 use nc_names::{Bound, Many, Memory};
 use nc_schema::Schema;
 use nc_yang_leafs::marks_of;
+use nc_yang_loops::{Link, circle_fault, graph};
 use nc_yang_meanings::Meanings;
 use nc_yang_nodes::Plan;
 use nc_yang_order::{Ordered, is_within, targets_first};
 use nc_yang_scopes::{Scopes, TextFault};
-use nc_yang_statements::{Fault, ModuleWhy};
 use std::alloc::Global;
-
-// The link in a place of those of a number.
-fn link_at(links: &[Many<Link>], leaf: u32, place: usize) -> Option<Link>
-    ensures { result ≡ slice_get (words.links_at links.now leaf) place }
-{
-    let own = links.get(leaf as usize)?;
-    own.get(place).copied()
-}
-
-// The fault of the `path` statement of a number.
-fn fault(scopes: &Scopes, number: usize) -> Option<TextFault>
-    ensures { result ≡ option_map circles.fault_at (slice_get scopes.now.located number) }
-{
-    let Some(text) = scopes.text(number) else {
-        return None;
-    };
-    let Some(statement) = scopes.statement(number) else {
-        return None;
-    };
-    let fault = Fault {
-        line: statement.line,
-        why: ModuleWhy::Loop,
-    };
-    Some(TextFault { text, fault })
-}
 
 // The fault of the `path` statement by which an edge leads on.
 fn circle(
@@ -50,15 +26,12 @@ fn circle(
     leaf: u32,
     place: usize,
 ) -> Result<TextFault, Memory>
-    ensures { IfOk result (λ it. words.fault_of scopes.now links.now leaf place ≡ Some it) }
+    ensures { IfOk result (λ it. fault_of scopes.now links.now leaf place ≡ Some it) }
 {
-    let Some(found) = link_at(links, leaf, place) else {
-        return Err(Memory);
-    };
-    let Some(fault) = fault(scopes, found.path) else {
-        return Err(Memory);
-    };
-    Ok(fault)
+    match circle_fault(scopes, links, leaf, place) {
+        Some(fault) => Ok(fault),
+        None => Err(Memory),
+    }
 }
 
 // The first circle in the graph of links.

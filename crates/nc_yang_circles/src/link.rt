@@ -1,5 +1,5 @@
 //! To which data nodes the leafrefs of each data node lead.
-ghost use Rattle.std.specs.Prelude.{◌≡◌, ◌++◌, map, IfOk, OnOk};
+ghost use Rattle.std.specs.Prelude.{◌≡◌, ◌++◌, IfOk, OnOk};
 ghost use Rattle.std.specs.List.{flat_map};
 ghost use Rattle.std.specs.Option.{option_to_list};
 ghost use Rattle.nc_yang_circles.specs.inner.Links as words;
@@ -8,16 +8,9 @@ use crate::paths::paths;
 use crate::site::Site;
 use nc_names::{Many, Memory};
 use nc_paths::leafref_end;
+use nc_yang_loops::Link;
 use nc_yang_statements::name;
 use std::alloc::Global;
-
-/// A `path` statement, and the data node to which it leads.
-#[derive(Clone, Copy)]
-pub(crate) struct Link {
-    /// The number of the statement.
-    pub path: usize,
-    pub target: u32,
-}
 
 // Where the `path` statement of a number leads from a data node.
 fn link_of(alloc: Global, site: &Site, leaf: u32, path: usize) -> Result<Option<Link>, Memory>
@@ -35,7 +28,7 @@ fn link_of(alloc: Global, site: &Site, leaf: u32, path: usize) -> Result<Option<
     };
     match leafref_end(alloc, site.schema, leaf, name(statement), bounds)? {
         Some(end) => Ok(Some(Link {
-            path,
+            reference: path,
             target: end.target,
         })),
         None => Ok(None),
@@ -94,27 +87,4 @@ pub(crate) fn all_links(alloc: Global, site: &Site) -> Result<Many<Many<Link>>, 
         links.push(node_links(alloc, site, leaf)?)?;
     }
     Ok(links)
-}
-
-// The numbers to which links lead.
-fn targets(alloc: Global, links: &[Link]) -> Result<Many<u32>, Memory>
-    ensures { IfOk result (λ it. it ≡ map words.target_of links.now) }
-{
-    let mut targets = Many::new(alloc);
-    for link in links {
-        targets.push(link.target)?;
-    }
-    Ok(targets)
-}
-
-/// The numbers to which the links of each number lead.
-pub(crate) fn graph(alloc: Global, links: &[Many<Link>]) -> Result<Many<Many<u32>>, Memory>
-    ensures { IfOk result (λ it. it ≡ words.graph_of links.now) }
-{
-    let mut graph = Many::new(alloc);
-    for own in links {
-        let next = targets(alloc, own.as_slice())?;
-        graph.push(next)?;
-    }
-    Ok(graph)
 }

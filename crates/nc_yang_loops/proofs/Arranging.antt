@@ -4,7 +4,6 @@ use Rattle.std.specs.Prelude.{Bool, true, nat_lt, Option, Some, None, slice_get,
 use Rattle.std.specs.List.{filter, list_all}
 use Rattle.std.proofs.lemmas.List.{append-nil, length-map, take_all, take_more}
 use Rattle.std.proofs.lemmas.Bool.Decides.{nat_tests}
-use Rattle.std.proofs.lemmas.Option.{slice_get-map}
 use Rattle.nc_yang_words.specs.declared.statement.Statement.{Statement}
 use Rattle.nc_yang_scopes.specs.declared.naming.TextFault.{TextFault}
 use Rattle.nc_yang_scopes.specs.Scopes.{Located, Scoping}
@@ -16,43 +15,26 @@ use Rattle.nc_yang_loops.specs.declared.arrange.Arranged.{Arranged}
 use Rattle.nc_yang_loops.specs.declared.arrange.Arranged.TheVariants.{Circle, Order}
 use Rattle.nc_yang_loops.specs.declared.kinds.Defined.{Defined}
 use Rattle.nc_yang_loops.specs.declared.kinds.Defined.TheVariants.{Features, Groupings, Identities, Modules, Typedefs}
-use Rattle.nc_yang_loops.specs.declared.links.Link.{Link}
+use Rattle.nc_yang_loops.specs.declared.references.Link.{Link}
 use Rattle.nc_yang_loops.specs.Loops.{BreaksLoop, IsOnCircle, KeepsLoops, Names, Reaches, all_defined, itself, through}
 use Rattle.nc_yang_loops.specs.Laws.{OrderHasNoCircle}
 use Rattle.nc_yang_loops.specs.Orders.{Arranges, IsInPlace, IsOrder}
-use Rattle.nc_yang_loops.specs.inner.Links.{AreAllLinks, AreMarks, HasLink, IsLink, IsMarked, Judges, KeepsLoop, circle_in, fault_at, graph_of, is_marked, links_at, reference_at, target_of}
-use Rattle.nc_yang_loops.proofs.Lists.{all_pass, contains_filter, contains_get, contains_map, each_filter, filter_contains, map_contains}
+use Rattle.nc_yang_loops.specs.inner.Links.{AreAllLinks, AreMarks, HasLink, IsLink, IsMarked, Judges, KeepsLoop, circle_in, is_marked}
+use Rattle.nc_yang_loops.specs.References.{fault_at, fault_of, graph_of, links_at, target_of}
+use Rattle.nc_yang_loops.proofs.Graphs.{circle_link, edge_link, link_edge, own_link, own_links}
+use Rattle.nc_yang_loops.proofs.Lists.{all_pass, contains_filter, contains_get, each_filter, filter_contains}
 use Rattle.nc_yang_loops.proofs.Marking.{is_mark, marked_is}
 
 below_passes : (a b : ℕ) → a < b → nat_lt a b ≡ true
 below_passes a b less = grind (arith, nat_tests)
 
--- the targets of a number are those of its links
-targets_are : (links : List (List Link)) (n : ℕ) → targets (graph_of links) n ≡ map target_of (links_at links n)
-targets_are links n = ap (λ o. unwrap_or o []) (slice_get-map (map target_of) links n) ∙ by (slice_get links n)
-  where
-    by : (o : Option (List Link)) → unwrap_or (option_map (map target_of) o) [] ≡ map target_of (unwrap_or o [])
-    by None = refl
-    by (Some own) = refl
-
 module _ (scoping : Scoping) (sort : Defined) (marks : List Bool) (are : AreMarks scoping sort marks) (links : List (List Link)) (linked : AreAllLinks scoping sort marks links) where
-  own_links : (n : ℕ) (own : List Link) → slice_get links n ≡ Some own → links_at links n ≡ own
-  own_links n own is = ap (λ o. unwrap_or o []) is
-
   -- a link of a number
   is_link : (n : ℕ) (link : Link) → Contains (links_at links n) link → IsLink scoping sort n link
-  is_link n link h = by (slice_get links n) refl
-    where
-      by : (o : Option (List Link)) → slice_get links n ≡ o → IsLink scoping sort n link
-      by None none = absurd (contains_none link (subst (λ ls. Contains ls link) (ap (λ o. unwrap_or o []) none) h))
-      by (Some own) some = (linked.each n own some).only link (subst (λ ls. Contains ls link) (own_links n own some) h)
+  is_link n link h = let own = own_link links n link h in (linked.each n own.0 own.1).only link own.2
 
   is_marked_target : (n : ℕ) (link : Link) → Contains (links_at links n) link → IsMarked marks link.target
-  is_marked_target n link h = by (slice_get links n) refl
-    where
-      by : (o : Option (List Link)) → slice_get links n ≡ o → IsMarked marks link.target
-      by None none = absurd (contains_none link (subst (λ ls. Contains ls link) (ap (λ o. unwrap_or o []) none) h))
-      by (Some own) some = (linked.each n own some).marked link (subst (λ ls. Contains ls link) (own_links n own some) h)
+  is_marked_target n link h = let own = own_link links n link h in (linked.each n own.0 own.1).marked link own.2
 
   -- and all links of a definition
   has_link : (n : ℕ) (here statement there : Located) → IsMarked marks n → slice_get scoping.located n ≡ Some here → Names scoping.texts sort here statement there →
@@ -63,7 +45,7 @@ module _ (scoping : Scoping) (sort : Defined) (marks : List Bool) (are : AreMark
       by None none = absurd (omega (arith, past_end links n none, get_within scoping.located n here is, linked.counted))
       by (Some own) some =
           let h = (linked.each n own some).all marked here statement there is names in
-          record { link = h.link; among = subst (λ ls. Contains ls h.link) (sym (own_links n own some)) h.among; is = h.is }
+          record { link = h.link; among = subst (λ ls. Contains ls h.link) (sym (own_links links n own some)) h.among; is = h.is }
 
   pub length_graph : length (graph_of links) ≡ length scoping.located
   length_graph = length-map links (map target_of) ∙ linked.counted
@@ -71,11 +53,10 @@ module _ (scoping : Scoping) (sort : Defined) (marks : List Bool) (are : AreMark
   -- edges lead to numbers of statements
   target_within : (n t : ℕ) → Contains (targets (graph_of links) n) t → t < length (graph_of links)
   target_within n t h =
-      let m = contains_map target_of (links_at links n) t (subst (λ ts. Contains ts t) (targets_are links n) h) in
-      let link = m.0 in
-      let l = is_link n link m.1.0 in
-      let less = get_within scoping.located link.target l.there l.is_there in
-      omega (arith, less, length_graph, m.1.1)
+      let m = edge_link links n t h in
+      let l = is_link n m.0 m.1 in
+      let less = get_within scoping.located m.0.target l.there l.is_there in
+      omega (arith, less, length_graph, m.2)
 
   pub within_graph : is_within (graph_of links) ≡ true
   within_graph = all_pass (λ ts. list_all (λ t. nat_lt t (length (graph_of links))) ts) (graph_of links) (λ ts h. all_pass (λ t. nat_lt t (length (graph_of links))) ts (inner ts h))
@@ -98,7 +79,7 @@ module _ (scoping : Scoping) (sort : Defined) (marks : List Bool) (are : AreMark
         fresh = λ h. place.fresh (contains_filter (is_marked marks) before n h);
         after = λ statement there names.
             let h = has_link n defined.definition statement there (marked_is marks n is) defined.is names in
-            let edge = subst (λ ts. Contains ts h.link.target) (sym (targets_are links n)) (map_contains target_of (links_at links n) h.link h.among) in
+            let edge = link_edge links n h.link h.among in
             record {
               number = h.link.target;
               among = filter_contains (is_marked marks) before h.link.target (place.after h.link.target edge) (is_mark marks h.link.target (is_marked_target n h.link h.among));
@@ -123,46 +104,39 @@ module _ (scoping : Scoping) (sort : Defined) (marks : List Bool) (are : AreMark
   reaches : (n m : ℕ) (l : Located) → Leads (graph_of links) n m → slice_get scoping.located n ≡ Some l → (last : Located) → slice_get scoping.located m ≡ Some last → Reaches scoping.texts sort l last
   reaches n m l (arrived k) is last at = let same : l ≡ last = let e : Some l ≡ Some last = sym is ∙ at in cc in subst (Reaches scoping.texts sort l) same (itself l)
   reaches n m l (further k t z edge rest) is last at =
-      let c = contains_map target_of (links_at links n) t (subst (λ ts. Contains ts t) (targets_are links n) edge) in
-      let link = is_link n c.0 c.1.0 in
+      let c = edge_link links n t edge in
+      let link = is_link n c.0 c.1 in
       let same : link.here ≡ l = let e : Some link.here ≡ Some l = sym link.is_here ∙ is in cc in
       through l link.statement link.there last (subst (λ z. Names scoping.texts sort z link.statement link.there) same link.names)
-      (reaches t m link.there rest (ap (slice_get scoping.located) (sym c.1.1) ∙ link.is_there) last at)
+      (reaches t m link.there rest (ap (slice_get scoping.located) (sym c.2) ∙ link.is_there) last at)
 
-  -- the link of an edge on one
-  circle_link : (n place : ℕ) → IsCircle (graph_of links) n place → (link : Link) × (slice_get (links_at links n) place ≡ Some link)
-  circle_link n place circle = by (slice_get (links_at links n) place) refl
-    where
-      edge : option_map target_of (slice_get (links_at links n) place) ≡ Some circle.target
-      edge = sym (slice_get-map target_of (links_at links n) place) ∙ ap (λ ts. slice_get ts place) (sym (targets_are links n)) ∙ circle.edge
+  -- the fault of an edge on one
+  circle_fault : (n place : ℕ) (circle : IsCircle (graph_of links) n place) → (link : Link) × IsLink scoping sort n link × (link.target ≡ circle.target)
+      × ((l : Located) → slice_get scoping.located link.reference ≡ Some l → fault_of scoping links n place ≡ Some (fault_at l))
+  circle_fault n place circle =
+      let c = circle_link links n place circle in (
+        c.0,
+        is_link n c.0 (contains_at (links_at links n) place c.0 c.1),
+        c.2,
+        λ l is. ap (option_and_then (λ (z : Link). option_map fault_at (slice_get scoping.located z.reference))) c.1 ∙ ap (option_map fault_at) is,
+      )
 
-      by : (o : Option Link) → slice_get (links_at links n) place ≡ o → (link : Link) × (slice_get (links_at links n) place ≡ Some link)
-      by None none = absurd (let e : option_map target_of (slice_get (links_at links n) place) ≡ None = ap (option_map target_of) none in let f = edge in cc)
-      by (Some link) some = (link, some)
+  pub circle_there : (n place : ℕ) → IsCircle (graph_of links) n place → IsSome (fault_of scoping links n place)
+  circle_there n place circle = let c = circle_fault n place circle in ap is_some (c.3 c.1.statement c.1.is_statement)
 
-  pub circle_there : (n place : ℕ) → IsCircle (graph_of links) n place → IsSome (reference_at scoping links n place)
-  circle_there n place circle =
-      let c = circle_link n place circle in
-      let l = is_link n c.0 (contains_at (links_at links n) place c.0 c.1) in
-      ap (λ o. is_some (option_and_then (λ (x : Link). slice_get scoping.located x.reference) o)) c.1 ∙ ap is_some l.is_statement
-
-  pub circle_is : (n place : ℕ) → IsCircle (graph_of links) n place → (found : TextFault) → Some found ≡ option_map fault_at (reference_at scoping links n place) →
+  pub circle_is : (n place : ℕ) → IsCircle (graph_of links) n place → (found : TextFault) → Some found ≡ fault_of scoping links n place →
       BreaksLoop scoping.texts sort found.text found.fault
   circle_is n place circle found is =
-      let c = circle_link n place circle in
-      let l = is_link n c.0 (contains_at (links_at links n) place c.0 c.1) in
-      let target : c.0.target ≡ circle.target =
-      let f : Some c.0.target ≡ Some circle.target = sym (ap (option_map target_of) c.1) ∙ sym (slice_get-map target_of (links_at links n) place)
-      ∙ ap (λ ts. slice_get ts place) (sym (targets_are links n)) ∙ circle.edge in cc in
-      let fault : found ≡ fault_at l.statement =
-      let f : Some found ≡ Some (fault_at l.statement) = is ∙ ap (λ o. option_map fault_at (option_and_then (λ (x : Link). slice_get scoping.located x.reference) o)) c.1 ∙ ap (option_map fault_at) l.is_statement in cc in
+      let c = circle_fault n place circle in
+      let l = c.1 in
+      let fault : found ≡ fault_at l.statement = let f : Some found ≡ Some (fault_at l.statement) = is ∙ c.3 l.statement l.is_statement in cc in
       record {
         statement = l.statement;
         circle = record {
           here = l.here;
           there = l.there;
           names = l.names;
-          back = reaches c.0.target n l.there (subst (λ t. Leads (graph_of links) t n) (sym target) circle.back) l.is_there l.here l.is_here;
+          back = reaches c.0.target n l.there (subst (λ t. Leads (graph_of links) t n) (sym c.2) circle.back) l.is_there l.here l.is_here;
         };
         is_text = ap (λ (f : TextFault). f.text) fault;
         is_fault = ap (λ (f : TextFault). f.fault) fault;

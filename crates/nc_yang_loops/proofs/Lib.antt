@@ -1,4 +1,5 @@
 pub mod Lists
+pub mod Graphs
 pub mod Adding
 pub mod Marking
 pub mod Naming

@@ -2,16 +2,15 @@
 use Rattle.std.proofs.Common.{inl, inr, ◌≡◌, ◌<◌, ◌≤◌, ◌+◌, ◌++◌, ◌∷◌, [], ℕ, List, length, get_or, take, refl, sym, ap, subst, ◌∙◌}
 use Rattle.std.specs.Prelude.{Bool, true, false, Option, Some, None, slice_get, Contains}
 use Rattle.std.specs.Option.{option_to_list}
-use Rattle.std.proofs.lemmas.List.{append-nil, take_more, take_all, length_push}
+use Rattle.std.proofs.lemmas.List.{append-nil, take_more, take_all}
 use Rattle.std.proofs.lemmas.List.Elements.{Contains-append_left, Contains-push, Contains-push_cases}
 use Rattle.nc_yang_scopes.specs.Scopes.{Located, Scoping}
 use Rattle.nc_yang_scopes.specs.Names.{StandsIn}
 use Rattle.nc_yang_order.proofs.Lists.{contains_none}
 use Rattle.nc_yang_loops.specs.declared.kinds.Defined.{Defined}
-use Rattle.nc_yang_loops.specs.declared.links.Link.{Link}
+use Rattle.nc_yang_loops.specs.declared.references.Link.{Link}
 use Rattle.nc_yang_loops.specs.Loops.{IsDefinition, Names, named}
-use Rattle.nc_yang_loops.specs.inner.Links.{AddsLink, AreAllLinks, AreIn, AreSomeLinks, AreLinks, AreMarks, Collects, HasLink, HasReference, IsLink, IsMarked, Links, NamesNone, NamesOne, is_marked}
-use Rattle.nc_yang_loops.proofs.Lists.{get_push}
+use Rattle.nc_yang_loops.specs.inner.Links.{AddsLink, AreIn, AreLinks, AreMarks, Collects, HasLink, HasReference, IsLink, IsMarked, Links, NamesNone, NamesOne, is_marked}
 use Rattle.nc_yang_loops.proofs.Marking.{is_mark}
 
 module _ (scoping : Scoping) (sort : Defined) (marks : List Bool) where
@@ -118,20 +117,3 @@ module _ (scoping : Scoping) (sort : Defined) (marks : List Bool) where
                 let to : one.there ≡ there = let f : Some one.there ≡ Some there = sym one.means ∙ ap (named scoping.texts sort) of ∙ names.means in cc in
                 record { link = some.link; among = some.among; is = one.is_there ∙ ap Some to }
           ]
-
-  -- the links of one number more
-  pub links_begin : AreSomeLinks scoping sort marks 0 []
-  links_begin = record { counted = refl; each = λ n own is. absurd (cc) }
-
-  pub links_more : (count : ℕ) (links : List (List Link)) (own : List Link) (new : List (List Link)) → new ≡ links ++ own ∷ [] → AreLinks scoping sort marks count own →
-      AreSomeLinks scoping sort marks count links → AreSomeLinks scoping sort marks (count + 1) new
-  links_more count links own new is are h = subst (AreSomeLinks scoping sort marks (count + 1)) (sym is) (record {
-    counted = length_push links own ∙ ap (λ n. n + 1) h.counted;
-    each = λ n some at. elim (get_push links own some n at) [
-      | inl a ↦ h.each n some a
-      | inr b ↦ subst (AreLinks scoping sort marks n) b.1 (subst (λ z. AreLinks scoping sort marks z own) (sym (b.0 ∙ h.counted)) are)
-    ];
-  })
-
-  pub links_end : (count : ℕ) (links : List (List Link)) → count ≡ length scoping.located → AreSomeLinks scoping sort marks count links → AreAllLinks scoping sort marks links
-  links_end count links all h = record { counted = h.counted ∙ all; each = h.each }

@@ -1,17 +1,18 @@
 //! Definitions in an order in which each comes after those that it names, or a circle among them.
-ghost use Rattle.std.specs.Prelude.{◌≡◌, ◌<◌, ◌^◌, Some, MatchOption, IfOk, IsSome, length, slice_get, option_map};
+ghost use Rattle.std.specs.Prelude.{◌≡◌, ◌<◌, ◌^◌, Some, MatchOption, IfOk, IsSome, length};
 ghost use Rattle.std.specs.List.{filter};
 ghost use Rattle.nc_yang_loops.specs.Loops.{BreaksLoop, BreaksLoops, KeepsLoops};
 ghost use Rattle.nc_yang_loops.specs.Orders.{Arranges};
+ghost use Rattle.nc_yang_loops.specs.References.{fault_of};
 ghost use Rattle.nc_yang_loops.specs.inner.Links as words;
 
 use crate::kinds::{Defined, all_defined};
-use crate::links::{Link, all_links, graph};
+use crate::links::all_links;
 use crate::marks::{is_marked, marks};
+use crate::references::{Link, circle_fault, graph};
 use nc_names::{Many, Memory};
 use nc_yang_order::{Ordered, targets_first};
 use nc_yang_scopes::{Scopes, TextFault};
-use nc_yang_statements::{Fault, ModuleWhy};
 use std::alloc::Global;
 
 /// What is found among definitions of one sort.
@@ -36,40 +37,12 @@ fn kept(alloc: Global, marks: &[bool], numbers: &[u32]) -> Result<Many<u32>, Mem
     Ok(kept)
 }
 
-// The link in a place of those of a number.
-fn link_at(links: &[Many<Link>], number: u32, place: usize) -> Option<Link>
-    ensures { result ≡ slice_get (words.links_at links.now number) place }
-{
-    let own = links.get(number as usize)?;
-    own.get(place).copied()
-}
-
-// The fault of a statement on a circle.
-fn fault(scopes: &Scopes, number: usize) -> Option<TextFault>
-    ensures { result ≡ option_map words.fault_at (slice_get scopes.now.located number) }
-{
-    let Some(text) = scopes.text(number) else {
-        return None;
-    };
-    let Some(statement) = scopes.statement(number) else {
-        return None;
-    };
-    let fault = Fault {
-        line: statement.line,
-        why: ModuleWhy::Loop,
-    };
-    Some(TextFault { text, fault })
-}
-
 // The fault of the statement by which an edge leads on.
 fn circle(scopes: &Scopes, links: &[Many<Link>], number: u32, place: usize) -> TextFault
-    requires { IsSome (words.reference_at scopes.now links.now number place) }
-    ensures { Some result ≡ option_map words.fault_at (words.reference_at scopes.now links.now number place) }
+    requires { IsSome (fault_of scopes.now links.now number place) }
+    ensures { Some result ≡ fault_of scopes.now links.now number place }
 {
-    let Some(found) = link_at(links, number, place) else {
-        unreachable!();
-    };
-    match fault(scopes, found.reference) {
+    match circle_fault(scopes, links, number, place) {
         Some(fault) => fault,
         None => unreachable!(),
     }

@@ -9,7 +9,9 @@
 //! which it stands, and then it is one of those. `in_order` gives such a fault among definitions of one sort,
 //! or the numbers of all of them, each once and after those that it names; by the law `order_has_no_circle`
 //! there are never both. `first_unrevised` promises the first import of a revision that a module does not
-//! have. No call recurses along a chain of definitions. The folders of cases/ test it.
+//! have. `graph` and `circle_fault` promise the numbers to which statements lead, and the fault of one that
+//! leads on in a circle, for other graphs of statements too. No call recurses along a chain of definitions.
+//! The folders of cases/ test it.
 #![tactic(auto)]
 
 mod arrange;
@@ -17,10 +19,12 @@ mod kinds;
 mod laws;
 mod links;
 mod marks;
+mod references;
 mod revision;
 mod within;
 
 pub use arrange::{Arranged, first_loop, in_order};
 pub use kinds::Defined;
 pub use laws::order_has_no_circle;
+pub use references::{Link, circle_fault, graph};
 pub use revision::first_unrevised;

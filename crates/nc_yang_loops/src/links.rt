@@ -1,5 +1,5 @@
 //! What definitions name.
-ghost use Rattle.std.specs.Prelude.{◌≡◌, ◌<◌, ◌^◌, length, map, slice_get, option_and_then, IsTrue, IfOk, OnOk};
+ghost use Rattle.std.specs.Prelude.{◌≡◌, ◌<◌, ◌^◌, length, slice_get, option_and_then, IsTrue, IfOk, OnOk};
 ghost use Rattle.nc_yang_scopes.specs.inner.Naming.{HasNumber};
 ghost use Rattle.nc_yang_scopes.specs.Scopes as definitions;
 ghost use Rattle.nc_yang_loops.specs.Loops as loops;
@@ -7,21 +7,13 @@ ghost use Rattle.nc_yang_loops.specs.inner.Links as words;
 
 use crate::kinds::{Defined, defining, naming};
 use crate::marks::is_marked;
+use crate::references::Link;
 use crate::within::{is_of, within};
 use nc_names::{Many, Memory};
 use nc_yang_scopes::Scopes;
 use nc_yang_statements::{Keyword, built_in_of, is_closed, kind, name};
 use nc_yang_words::Statement;
 use std::alloc::Global;
-
-/// A statement that names a definition.
-#[derive(Clone, Copy)]
-pub(crate) struct Link {
-    /// The number of the statement.
-    pub reference: usize,
-    /// The number of the definition.
-    pub target: u32,
-}
 
 // The number of the module that an import names.
 fn imported<'a>(scopes: &Scopes<'a>, name: &'a str) -> Option<usize>
@@ -211,27 +203,4 @@ pub(crate) fn all_links(
         links.push(own)?;
     }
     Ok(links)
-}
-
-// The numbers to which links lead.
-fn targets(alloc: Global, links: &[Link]) -> Result<Many<u32>, Memory>
-    ensures { IfOk result (λ it. it ≡ map words.target_of links.now) }
-{
-    let mut targets = Many::new(alloc);
-    for link in links {
-        targets.push(link.target)?;
-    }
-    Ok(targets)
-}
-
-/// The numbers to which the links of each number lead.
-pub(crate) fn graph(alloc: Global, links: &[Many<Link>]) -> Result<Many<Many<u32>>, Memory>
-    ensures { IfOk result (λ it. it ≡ words.graph_of links.now) }
-{
-    let mut graph = Many::new(alloc);
-    for own in links {
-        let next = targets(alloc, own.as_slice())?;
-        graph.push(next)?;
-    }
-    Ok(graph)
 }

@@ -1,21 +1,21 @@
 -- Numbers of statements, and what they name.
-use Rattle.std.specs.Prelude.{◌≡◌, ◌<◌, ◌⊎◌, ℕ, Bool, true, false, if◌then◌else◌, List, [], ◌++◌, Option, Some, None, length, map, slice_get, slice_set, option_and_then, unwrap_or, Contains, MatchOption}
+use Rattle.std.specs.Prelude.{◌≡◌, ◌<◌, ◌⊎◌, ℕ, Bool, true, false, if◌then◌else◌, List, [], ◌++◌, Option, Some, None, length, slice_get, slice_set, option_and_then, unwrap_or, Contains, MatchOption}
 use Rattle.std.specs.Option.{option_map_or, option_to_list}
 use Rattle.nc_yang_words.specs.declared.statement.Statement.{Statement}
 use Rattle.nc_yang_statements.specs.declared.fault.Fault.{Fault}
-use Rattle.nc_yang_statements.specs.declared.fault.ModuleWhy.TheVariants.{Loop}
 use Rattle.nc_yang_statements.specs.declared.keyword.Keyword.{Keyword}
 use Rattle.nc_yang_statements.specs.Keywords.{is_closed, is_same_keyword}
-use Rattle.nc_yang_statements.specs.Statements.{kind, line}
+use Rattle.nc_yang_statements.specs.Statements.{kind}
 use Rattle.nc_yang_scopes.specs.declared.naming.TextFault.{TextFault}
 use Rattle.nc_yang_scopes.specs.Scopes.{Located, Scoping, child, root}
 use Rattle.nc_yang_scopes.specs.Names.{StandsIn}
 use Rattle.nc_yang_loops.specs.declared.arrange.Arranged.{Arranged}
 use Rattle.nc_yang_loops.specs.declared.arrange.Arranged.TheVariants.{Circle, Order}
 use Rattle.nc_yang_loops.specs.declared.kinds.Defined.{Defined}
-use Rattle.nc_yang_loops.specs.declared.links.Link.{Link}
+use Rattle.nc_yang_loops.specs.declared.references.Link.{Link}
 use Rattle.nc_yang_loops.specs.Loops.{BreaksLoop, IsDefinition, Names, named, naming}
 use Rattle.nc_yang_loops.specs.Orders.{HasOne}
+use Rattle.nc_yang_loops.specs.References.{AreLinksOf}
 
 -- the statement of a number has that keyword
 abbrev pub is_of : Scoping → Keyword → ℕ → Bool
@@ -53,7 +53,6 @@ AreIn scoping number = AddsAt scoping number []
 abbrev pub IsMarked : List Bool → ℕ → Type 0
 IsMarked marks number = slice_get marks number ≡ Some true
 
--- whether a number is marked
 abbrev pub is_marked : List Bool → ℕ → Bool
 is_marked marks number = unwrap_or (slice_get marks number) false
 
@@ -181,44 +180,14 @@ pub record AreLinks (scoping : Scoping) (sort : Defined)
   pub all : IsMarked marks number → (here statement there : Located) → slice_get scoping.located number ≡ Some here
       → Names scoping.texts sort here statement there → HasLink scoping links there
 
--- the links of the first so many numbers
-pub record AreSomeLinks (scoping : Scoping) (sort : Defined)
-    (marks : List Bool) (count : ℕ) (links : List (List Link)) : Type 0 where
-  pub counted : length links ≡ count
-  pub each : (number : ℕ) (own : List Link) → slice_get links number ≡ Some own → AreLinks scoping sort marks number own
-
 -- the links of each number
-pub record AreAllLinks (scoping : Scoping) (sort : Defined)
-    (marks : List Bool) (links : List (List Link)) : Type 0 where
-  pub counted : length links ≡ length scoping.located
-  pub each : (number : ℕ) (own : List Link) → slice_get links number ≡ Some own → AreLinks scoping sort marks number own
-
--- the number of the definition to which a link leads
-abbrev pub target_of : Link → ℕ
-target_of link = link.target
-
--- the numbers to which links lead
-abbrev pub graph_of : List (List Link) → List (List ℕ)
-graph_of links = map (map target_of) links
-
--- the links of a number
-abbrev pub links_at : List (List Link) → ℕ → List Link
-links_at links number = unwrap_or (slice_get links number) []
-
--- the statement by which the link in a place leads on
-abbrev pub reference_at : Scoping → List (List Link) → ℕ → ℕ → Option Located
-reference_at scoping links number place =
-    option_and_then (λ x. slice_get scoping.located x.reference) (slice_get (links_at links number) place)
-
--- the fault of a statement by which a definition leads back to itself
-abbrev pub fault_at : Located → TextFault
-fault_at l = record { text = l.place.text; fault = record { line = line l.statement; why = Loop } }
+abbrev pub AreAllLinks : Scoping → Defined → List Bool → List (List Link) → Type 0
+AreAllLinks scoping sort marks = AreLinksOf (AreLinks scoping sort marks) (length scoping.located)
 
 -- no statement in a definition of that sort names one that leads back to it
 abbrev pub KeepsLoop : List Statement → Defined → Type 0
 KeepsLoop texts sort = (text : ℕ) (fault : Fault) → BreaksLoop texts sort text fault → ⊥
 
--- the fault of the circle that was found, if one was
 abbrev pub circle_in : Arranged → Option TextFault
 circle_in (Order order) = None
 circle_in (Circle found) = Some found

@@ -1,6 +1,7 @@
 use Rattle.std.proofs.Common.{◌∙◌, subst}
 use Rattle.nc_yang_order.specs.Orders.{Answers}
-use Rattle.nc_yang_circles.specs.inner.Links.{basis_of, graph_of}
+use Rattle.nc_yang_loops.specs.References.{graph_of}
+use Rattle.nc_yang_circles.specs.inner.Links.{basis_of}
 use Rattle.nc_yang_circles.proofs.CircleLemmas.{circle_is, order_keeps}
 use Rattle.nc_yang_circles.proofs.circle.found.Goals as goal
 

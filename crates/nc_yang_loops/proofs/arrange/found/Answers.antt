@@ -2,7 +2,8 @@ use Rattle.std.proofs.Common.{◌∙◌, ap, subst, sym}
 use Rattle.std.specs.List.{filter}
 use Rattle.nc_yang_order.specs.Orders.{Answers, is_within}
 use Rattle.nc_yang_loops.specs.Orders.{IsOrder}
-use Rattle.nc_yang_loops.specs.inner.Links.{graph_of, is_marked}
+use Rattle.nc_yang_loops.specs.References.{graph_of}
+use Rattle.nc_yang_loops.specs.inner.Links.{is_marked}
 use Rattle.nc_yang_loops.proofs.Arranging.{circle_is, circle_there, order_is, within_graph}
 use Rattle.nc_yang_loops.proofs.arrange.found.Goals as goal
 

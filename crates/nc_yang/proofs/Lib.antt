@@ -25,7 +25,10 @@ pub mod SameTypes
 pub mod SameDepths
 pub mod SamePlans
 pub mod Never
+pub mod KeptTypes
+pub mod Typeless
 pub mod SameTrees
+pub mod SameViolations
 pub mod TypedefNumbers
 pub mod TypedefLemmas
 pub mod JudgedLemmas

@@ -42,7 +42,7 @@ use Rattle.nc_yang_defaults.proofs.AlikeLemmas.{TakesAlike, canonical_alike, def
 use Rattle.nc_yang.specs.Access.{in_file}
 use Rattle.nc_yang.specs.Depths.{BreaksDepth, KeepsDepth, depth_fault, too_deep_at}
 use Rattle.nc_yang.specs.Features.{is_given}
-use Rattle.nc_yang.specs.Laws.{NeverBoth}
+use Rattle.nc_yang.specs.Laws.{NeverBoth, reference_at}
 use Rattle.nc_yang.specs.Schemas.{AreNames, Breaks, BreaksBare, BreaksPlan, BreaksSchema, BreaksTypedefs, Defines, GivesSchema, IsBareOf, IsBegun, IsSchemaOf, KeepsTypedefs, basis, basis_of, by_pattern, by_types, circle, deep, default, identity_name, ill_typed, in_place, in_plan, in_schema, leafref, of_typedef, past, suits_none, text, typedef_basis, unadmitted, unread}
 use Rattle.nc_yang.specs.Typedefs.{AreJudged, IsJudged, typedef_plan, typedef_tables, typedefs}
 use Rattle.nc_yang.proofs.DataTypes.{data_types_mean}
@@ -50,7 +50,7 @@ use Rattle.nc_yang.proofs.Reading.{have_one_way, have_or_faulty}
 use Rattle.nc_yang.proofs.LeafTypes.{LeafAt, leaf_at, leaf_there, leafs_end, no_path_lost, nodes_paired, paths_as_given}
 use Rattle.nc_yang.proofs.SameDepths.{deep_alike}
 use Rattle.nc_yang.proofs.SamePlans.{circle_here, deep_here, default_here, lost_here, typed_here}
-use Rattle.nc_yang.proofs.SameTypes.{Both, Kinds, nodes_take, whole_alike}
+use Rattle.nc_yang.proofs.SameTypes.{Both, Kinds, nodes_take, references_alike, whole_alike}
 use Rattle.nc_yang.proofs.TypedefLemmas.{tables_same, typedefs_alike, typedefs_mean}
 
 -- ---- identities are picked in one way
@@ -140,6 +140,9 @@ module _ (scoping : Scoping) (on : FeatureTest) where
           ap (λ b. cond b (option_map too_deep_at (type_of scoping plan number)) None) (deep_alike derived names_one stands_on t u alike named other agree kinds number) in
           let gone : None ≡ Some found = sym (good number) ∙ same ∙ is in
           absurd (cc)
+
+      pub references_same : (n : ℕ) → reference_at t n ≡ reference_at u n
+      references_same = references_alike derived names_one stands_on t u alike named other agree kinds
 
       module _ (straight : HasNoCircle stands_on) where
         takes_same : TakesAlike t u alike

@@ -22,7 +22,8 @@ use Rattle.nc_yang.specs.Laws.{AreOneSchema, OneSchema}
 use Rattle.nc_yang.specs.Schemas.{AreNames, Defines, GivesSchema, IsBegun, IsSchemaOf, basis}
 use Rattle.nc_yang.proofs.DataTypes.{data_types_mean}
 use Rattle.nc_yang.proofs.LeafTypes.{pair_at}
-use Rattle.nc_yang.proofs.Never.{each_agree, one_on, texts_same, values_same}
+use Rattle.nc_yang.proofs.KeptTypes.{reference_kept}
+use Rattle.nc_yang.proofs.Never.{each_agree, one_on, references_same, texts_same, values_same}
 use Rattle.nc_yang.proofs.Reading.{have_one_way}
 use Rattle.nc_yang.proofs.ReadyLemmas.{is_ready}
 use Rattle.nc_yang.proofs.SamePlans.{defaults_here, typed_here}
@@ -53,6 +54,10 @@ module _ (scoping : Scoping) (on : FeatureTest) (keeps : KeepsTexts scoping.text
             canonical_kept scoping plan s.typed one ready s.defaults number text bounds
             ∙ texts_same scoping on plan (data_tables scoping on plan) whole s.typed z.typed (NameEach s.typed.patterns) (NameEach z.typed.patterns) s.is.bare.types here (each_agree s.typed.patterns z.typed.patterns) s.is.bare.straight number text bounds
             ∙ sym (canonical_kept scoping plan z.typed two also_ready well number text bounds);
+        references = λ number.
+            reference_kept scoping plan s.typed one ready s.defaults number
+            ∙ references_same scoping on plan (data_tables scoping on plan) whole s.typed z.typed (NameEach s.typed.patterns) (NameEach z.typed.patterns) s.is.bare.types here (each_agree s.typed.patterns z.typed.patterns) number
+            ∙ sym (reference_kept scoping plan z.typed two also_ready well number);
       }
 
 module _ (modules : List ModuleText) (lines : List (List ℕ)) (one other : Tables) (d : Defines modules lines one) where

@@ -83,7 +83,7 @@ module _ (t u : Tables) (same : map without_type t.nodes ≡ map without_type u.
       elim h [ inl b ↦ inl (step_back above step other b) | inr b ↦ inr (b.0, steps_back (Some step.node) steps others b.1) ]
 
   -- ---- values
-  value_too : (row : Row) → HasItsValue t row → HasItsValue u row
+  pub value_too : (row : Row) → HasItsValue t row → HasItsValue u row
   value_too row h = λ above step node l.
       let b = leads_back t u same above step node row l in
       subst (λ k. IsRowValue k step row.value) (ap (λ (z : Node). z.kind) b.2) (h above step b.0 b.1)

@@ -22,6 +22,7 @@ use Rattle.nc_yang_leafs.specs.Bases.{Basis, leads}
 use Rattle.nc_yang_leafs.specs.Typings.{HasType, IsEntry, IsPatterned, none, numbers_of, one_more}
 use Rattle.nc_yang_defaults.specs.Readings.{has_whole, is_whole}
 use Rattle.nc_yang_defaults.proofs.AlikeLemmas.{alone_alike, has_others, path_tables, strings_alike}
+use Rattle.nc_yang.specs.Laws.{reference_at, reference_in}
 use Rattle.nc_yang.proofs.Alone.{IsAlone, means_alone}
 use Rattle.nc_yang.proofs.Chains.{Asks, Clear, Ends, asked_is, clear_at_start, ends, further, member, next_clear, one_is_left, target}
 use Rattle.nc_yang.proofs.LeafTypes.{Typed, head}
@@ -252,3 +253,41 @@ module _ (derived : List Located → List QName → Type 0) (one_derived : (base
             ∙ entries_whole n a.m a.entry c.entry a.is_it (subst (λ z. IsAlso n z c.entry) one c.is_it)
             ∙ sym (ap (λ o. option_map_or is_whole o false) c.at)
             ∙ sym (ap (λ o. option_map_or is_whole (option_and_then (slice_get u.types) o) false) both.other_is)
+
+    -- ---- references
+    entry_refers : (x : ValueType) (ps : List Located) (e d : ValueType) → IsPatterned named x ps e → IsPatterned other x ps d → reference_in e ≡ reference_in d
+    entry_refers (String lengths starless blank) ps e d is is2 = ap reference_in is.2 ∙ sym (ap reference_in is2.2)
+    entry_refers x ps e d is is2 = ap reference_in (sym is ∙ is2)
+
+    entries_refer : (n : ℕ) (m : Meaning) (e d : ValueType) → IsIn n m e → IsAlso n m d → reference_in e ≡ reference_in d
+    entries_refer n (Entry x ps taken) e d is is2 = entry_refers x ps e d is is2
+    entries_refer n (OneOf ms) (Union ks) (Union js) is is2 = refl
+    entries_refer n (OneOf ms) (Union ks) d is is2 = absurd is2
+    entries_refer n (DerivedFrom bases) (Identity xs) (Identity ys) is is2 = refl
+    entries_refer n (DerivedFrom bases) (Identity xs) d is is2 = absurd is2
+    entries_refer n (Refers path need) (Leafref to above one) (Leafref to2 above2 two) is is2 =
+        let first : LeafrefEnd = record { target = to; above = above } in
+        let second : LeafrefEnd = record { target = to2; above = above2 } in
+        let end : first ≡ second = (let e : Some first ≡ Some second = sym is.0 ∙ is2.0 in cc) in
+        let need_same : one ≡ two = is.1 ∙ sym is2.1 in
+        λ i. Some (Leafref (end i).target (end i).above (need_same i))
+    entries_refer n (Refers path need) (Leafref to above one) d is is2 = absurd is2
+    entries_refer n m e d is is2 = absurd is
+
+    abbrev refers_in : Tables → Option ℕ → Option ValueType
+    refers_in tables o = option_and_then reference_in (option_and_then (slice_get tables.types) o)
+
+    pub references_alike : (n : ℕ) → reference_at t n ≡ reference_at u n
+    references_alike n = by (kinds n)
+      where
+        by : Kinds n → reference_at t n ≡ reference_at u n
+        by (inl nothing) = ap (refers_in t) nothing.0 ∙ sym (ap (refers_in u) nothing.1)
+        by (inr both) =
+            let a = head derived named b t n both.l both.one both.one_has in
+            let c = head derived other b u n both.l both.twin both.other_has in
+            let one : c.m ≡ a.m = means_one b.on b.scoping.texts both.l c.m a.m c.means_it a.means_it in
+            ap (refers_in t) both.one_is
+            ∙ ap (option_and_then reference_in) a.at
+            ∙ entries_refer n a.m a.entry c.entry a.is_it (subst (λ z. IsAlso n z c.entry) one c.is_it)
+            ∙ sym (ap (option_and_then reference_in) c.at)
+            ∙ sym (ap (refers_in u) both.other_is)

@@ -1,5 +1,5 @@
 -- What the laws say.
-use Rattle.std.specs.Prelude.{◌≡◌, ℕ, Bool, true, false, List, map, Some, IsTrue, option_and_then}
+use Rattle.std.specs.Prelude.{◌≡◌, ℕ, Bool, true, false, List, map, Option, Some, None, IsTrue, option_and_then, slice_get}
 use Rattle.std.specs.List.{All}
 use Rattle.nc_names.specs.declared.name.Bound.{Bound}
 use Rattle.nc_names.specs.declared.path.Row.{Row}
@@ -7,8 +7,11 @@ use Rattle.nc_schema.specs.Configuration.{IsConfiguration}
 use Rattle.nc_schema.specs.Kinds.{has_value}
 use Rattle.nc_schema.specs.Proper.{AreModules, EachNode, IsProperSchema}
 use Rattle.nc_schema.specs.Tables.{Tables}
-use Rattle.nc_schema.specs.Values.{IsCanonical, canonical}
+use Rattle.nc_schema.specs.Values.{IsCanonical, canonical, type_of}
+use Rattle.nc_schema.specs.Violations.{violations}
 use Rattle.nc_schema.specs.declared.node.Node.{Node}
+use Rattle.nc_schema.specs.declared.value_type.ValueType.{ValueType}
+use Rattle.nc_schema.specs.declared.value_type.ValueType.TheVariants.{Instance, Leafref}
 use Rattle.nc_yang_words.specs.declared.statement.Statement.{Statement}
 use Rattle.nc_yang_statements.specs.declared.fault.Fault.{Fault}
 use Rattle.nc_yang_statements.specs.declared.fault.ModuleWhy.TheVariants.{PatternRefused}
@@ -98,6 +101,17 @@ RulesRefuseNothing =
 abbrev pub without_type : Node → Node
 without_type node = record node { kind_of_value = 0 }
 
+-- a type whose values refer to other data (RFC 7950 9.9, 9.13)
+abbrev pub reference_in : ValueType → Option ValueType
+reference_in (Leafref target above required) = Some (Leafref target above required)
+reference_in (Instance required) = Some (Instance required)
+reference_in type = None
+
+-- that of a leaf or leaf-list: where its leafref leads, and whether what a value names has to exist
+abbrev pub reference_at : Tables → ℕ → Option ValueType
+reference_at tables number =
+    option_and_then reference_in (option_and_then (slice_get tables.types) (type_of tables number))
+
 -- two schemas are one but for their types, of which they take the same values
 pub record AreOneSchema (one other : Tables) : Type 0 where
   pub modules : one.modules ≡ other.modules
@@ -107,6 +121,8 @@ pub record AreOneSchema (one other : Tables) : Type 0 where
   -- a text stands for the same value, or for none (RFC 7950 9.1)
   pub values : (number : ℕ) (text : List ℕ) (bounds : List Bound)
       → canonical one number text bounds ≡ canonical other number text bounds
+  -- it refers to the same (RFC 7950 9.9.3, 9.13.2)
+  pub references : (number : ℕ) → reference_at one number ≡ reference_at other number
 
 -- modules have one schema with the features that lines name; its types may be numbered in several ways
 abbrev pub OneSchema : Type 0
@@ -119,3 +135,10 @@ abbrev pub SameConfigurations : Type 0
 SameConfigurations =
     (modules : List ModuleText) (lines : List (List ℕ)) (one other : Tables) → Defines modules lines one
     → Defines modules lines other → (rows : List Row) → IsConfiguration one rows → IsConfiguration other rows
+
+-- and it breaks the same constraints of both, in the same order (RFC 7950 8.1)
+abbrev pub SameViolations : Type 0
+SameViolations =
+    (modules : List ModuleText) (lines : List (List ℕ)) (one other : Tables) → Defines modules lines one
+    → Defines modules lines other → (rows : List Row) → IsConfiguration one rows
+    → violations one rows ≡ violations other rows

@@ -1,7 +1,7 @@
 //! Laws: what follows of the definitions that the contracts cite.
 ghost use Rattle.nc_yang.specs.Laws.{DataTypesMean, DefaultsAreCanonical, ModulesAreProper, NeverBoth, OneSchema};
 ghost use Rattle.nc_yang.specs.Laws.{PlannedTypesMean, RulesRefuseNothing, SameConfigurations};
-ghost use Rattle.nc_yang.specs.Laws.{SchemasAreProper, TypesMean};
+ghost use Rattle.nc_yang.specs.Laws.{SameViolations, SchemasAreProper, TypesMean};
 
 /// In modules that keep all rules each `type` statement that is looked at means something, and so does each
 /// member of a union, down to the last (RFC 7950 7.3, 7.4, 9.12).
@@ -48,8 +48,8 @@ pub fn rules_refuse_nothing()
     ensures { RulesRefuseNothing }
 {}
 
-/// Modules have one schema with the features that lines name: the same modules, choices, data nodes, defaults
-/// and values. Its types may be numbered in several ways.
+/// Modules have one schema with the features that lines name: the same modules, choices, data nodes, defaults,
+/// values and references. Its types may be numbered in several ways.
 pub fn one_schema()
     ensures { OneSchema }
 {}
@@ -58,4 +58,10 @@ pub fn one_schema()
 /// the numbers of its types (RFC 7950 7.5 to 7.9, 9.1).
 pub fn same_configurations()
     ensures { SameConfigurations }
+{}
+
+/// Such a configuration breaks the same constraints of both schemas, in the same order: what has to stand in
+/// it, and where its references lead (RFC 7950 8.1).
+pub fn same_violations()
+    ensures { SameViolations }
 {}

@@ -16,8 +16,9 @@
 //! `modules_are_proper` the modules of a schema have names and namespaces of their own; the whole schema is
 //! proper by `schemas_are_proper`, and each default in it is a canonical text by `defaults_are_canonical`. By
 //! `never_both` modules that break a rule have no schema, and by `one_schema` the others have one, but for
-//! the numbers of its types; by `same_configurations` these have the same configurations. By
-//! `rules_refuse_nothing` PatternRefused is the reason of no rule: it comes only where the maker refused.
+//! the numbers of its types; by `same_configurations` these have the same configurations, and by
+//! `same_violations` the same violations. By `rules_refuse_nothing` PatternRefused is the reason of no rule:
+//! it comes only where the maker refused.
 #![tactic(auto)]
 
 mod access;
@@ -34,6 +35,7 @@ mod typedefs;
 pub use features::first_unknown_feature;
 pub use laws::{
     data_types_mean, defaults_are_canonical, modules_are_proper, never_both, one_schema,
-    planned_types_mean, rules_refuse_nothing, same_configurations, schemas_are_proper, types_mean,
+    planned_types_mean, rules_refuse_nothing, same_configurations, same_violations,
+    schemas_are_proper, types_mean,
 };
 pub use texts::compile;

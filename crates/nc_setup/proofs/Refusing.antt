@@ -1,5 +1,6 @@
 -- What is found refuses what the folder holds.
 use Rattle.std.proofs.Common.{◌≡◌, ◌+◌, ℕ, List, Some, subst}
+use Rattle.std.specs.Prelude.{Err, MatchResult, Ok, Result}
 use Rattle.nc_protocol.specs.declared.request.Cause.{Cause}
 use Rattle.nc_schema.specs.Tables.{Tables}
 use Rattle.nc_yang_leafs.specs.Patterns.{Refusals}
@@ -27,6 +28,12 @@ module_refuses contents refusals number line why Memory breaks tells = tt
 pub feature_refuses : (contents : Contents) (refusals : Refusals) (place line : ℕ) → IsFirstUnknown contents.modules contents.features place
     → line ≡ place + 1 → (schema : Tables) → Defines contents.modules contents.features schema → IsRefused contents refusals (Feature line)
 feature_refuses contents refusals place line first line_is schema defines = (schema, defines, place, first, line_is)
+
+-- whatever a maker has refused
+pub with_refusals : (contents : Contents) (refusals : Refusals) (result : Result Tables SetupFault)
+    → MatchResult result (HasSchema contents) (λ fault. (given : Refusals) → IsRefused contents given fault) → MatchResult result (HasSchema contents) (IsRefused contents refusals)
+with_refusals contents refusals (Ok schema) has = has
+with_refusals contents refusals (Err fault) refused = refused refusals
 
 pub unread_refuses : (contents : Contents) (refusals : Refusals) (schema : Tables) (at : ℕ) → HasSchema contents schema
     → ((text : List ℕ) × (contents.initial ≡ Some text) × IsUnread text at) → IsRefused contents refusals (Unread at)

@@ -1,15 +1,12 @@
 //! The server that the folder of a device makes.
 ghost use Rattle.std.specs.Prelude.{◌≡◌, ◌+◌, ◌<◌, ℕ, length, IfOk, MatchOption, MatchResult};
-ghost use Rattle.std.specs.List.{All};
 ghost use Rattle.std.specs.Option.{option_map};
 ghost use Rattle.nc_schema.specs.Configuration.{IsConfiguration};
 ghost use Rattle.nc_schema.specs.PathTexts.{path_text_of};
 ghost use Rattle.nc_schema.specs.Proper.{IsProperSchema};
-ghost use Rattle.nc_schema.specs.Tables.{Tables};
 ghost use Rattle.nc_schema.specs.Violations.{IsValid};
 ghost use Rattle.nc_yang_leafs.specs.Patterns.{Refusals, refusing};
-ghost use Rattle.nc_yang.specs.Features.{NamesFeature};
-ghost use Rattle.nc_yang.specs.Schemas.{Defines};
+ghost use Rattle.nc_yang.specs.Schemas.{IsCompiled};
 ghost use Rattle.nc_setup.specs.Initial.{IsInitial};
 ghost use Rattle.nc_setup.specs.Setup.{HasSchema, IsRefused, IsSetup};
 ghost use Rattle.nc_setup.specs.Setup as meant;
@@ -24,7 +21,7 @@ use nc_patterns::Maker;
 use nc_protocol::Cause;
 use nc_schema::Schema;
 use nc_tree::Config;
-use nc_yang::{compile, first_unknown_feature};
+use nc_yang::{Compilation, compile};
 use nc_yang_statements::ModuleWhy;
 use nc_yang_texts::{CompileFault, ModuleText};
 use std::alloc::Global;
@@ -63,6 +60,31 @@ fn broken(
     }
 }
 
+// The number of a line.
+fn line_at(features: &[Text], place: usize) -> u64
+    requires { place < length features.now }
+    ensures { result ≡ place + 1 }
+{
+    place as u64 + 1
+}
+
+// The schema that modules define, where each line of the features names one of theirs.
+#[tactic(auto, using(crate::proofs::Refusing::feature_refuses))]
+fn with_features(contents: &Contents, made: Compilation) -> Result<Schema, SetupFault>
+    requires { IsCompiled contents.now.modules contents.now.features made }
+    ensures defines { MatchResult result (HasSchema contents.now)
+        (λ fault. (refusals : Refusals) → IsRefused contents.now refusals fault) }
+    ensures proper { IsProperSchema made.schema → IfOk result IsProperSchema }
+{
+    let Compilation { schema, unknown } = made;
+    match unknown {
+        Some(place) => Err(SetupFault::Feature {
+            line: line_at(contents.features.as_slice(), place),
+        }),
+        None => Ok(schema),
+    }
+}
+
 // The schema of the modules.
 #[tactic(auto, using(crate::proofs::Refusing::module_refuses))]
 fn schema_of<M: Maker>(
@@ -70,9 +92,7 @@ fn schema_of<M: Maker>(
     contents: &Contents,
     maker: &mut M,
 ) -> Result<Schema, SetupFault>
-    ensures defines { MatchResult result
-        (Defines contents.now.modules contents.now.features)
-        (IsRefused contents.now
+    ensures defines { MatchResult result (HasSchema contents.now) (IsRefused contents.now
         (refusing (M.refusals maker.old) (M.refusals maker.new) (M.last_refused maker.new))) }
     ensures proper { IfOk result IsProperSchema }
 {
@@ -82,36 +102,11 @@ fn schema_of<M: Maker>(
         contents.features.as_slice(),
         maker,
     ) {
-        Ok(schema) => Ok(schema),
+        Ok(made) => with_features(contents, made),
         Err(CompileFault::Module { file, line, why }) => {
             Err(broken(alloc, &contents.modules, file, line, why))
         }
         Err(CompileFault::Memory) => Err(SetupFault::Memory),
-    }
-}
-
-// The number of a line.
-fn line_at(features: &[Text], place: usize) -> u64
-    requires { place < length features.now }
-    ensures { result ≡ place + 1 }
-{
-    place as u64 + 1
-}
-
-// Each line of the features names one of the modules.
-#[tactic(auto, using(crate::proofs::Refusing::feature_refuses))]
-fn check_features(alloc: Global, contents: &Contents) -> Result<(), SetupFault>
-    ensures { MatchResult result
-        (λ _. All (NamesFeature contents.now.modules) contents.now.features)
-        (λ fault. (refusals : Refusals) → (schema : Tables)
-        → Defines contents.now.modules contents.now.features schema → IsRefused contents.now refusals fault) }
-{
-    let features = contents.features.as_slice();
-    match first_unknown_feature(alloc, contents.modules.as_slice(), features)? {
-        Some(place) => Err(SetupFault::Feature {
-            line: line_at(features, place),
-        }),
-        None => Ok(()),
     }
 }
 
@@ -181,7 +176,6 @@ pub fn set_up<M: Maker>(
     ensures configuration { IfOk result (λ it. IsConfiguration it.schema it.running) }
 {
     let schema = schema_of(alloc, contents, maker)?;
-    check_features(alloc, contents)?;
     let running = running_of(alloc, contents, &schema)?;
     Ok(Setup { schema, running })
 }

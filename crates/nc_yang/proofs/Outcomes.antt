@@ -10,9 +10,10 @@ use Rattle.nc_yang_statements.specs.Stops.{OnBroken}
 use Rattle.nc_yang_statements.specs.declared.stop.Stop.{Stop}
 use Rattle.nc_yang_statements.specs.declared.stop.Stop.TheVariants.{Broken, Memory}
 use Rattle.nc_yang_statements.proofs.Firsts.{first_contains}
+use Rattle.nc_yang_scopes.specs.Numbers.{IsScoping}
 use Rattle.nc_yang_scopes.specs.Scopes.{Scoping}
 use Rattle.nc_yang_scopes.specs.declared.naming.TextFault.{TextFault}
-use Rattle.nc_yang_texts.specs.Rules.{BreaksText}
+use Rattle.nc_yang_texts.specs.Rules.{BreaksText, KeepsTexts}
 use Rattle.nc_yang_texts.specs.Texts.{IsUnread, OnModule}
 use Rattle.nc_yang_texts.specs.declared.fault.CompileFault.{CompileFault}
 use Rattle.nc_yang_texts.specs.declared.fault.CompileFault.TheVariants.{Module, Memory as NoMemory}
@@ -37,7 +38,7 @@ use Rattle.nc_yang_defaults.specs.Typed.{IsTyped as IsReady}
 use Rattle.nc_yang.specs.Access.{HaveStatements, in_file}
 use Rattle.nc_yang.specs.Depths.{BreaksDepth, KeepsDepth}
 use Rattle.nc_yang.specs.Features.{is_given}
-use Rattle.nc_yang.specs.Schemas.{AreNames, BreaksSchema, BreaksTypedefs, Defines, GivesNone, GivesSchema, IsBegun, IsSchemaOf, IsTypedOf, RefusesSchema, basis, basis_of, by_pattern, by_types, circle, deep, default, ill_typed, in_place, in_plan, in_schema, leafref, of_typedef, past, text, unread}
+use Rattle.nc_yang.specs.Schemas.{AreNames, BreaksSchema, BreaksTypedefs, GivesNone, GivesSchema, IsBegun, IsSchemaOf, IsTypedOf, RefusesSchema, basis, basis_of, by_pattern, by_types, circle, deep, default, ill_typed, in_place, in_plan, in_schema, leafref, of_typedef, past, text, unread}
 use Rattle.nc_yang.specs.declared.suited.Suited.{Suited}
 use Rattle.nc_yang.specs.inner.Finishing.{Ends, Finishes, GivesNoSchema, GivesNothing, broken, refused as refused_last, too_deep, unsuited as unsuited_last}
 use Rattle.nc_yang.specs.inner.Judged.{BreaksPatterned, HasBare, IsSuited, KeepsPatterned, refused, unsuited}
@@ -203,13 +204,21 @@ pub text_stops : (modules : List ModuleText) (lines : List (List ℕ)) (refusals
 text_stops modules lines refusals roots read (Broken found) b = λ file is. inl (text roots file found.fault read (subst (BreaksText roots) is b))
 text_stops modules lines refusals roots read Memory b = tt
 
-pub defines : (modules : List ModuleText) (lines : List (List ℕ)) (refusals : Refusals) (scoping : Scoping) (on : FeatureTest) → IsBegun modules lines scoping on
-    → (result : Result Tables (Stop TextFault)) → MatchResult result (GivesSchema scoping on) (OnBroken (GivesNothing scoping on refusals))
-    → MatchResult result (Defines modules lines) (OnBroken (OnFile (GivesNone modules lines refusals)))
-defines modules lines refusals scoping on begun (Ok tables) h = record { scoping = scoping; on = on; begun = begun; gives = h }
-defines modules lines refusals scoping on begun (Err (Broken found)) (inl h) = λ file is. inl (in_schema scoping on file found.fault begun (subst (BreaksSchema scoping on) is h))
-defines modules lines refusals scoping on begun (Err (Broken found)) (inr h) = λ file is. inr (record { scoping = scoping; on = on; begun = begun; refuses = subst (RefusesSchema scoping on refusals) is h })
-defines modules lines refusals scoping on begun (Err Memory) h = tt
+-- texts that are read, and keep the rules that need no data node
+pub begins : (modules : List ModuleText) (lines : List (List ℕ)) (scoping : Scoping) (on : FeatureTest) (roots : List Statement) → scoping.texts ≡ roots → HaveStatements modules roots → KeepsTexts roots
+    → IsScoping scoping → AreOn scoping (is_given scoping.texts lines) on → IsBegun modules lines scoping on
+begins modules lines scoping on roots same read keeps numbers features = record {
+  read = subst (HaveStatements modules) (sym same) read;
+  keeps = subst KeepsTexts (sym same) keeps;
+  numbers = numbers;
+  features = features;
+}
+
+pub schema_stops : (modules : List ModuleText) (lines : List (List ℕ)) (refusals : Refusals) (scoping : Scoping) (on : FeatureTest) → IsBegun modules lines scoping on
+    → (stop : Stop TextFault) → OnBroken (GivesNothing scoping on refusals) stop → OnBroken (OnFile (GivesNone modules lines refusals)) stop
+schema_stops modules lines refusals scoping on begun (Broken found) (inl h) = λ file is. inl (in_schema scoping on file found.fault begun (subst (BreaksSchema scoping on) is h))
+schema_stops modules lines refusals scoping on begun (Broken found) (inr h) = λ file is. inr (record { scoping = scoping; on = on; begun = begun; refuses = subst (RefusesSchema scoping on refusals) is h })
+schema_stops modules lines refusals scoping on begun Memory h = tt
 
 -- ---- of files
 pub unread_stops : (modules : List ModuleText) (lines : List (List ℕ)) (refusals : Refusals) (fault : CompileFault) → OnModule (IsUnread modules) fault → OnModule (GivesNone modules lines refusals) fault

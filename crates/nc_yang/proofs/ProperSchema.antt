@@ -28,7 +28,8 @@ use Rattle.nc_yang_defaults.specs.Typed.{IsTyped as IsReady}
 use Rattle.nc_yang_defaults.proofs.LawLemmas.{has_one}
 use Rattle.nc_yang_defaults.proofs.OutcomeLemmas.{outcome_canonical}
 use Rattle.nc_yang.specs.Laws.{DefaultsAreCanonical, HasCanonicalDefaults, SchemasAreProper}
-use Rattle.nc_yang.specs.Schemas.{AreNames, Defines, GivesNone, IsSchemaOf, basis}
+use Rattle.nc_yang.specs.Schemas.{AreNames, Defines, GivesNone, IsCompiled, IsSchemaOf, basis}
+use Rattle.nc_yang.specs.declared.texts.Compilation.{Compilation}
 use Rattle.nc_yang.proofs.Carried.{AreAlike, IsAlike, back, some_and, still_in_place, still_proper_types, still_turn, still_typed}
 use Rattle.nc_yang.proofs.DataTypes.{data_types_mean}
 use Rattle.nc_yang.proofs.IdentityNames.{are_identities}
@@ -144,21 +145,21 @@ defaults_are_canonical modules lines tables d =
     defaults_are_canonical_in d.scoping d.on d.gives.plan tables d.begun.keeps d.gives.types d.gives.planned d.gives.is
 
 -- what is so of each schema that modules define is so of the one that is compiled
-if_given : (D P : Tables → Type 0) (B : CompileFault → Type 0) (result : Result Tables CompileFault)
-    → ((tables : Tables) → D tables → P tables) → MatchResult result D B → IfOk result P
-if_given D P B (Ok tables) law d = law tables d
-if_given D P B (Err fault) law b = tt
+if_compiled : (P : Tables → Type 0) (modules : List ModuleText) (lines : List (List ℕ)) (B : CompileFault → Type 0) (result : Result Compilation CompileFault)
+    → ((tables : Tables) → Defines modules lines tables → P tables) → MatchResult result (IsCompiled modules lines) B → IfOk result (λ it. P it.schema)
+if_compiled P modules lines B (Ok it) law d = law it.schema d.defines
+if_compiled P modules lines B (Err fault) law b = tt
 
-abbrev pub IsCompiled : List ModuleText → List (List ℕ) → Refusals → Result Tables CompileFault → Type 0
-IsCompiled modules lines refusals result = MatchResult result (Defines modules lines) (OnModule (GivesNone modules lines refusals))
+abbrev pub IsOutcome : List ModuleText → List (List ℕ) → Refusals → Result Compilation CompileFault → Type 0
+IsOutcome modules lines refusals result = MatchResult result (IsCompiled modules lines) (OnModule (GivesNone modules lines refusals))
 
-pub proper : (modules : List ModuleText) (lines : List (List ℕ)) (refusals : Refusals) (result : Result Tables CompileFault)
-    → IsCompiled modules lines refusals result → IfOk result IsProperSchema
+pub proper : (modules : List ModuleText) (lines : List (List ℕ)) (refusals : Refusals) (result : Result Compilation CompileFault)
+    → IsOutcome modules lines refusals result → IfOk result (λ it. IsProperSchema it.schema)
 proper modules lines refusals result =
-    if_given (Defines modules lines) IsProperSchema (OnModule (GivesNone modules lines refusals)) result (schemas_are_proper modules lines)
+    if_compiled IsProperSchema modules lines (OnModule (GivesNone modules lines refusals)) result (schemas_are_proper modules lines)
 
-pub canonical : (modules : List ModuleText) (lines : List (List ℕ)) (refusals : Refusals) (result : Result Tables CompileFault)
-    → IsCompiled modules lines refusals result → IfOk result HasCanonicalDefaults
+pub canonical : (modules : List ModuleText) (lines : List (List ℕ)) (refusals : Refusals) (result : Result Compilation CompileFault)
+    → IsOutcome modules lines refusals result → IfOk result (λ it. HasCanonicalDefaults it.schema)
 canonical modules lines refusals result =
-    if_given (Defines modules lines) HasCanonicalDefaults (OnModule (GivesNone modules lines refusals)) result
+    if_compiled HasCanonicalDefaults modules lines (OnModule (GivesNone modules lines refusals)) result
     (defaults_are_canonical modules lines)

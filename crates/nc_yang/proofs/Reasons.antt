@@ -26,8 +26,9 @@ use Rattle.nc_yang_leafs.specs.Patterns.{Refusals, without_patterns}
 use Rattle.nc_yang_defaults.specs.Defaults.{IsBroken}
 use Rattle.nc_yang.specs.Access.{in_file}
 use Rattle.nc_yang.specs.Depths.{is_too_deep, too_deep_at}
-use Rattle.nc_yang.specs.Schemas.{Breaks, BreaksBare, BreaksPlan, BreaksSchema, BreaksTypedefs, Defines, GivesNone, by_pattern, by_types, circle, deep, default, ill_typed, in_place, in_plan, in_schema, leafref, of_typedef, past, suits_none, text, unadmitted, unread}
+use Rattle.nc_yang.specs.Schemas.{Breaks, BreaksBare, BreaksPlan, BreaksSchema, BreaksTypedefs, GivesNone, IsCompiled, by_pattern, by_types, circle, deep, default, ill_typed, in_place, in_plan, in_schema, leafref, of_typedef, past, suits_none, text, unadmitted, unread}
 use Rattle.nc_yang.specs.Typedefs.{typedef_plan, typedef_tables}
+use Rattle.nc_yang.specs.declared.texts.Compilation.{Compilation}
 use Rattle.nc_yang.proofs.TextReasons.{OfRule, OfTextRule, is_of_rule, no_refusal, of_text, of_unread}
 use Rattle.nc_yang.proofs.TypeReasons.{of_data, of_narrowed, of_own}
 
@@ -89,8 +90,8 @@ pub rose_where_refused : (modules : List ModuleText) (lines : List (List ℕ)) (
 rose_where_refused modules lines refusals file fault (inl breaks) is = absurd (never_refused modules lines file fault breaks is)
 rose_where_refused modules lines refusals file fault (inr refuses) is = elim refuses.refuses.refused [ inl used ↦ used.refuses.rose | inr judged ↦ judged.refuses.rose ]
 
-pub rose_of : (modules : List ModuleText) (lines : List (List ℕ)) (refusals : Refusals) (result : Result Tables CompileFault) →
-    MatchResult result (Defines modules lines) (OnModule (GivesNone modules lines refusals)) → IfErr result (OnModule (λ file fault. fault.why ≡ PatternRefused → Rose refusals.before refusals.now))
-rose_of modules lines refusals (Ok tables) h = tt
+pub rose_of : (modules : List ModuleText) (lines : List (List ℕ)) (refusals : Refusals) (result : Result Compilation CompileFault) →
+    MatchResult result (IsCompiled modules lines) (OnModule (GivesNone modules lines refusals)) → IfErr result (OnModule (λ file fault. fault.why ≡ PatternRefused → Rose refusals.before refusals.now))
+rose_of modules lines refusals (Ok it) h = tt
 rose_of modules lines refusals (Err (Module file line why)) h = rose_where_refused modules lines refusals file (record { line = line; why = why }) h
 rose_of modules lines refusals (Err NoMemory) h = tt

@@ -8,8 +8,8 @@ use Rattle.nc_yang_words.specs.declared.statement.Statement.{Statement}
 use Rattle.nc_yang_statements.specs.declared.keyword.Keyword.TheVariants.{Feature}
 use Rattle.nc_yang_scopes.specs.Scopes.{Place, has_colon, local_of, prefix_of, resolved, text_of, top}
 use Rattle.nc_yang_nodes.specs.Roles.{FeatureTest}
-use Rattle.nc_yang_texts.specs.Texts.{AreRead}
 use Rattle.nc_yang_texts.specs.declared.text.ModuleText.{ModuleText}
+use Rattle.nc_yang.specs.Access.{HaveStatements}
 
 -- a line names that feature of the module of a text
 abbrev pub names_it : List Statement → ℕ → List ℕ → List ℕ → Bool
@@ -41,9 +41,9 @@ pub record IsFirstOther (texts : List Statement) (lines : List (List ℕ)) (plac
 
 -- a line names a feature of the modules
 pub record NamesFeature (modules : List ModuleText) (line : List ℕ) : Type 0 where
-  pub roots : List Statement
-  pub read : AreRead modules roots
-  pub names : is_feature roots line ≡ true
+  pub texts : List Statement
+  pub have : HaveStatements modules texts
+  pub names : is_feature texts line ≡ true
 
 -- the first of these lines that names no feature of the modules
 pub record IsFirstUnknown (modules : List ModuleText) (lines : List (List ℕ)) (place : ℕ) : Type 0 where

@@ -1,5 +1,6 @@
 -- The schema that modules define, or the rules that they break (RFC 7950 5 to 9). Before them comes ietf-netconf-acm.
-use Rattle.std.specs.Prelude.{◌≡◌, ℕ, List, [], map, Contains, ◌⊎◌}
+use Rattle.std.specs.Prelude.{◌≡◌, ℕ, List, [], map, Contains, MatchOption, ◌⊎◌}
+use Rattle.std.specs.List.{All}
 use Rattle.nc_names.specs.declared.name.QName.{QName}
 use Rattle.nc_schema.specs.Tables.{Tables}
 use Rattle.nc_yang_words.specs.declared.statement.Statement.{Statement}
@@ -28,8 +29,9 @@ use Rattle.nc_yang_circles.specs.Circles.{BreaksCircle, HasNoCircle}
 use Rattle.nc_yang_defaults.specs.Defaults.{BreaksDefault, HasDefaults, KeepsDefaults}
 use Rattle.nc_yang.specs.Access.{HaveStatements, in_file}
 use Rattle.nc_yang.specs.Depths.{BreaksDepth, KeepsDepth}
-use Rattle.nc_yang.specs.Features.{is_given}
+use Rattle.nc_yang.specs.Features.{IsFirstUnknown, NamesFeature, is_given}
 use Rattle.nc_yang.specs.Typedefs.{AreJudged, typedef_plan, typedef_tables}
+use Rattle.nc_yang.specs.declared.texts.Compilation.{Compilation}
 
 -- texts whose statements keep all rules that need no data node, the numbers of these statements, and the features that
 -- are on by the lines that name some
@@ -163,6 +165,11 @@ pub record Defines (modules : List ModuleText) (lines : List (List ℕ)) (tables
   pub on : FeatureTest
   pub begun : IsBegun modules lines scoping on
   pub gives : GivesSchema scoping on tables
+
+-- what modules define, and the first of the lines that names no feature of them
+pub record IsCompiled (modules : List ModuleText) (lines : List (List ℕ)) (it : Compilation) : Type 0 where
+  pub defines : Defines modules lines it.schema
+  pub unknown : MatchOption it.unknown (All (NamesFeature modules) lines) (IsFirstUnknown modules lines)
 
 -- a file breaks a rule: its text has no statements; a rule on statements and names is broken; or a rule on types and
 -- data nodes is, where texts keep theirs

@@ -8,7 +8,6 @@ use crate::supported::feature_at;
 use nc_names::{Memory, Text};
 use nc_yang_nodes::Features;
 use nc_yang_scopes::{Scopes, split_reference};
-use nc_yang_texts::{CompileFault, ModuleText, read_texts};
 use std::alloc::Global;
 
 // With the feature that a line names.
@@ -68,8 +67,9 @@ fn is_feature<'a>(scopes: &Scopes<'a>, line: &'a Text) -> bool
     }
 }
 
-// The place of the first line that names no feature of the modules.
-fn first_unknown<'a>(scopes: &Scopes<'a>, lines: &'a [Text]) -> Option<usize>
+/// The place of the first line that names no feature of the modules, each `module:feature` (RFC 7950 7.20.1),
+/// or `None` where each names one.
+pub(crate) fn first_unknown<'a>(scopes: &Scopes<'a>, lines: &'a [Text]) -> Option<usize>
     ensures { MatchOption result (All (λ line. words.is_feature scopes.now.texts line ≡ true) lines.now)
         (words.IsFirstOther scopes.now.texts lines.now) }
 {
@@ -79,28 +79,4 @@ fn first_unknown<'a>(scopes: &Scopes<'a>, lines: &'a [Text]) -> Option<usize>
         }
     }
     None
-}
-
-/// The place of the first line that names no feature of the modules, each `module:feature` (RFC 7950 7.20.1),
-/// or `None` where each names one. Modules that cannot be read have none. Where there is no line, no text is
-/// read.
-pub fn first_unknown_feature(
-    alloc: Global,
-    modules: &[ModuleText],
-    lines: &[Text],
-) -> Result<Option<usize>, Memory>
-    ensures { IfOk result (λ it. MatchOption it
-        (All (words.NamesFeature modules.now) lines.now)
-        (words.IsFirstUnknown modules.now lines.now)) }
-{
-    if lines.is_empty() {
-        return Ok(None);
-    }
-    let roots = match read_texts(alloc, modules) {
-        Ok(roots) => roots,
-        Err(CompileFault::Memory) => return Err(Memory),
-        Err(CompileFault::Module { .. }) => return Ok(Some(0)),
-    };
-    let scopes = Scopes::of(alloc, roots.as_slice())?;
-    Ok(first_unknown(&scopes, lines))
 }

@@ -8,10 +8,10 @@
 //! with a default are judged as leafs of a schema of their own (RFC 7950 7.3.4).
 //!
 //! Before the modules that are handed in stands ietf-netconf-acm, whose text is a definition (RFC 8341
-//! 3.5.2). `compile` promises the schema that modules define, a proper one with canonical defaults, or a rule
-//! that a file breaks, or a pattern that the maker refused; `first_unknown_feature` the first line that names
-//! no feature of the modules. By the law `types_mean`, in modules that keep all rules each `type` statement
-//! means something, and so does each member of a union, down to the last; by `planned_types_mean` each leaf
+//! 3.5.2). `compile` promises the schema that modules define, a proper one with canonical defaults, and with
+//! it the first line that names no feature of them; or a rule that a file breaks, or a pattern that the maker
+//! refused. By the law `types_mean`, in modules that keep all rules each `type` statement means something,
+//! and so does each member of a union, down to the last; by `planned_types_mean` each leaf
 //! and leaf-list of a plan has such a type, and by `data_types_mean` each one of a schema. By
 //! `modules_are_proper` the modules of a schema have names and namespaces of their own; the whole schema is
 //! proper by `schemas_are_proper`, and each default in it is a canonical text by `defaults_are_canonical`. By
@@ -32,10 +32,9 @@ mod supported;
 mod texts;
 mod typedefs;
 
-pub use features::first_unknown_feature;
 pub use laws::{
     data_types_mean, defaults_are_canonical, modules_are_proper, never_both, one_schema,
     planned_types_mean, rules_refuse_nothing, same_configurations, same_violations,
     schemas_are_proper, types_mean,
 };
-pub use texts::compile;
+pub use texts::{Compilation, compile};

@@ -18,7 +18,7 @@ ghost use Rattle.nc_yang.specs.inner.Finishing.{GivesNothing};
 ghost use Rattle.nc_yang.specs.inner.Stops.{IsInFile, OnFile};
 
 use crate::access::all_statements;
-use crate::features::given;
+use crate::features::{first_unknown, given};
 use crate::schema::schema_of;
 use crate::suited::{keep_patterns, suited_typedefs};
 use crate::supported::Supported;
@@ -81,22 +81,35 @@ fn compiled<'a, M: Maker>(
     Ok(schema)
 }
 
-// The schema of modules by their statements, of which the first are those of ietf-netconf-acm.
+/// What modules define.
+#[derive(Drop)]
+pub struct Compilation {
+    pub schema: Schema,
+    /// The place of the first line that names no feature of the modules (RFC 7950 7.20.1), or `None` where each
+    /// names one.
+    pub unknown: Option<usize>,
+}
+
+// What modules define by their statements, of which the first are those of ietf-netconf-acm.
 fn of_roots<'a, M: Maker>(
     alloc: Global,
     roots: &'a [Statement],
     lines: &'a [Text],
     maker: &mut M,
-) -> Result<Schema, Stop<TextFault>>
+) -> Result<Compilation, Stop<TextFault>>
     ensures { (modules : List TheModuleText) → HaveStatements modules roots.now → MatchResult result
-        (schemas.Defines modules lines.now)
+        (schemas.IsCompiled modules lines.now)
         (OnBroken (OnFile (schemas.GivesNone modules lines.now
         (refusing (M.refusals maker.old) (M.refusals maker.new) (M.last_refused maker.new))))) }
 {
     let scopes = Scopes::of(alloc, roots)?;
     keep_texts(alloc, roots, &scopes)?;
     let features = features_of(alloc, &scopes, lines)?;
-    compiled(alloc, &scopes, &features, maker)
+    let schema = compiled(alloc, &scopes, &features, maker)?;
+    Ok(Compilation {
+        schema,
+        unknown: first_unknown(&scopes, lines),
+    })
 }
 
 // As a fault of a file. The text of ietf-netconf-acm breaks no rule.
@@ -117,20 +130,20 @@ fn in_file(stop: Stop<TextFault>) -> CompileFault
     }
 }
 
-// The schema of modules, or a fault of one of their files.
+// What modules define, or a fault of one of their files.
 fn of_modules<M: Maker>(
     alloc: Global,
     modules: &[ModuleText],
     lines: &[Text],
     maker: &mut M,
-) -> Result<Schema, CompileFault>
-    ensures { MatchResult result (schemas.Defines modules.now lines.now)
+) -> Result<Compilation, CompileFault>
+    ensures { MatchResult result (schemas.IsCompiled modules.now lines.now)
         (OnModule (schemas.GivesNone modules.now lines.now
         (refusing (M.refusals maker.old) (M.refusals maker.new) (M.last_refused maker.new)))) }
 {
     let roots = all_statements(alloc, modules)?;
     match of_roots(alloc, roots.as_slice(), lines, maker) {
-        Ok(schema) => Ok(schema),
+        Ok(made) => Ok(made),
         Err(stop) => Err(in_file(stop)),
     }
 }
@@ -139,22 +152,22 @@ fn of_modules<M: Maker>(
 /// its data nodes and choices in document order, module after module, with groupings in place, their types
 /// and defaults; or a rule that is broken, or a limit that is passed, at its file and line. Before these
 /// modules comes ietf-netconf-acm, which they may import, so that its 22 data nodes have the numbers from 0
-/// to 21 (RFC 8341 3.5.2). A line that names no feature of the modules counts for nothing. The expressions of
-/// patterns are made by `maker`; where it refuses one, and so its count of refusals rises, the answer is
-/// PatternRefused at that `pattern` statement, and all rules are kept in which no pattern is asked (RFC 7950
-/// 9.4.5).
+/// to 21 (RFC 8341 3.5.2). A line that names no feature of the modules counts for nothing here, and the first
+/// such line is told. The expressions of patterns are made by `maker`; where it refuses one, and so its count
+/// of refusals rises, the answer is PatternRefused at that `pattern` statement, and all rules are kept in which
+/// no pattern is asked (RFC 7950 9.4.5).
 #[tactic(auto, using(crate::proofs::ProperSchema::proper, crate::proofs::ProperSchema::canonical))]
 pub fn compile<M: Maker>(
     alloc: Global,
     modules: &[ModuleText],
     lines: &[Text],
     maker: &mut M,
-) -> Result<Schema, CompileFault>
-    ensures defined { MatchResult result (schemas.Defines modules.now lines.now)
+) -> Result<Compilation, CompileFault>
+    ensures defined { MatchResult result (schemas.IsCompiled modules.now lines.now)
         (OnModule (schemas.GivesNone modules.now lines.now
         (refusing (M.refusals maker.old) (M.refusals maker.new) (M.last_refused maker.new)))) }
-    ensures proper { IfOk result IsProperSchema }
-    ensures canonical { IfOk result HasCanonicalDefaults }
+    ensures proper { IfOk result (λ it. IsProperSchema it.schema) }
+    ensures canonical { IfOk result (λ it. HasCanonicalDefaults it.schema) }
     ensures refused { IfErr result (OnModule (λ _ fault. fault.why ≡ PatternRefused
         → Rose (M.refusals maker.old) (M.refusals maker.new))) }
 {

@@ -80,7 +80,7 @@ fn answer(alloc: Global, name: &str, texts: &str) -> Result<String, Memory> {
     let files = files(alloc, texts)?;
     let mut maker = RegexMaker::new(alloc);
     match compile(alloc, files.as_slice(), &[], &mut maker) {
-        Ok(schema) => told(alloc, name, &schema),
+        Ok(made) => told(alloc, name, &made.schema),
         Err(CompileFault::Module { .. }) => Ok(String::from_str(alloc, " no schema")?),
         Err(CompileFault::Memory) => Err(Memory),
     }

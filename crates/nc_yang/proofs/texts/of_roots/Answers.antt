@@ -4,7 +4,8 @@ use Rattle.nc_yang_leafs.specs.Patterns.{refusing}
 use Rattle.nc_yang_nodes.specs.FeaturesOn.{is_on}
 use Rattle.nc_yang_texts.specs.Rules.{KeepsTexts}
 use Rattle.nc_yang.specs.Access.{HaveStatements}
-use Rattle.nc_yang.proofs.Outcomes.{defines, text_stops}
+use Rattle.nc_yang.proofs.Outcomes.{begins, schema_stops, text_stops}
+use Rattle.nc_yang.proofs.UnknownLemmas.{known}
 use Rattle.nc_yang.proofs.texts.of_roots.Goals as goal
 
 pub compiled-requires : goal.compiled-requires
@@ -16,16 +17,29 @@ returns-in_err-keep_texts g c = λ modules read.
     rw (p.1, p.2) (text_stops modules c.args.lines.now
     (refusing (g.M.Maker.refusals c.args.maker.now) (g.M.Maker.refusals c.args.maker.now) (g.M.Maker.last_refused c.args.maker.now)) c.args.roots.now read c.in_err-keep_texts.field-0.0 c.in_err-keep_texts.ensures)
 
+pub returns-in_err-schema : goal.returns-in_err-schema
+returns-in_err-schema g c = λ modules read.
+    let p = err_from_is_err_and c.from_residual-in_err-schema.result c.from_residual-in_err-schema.ensures.1 in
+    let on = is_on c.in_ok-features.features in
+    rw (p.1, p.2) (schema_stops modules c.args.lines.now
+    (refusing (g.M.Maker.refusals c.args.maker.now) (g.M.Maker.refusals c.compiled.new.maker) (g.M.Maker.last_refused c.compiled.new.maker)) c.in_ok-scopes.scopes on
+    (begins modules c.args.lines.now c.in_ok-scopes.scopes on c.args.roots.now c.in_ok-scopes.ensures.texts read c.in_ok-keep_texts.ensures c.in_ok-scopes.ensures.numbers c.in_ok-features.ensures)
+    c.in_err-schema.field-0.0 c.in_err-schema.ensures)
+
 pub returns : goal.returns
 returns g c = λ modules read.
     let on = is_on c.in_ok-features.features in
-    defines modules c.args.lines.now
-    (refusing (g.M.Maker.refusals c.args.maker.now) (g.M.Maker.refusals c.compiled.new.maker) (g.M.Maker.last_refused c.compiled.new.maker))
-    c.in_ok-scopes.scopes on
-    (record {
-      read = subst (HaveStatements modules) (sym c.in_ok-scopes.ensures.texts) read;
-      keeps = subst KeepsTexts (sym c.in_ok-scopes.ensures.texts) c.in_ok-keep_texts.ensures;
-      numbers = c.in_ok-scopes.ensures.numbers;
-      features = c.in_ok-features.ensures;
-    })
-    c.compiled.result c.compiled.ensures
+    record {
+      defines =
+          record {
+            scoping = c.in_ok-scopes.scopes;
+            on = on;
+            begun =
+                begins modules c.args.lines.now c.in_ok-scopes.scopes on c.args.roots.now c.in_ok-scopes.ensures.texts read c.in_ok-keep_texts.ensures c.in_ok-scopes.ensures.numbers
+                c.in_ok-features.ensures;
+            gives = c.in_ok-schema.ensures;
+          };
+      unknown =
+          known modules c.args.lines.now c.in_ok-scopes.scopes.texts c.first_unknown.result (subst (HaveStatements modules) (sym c.in_ok-scopes.ensures.texts) read)
+          c.first_unknown.ensures;
+    }

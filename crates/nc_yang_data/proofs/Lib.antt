@@ -18,3 +18,4 @@ pub mod Lawful
 mod TwinLemmas
 mod SeenTwins
 pub mod AlikeLemmas
+mod Worked

@@ -37,3 +37,4 @@ pub mod One
 pub mod TextReasons
 pub mod TypeReasons
 pub mod Reasons
+pub mod Worked

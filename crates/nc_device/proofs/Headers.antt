@@ -4,8 +4,8 @@ use Rattle.std.specs.List.{flat_map}
 use Rattle.std.proofs.lemmas.List.{get_or-map, length-map}
 use Rattle.nc_journal.specs.Format.{number}
 use Rattle.nc_journal.specs.Header.{counted, header_of, short_number}
-use Rattle.nc_yang_texts.specs.Texts.{text_limit}
-use Rattle.nc_yang_texts.specs.declared.text.ModuleText.{ModuleText}
+use Rattle.nc_yang.specs.Texts.{text_limit}
+use Rattle.nc_yang.specs.declared.text.ModuleText.{ModuleText}
 
 -- the bytes of the texts
 abbrev pub bytes_of : List ModuleText → List (List ℕ)

@@ -26,8 +26,8 @@ use Rattle.nc_store.specs.declared.fault.StoreFault.{StoreFault}
 use Rattle.nc_store.specs.declared.fault.StoreFault.TheVariants.{DiskFault}
 use Rattle.nc_setup.specs.Setup.{IsSetup}
 use Rattle.nc_setup.specs.declared.folder.Contents.{Contents}
-use Rattle.nc_yang_texts.specs.Texts.{is_long, text_limit}
-use Rattle.nc_yang_texts.specs.declared.text.ModuleText.{ModuleText}
+use Rattle.nc_yang.specs.Texts.{is_long, text_limit}
+use Rattle.nc_yang.specs.declared.text.ModuleText.{ModuleText}
 use Rattle.nc_device.specs.Devices.{Begins, Refuses}
 use Rattle.nc_device.specs.Outside.{Filing, Making, Stored, filing, ground}
 use Rattle.nc_device.specs.Begun.{IsBegun, IsKept, WasOpened, store_words}

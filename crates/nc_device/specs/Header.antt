@@ -5,7 +5,7 @@ use Rattle.std.specs.List.{flat_map}
 use Rattle.std.specs.List.Sorted.{IsStrictlySortedBy}
 use Rattle.std.specs.Ordering.{nat_cmp}
 use Rattle.nc_journal.specs.Header.{IsHeader}
-use Rattle.nc_yang_texts.specs.declared.text.ModuleText.{ModuleText}
+use Rattle.nc_yang.specs.declared.text.ModuleText.{ModuleText}
 use Rattle.nc_names.specs.Signs.{line_feed}
 
 -- these are the features that are on, in the order of their bytes, each once

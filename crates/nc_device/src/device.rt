@@ -5,7 +5,7 @@ ghost use Rattle.nc_schema.specs.Configuration.{IsConfiguration};
 ghost use Rattle.nc_schema.specs.Proper.{IsProperSchema};
 ghost use Rattle.nc_schema.specs.Violations.{IsValid};
 ghost use Rattle.nc_setup.specs.Setup.{IsSetup};
-ghost use Rattle.nc_yang_texts.specs.Texts.{module_limit, text_limit};
+ghost use Rattle.nc_yang.specs.Texts.{module_limit, text_limit};
 ghost use Rattle.nc_device.specs.Devices.{IsDevice};
 ghost use Rattle.nc_device.specs.Outside.{filing, making};
 ghost use Rattle.nc_device.specs.inner.Preparing.{IsRead, MakesOf, Prepares};

@@ -3,11 +3,11 @@ ghost use Rattle.std.specs.Prelude.{◌≡◌, ◌<◌, ◌≤◌, ◌^◌, ◌+
 ghost use Rattle.std.specs.List.{All, flat_map};
 ghost use Rattle.nc_journal.specs.Format.{number};
 ghost use Rattle.nc_journal.specs.Header.{counted, short_number};
-ghost use Rattle.nc_yang_texts.specs.Texts.{module_limit, text_limit};
+ghost use Rattle.nc_yang.specs.Texts.{module_limit, text_limit};
 ghost use Rattle.nc_device.specs.Header as meant;
 
 use nc_names::{Bytes, Copies, Many, Memory, Text};
-use nc_yang_texts::ModuleText;
+use nc_yang::ModuleText;
 use std::alloc::Global;
 
 // Adds a number in four bytes.

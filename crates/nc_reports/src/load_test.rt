@@ -21,7 +21,7 @@ use nc_patterns::Maker;
 use nc_script::load_script;
 use nc_setup::{Contents, Setup, set_up};
 use nc_words::{RunEnd, ScriptEnd, printed_by};
-use nc_yang_texts::ModuleText;
+use nc_yang::ModuleText;
 use std::alloc::Global;
 use std::sync::Arc;
 

@@ -1,11 +1,14 @@
 -- What is found refuses what the folder holds.
-use Rattle.std.proofs.Common.{◌≡◌, ◌+◌, ℕ, List, Some, subst}
-use Rattle.std.specs.Prelude.{Err, MatchResult, Ok, Result}
+use Rattle.std.proofs.Common.{◌≡◌, ◌<◌, ◌+◌, ℕ, List, length, refl, subst}
+use Rattle.std.specs.Prelude.{Err, IsSomeAnd, MatchOption, MatchResult, None, Ok, Option, Result, Some, slice_get}
+use Rattle.std.specs.List.{All}
+use Rattle.std.proofs.lemmas.Option.{slice_get_within}
 use Rattle.nc_protocol.specs.declared.request.Cause.{Cause}
 use Rattle.nc_schema.specs.Tables.{Tables}
 use Rattle.nc_yang_leafs.specs.Patterns.{Refusals}
-use Rattle.nc_yang.specs.Features.{IsFirstUnknown}
-use Rattle.nc_yang.specs.Schemas.{Defines, GivesNone}
+use Rattle.nc_yang.specs.Features.{IsFirstUnknown, NamesFeature}
+use Rattle.nc_yang.specs.Schemas.{GivesNone, IsCompiled}
+use Rattle.nc_yang.specs.declared.texts.Compilation.{Compilation}
 use Rattle.nc_yang_statements.specs.declared.fault.ModuleWhy.{ModuleWhy}
 use Rattle.nc_setup.specs.Initial.{IsRefusedFor, IsUnread}
 use Rattle.nc_setup.specs.Setup.{HasSchema, IsRefused}
@@ -25,9 +28,26 @@ module_refuses contents refusals number line why (Unread at) breaks tells = absu
 module_refuses contents refusals number line why (Invalid kind path) breaks tells = absurd tells
 module_refuses contents refusals number line why Memory breaks tells = tt
 
-pub feature_refuses : (contents : Contents) (refusals : Refusals) (place line : ℕ) → IsFirstUnknown contents.modules contents.features place
-    → line ≡ place + 1 → (schema : Tables) → Defines contents.modules contents.features schema → IsRefused contents refusals (Feature line)
-feature_refuses contents refusals place line first line_is schema defines = (schema, defines, place, first, line_is)
+-- the first line that names no feature of the modules, where these define a schema
+module _ (contents : Contents) (made : Compilation) (compiled : IsCompiled contents.modules contents.features made) where
+  abbrev IsLine : Option ℕ → Type 0
+  IsLine o = MatchOption o (All (NamesFeature contents.modules) contents.features) (IsFirstUnknown contents.modules contents.features)
+
+  pub known_has : made.unknown ≡ None → HasSchema contents made.schema
+  known_has none = record { defines = compiled.defines; features = subst IsLine none compiled.unknown }
+
+  pub unknown_refuses : (refusals : Refusals) (place line : ℕ) → made.unknown ≡ Some place → line ≡ place + 1 → IsRefused contents refusals (Feature line)
+  unknown_refuses refusals place line some line_is = (made.schema, compiled.defines, place, subst IsLine some compiled.unknown, line_is)
+
+  pub unknown_within : (place : ℕ) → made.unknown ≡ Some place → place < length contents.features
+  unknown_within place some = by (slice_get contents.features place) refl first.unknown
+    where
+      first : IsFirstUnknown contents.modules contents.features place
+      first = subst IsLine some compiled.unknown
+
+      by : (o : Option (List ℕ)) → slice_get contents.features place ≡ o → IsSomeAnd o (λ line. NamesFeature contents.modules line → ⊥) → place < length contents.features
+      by None there h = absurd h
+      by (Some line) there h = slice_get_within contents.features place line there
 
 -- whatever a maker has refused
 pub with_refusals : (contents : Contents) (refusals : Refusals) (result : Result Tables SetupFault)

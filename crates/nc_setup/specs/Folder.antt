@@ -7,7 +7,7 @@ use Rattle.std.specs.Str.{is_utf8}
 use Rattle.nc_names.specs.Signs.{slash}
 use Rattle.nc_outside.specs.Folders.{names_of, file_of}
 use Rattle.nc_outside.specs.declared.files.NamedFile.{NamedFile}
-use Rattle.nc_yang_texts.specs.declared.text.ModuleText.{ModuleText}
+use Rattle.nc_yang.specs.declared.text.ModuleText.{ModuleText}
 use Rattle.nc_setup.specs.declared.folder.Contents.{Contents}
 
 -- where the texts of the modules are, in the folder of a device

@@ -9,7 +9,7 @@ use Rattle.nc_schema.specs.Violations.{IsValid}
 use Rattle.nc_yang_leafs.specs.Patterns.{Refusals}
 use Rattle.nc_yang.specs.Features.{IsFirstUnknown, NamesFeature}
 use Rattle.nc_yang.specs.Schemas.{Defines, GivesNone}
-use Rattle.nc_yang_texts.specs.declared.text.ModuleText.{ModuleText}
+use Rattle.nc_yang.specs.declared.text.ModuleText.{ModuleText}
 use Rattle.nc_setup.specs.Initial.{IsInitial, IsRefusedFor, IsUnread}
 use Rattle.nc_setup.specs.declared.fault.SetupFault.{SetupFault}
 use Rattle.nc_setup.specs.declared.fault.SetupFault.TheVariants.{Module, Feature, Unread, Invalid, Memory}

@@ -3,7 +3,7 @@ ghost use Rattle.std.specs.Prelude.{◌≡◌, ◌++◌, map, IfOk};
 ghost use Rattle.nc_setup.specs.Folder as meant;
 
 use nc_names::{Bytes, Many, Memory, Text};
-use nc_yang_texts::chars_of;
+use nc_yang::chars_of;
 use std::alloc::Global;
 
 // What a line says.

@@ -12,7 +12,7 @@ ghost use Rattle.nc_setup.specs.inner.Namings.{AreNamed};
 use crate::features::lines_of;
 use nc_names::{Bytes, Many, Memory, Text};
 use nc_outside::{FileFault, Files};
-use nc_yang_texts::ModuleText;
+use nc_yang::ModuleText;
 use std::alloc::Global;
 
 /// What the files in the folder of a device hold.

@@ -21,9 +21,8 @@ use nc_patterns::Maker;
 use nc_protocol::Cause;
 use nc_schema::Schema;
 use nc_tree::Config;
-use nc_yang::{Compilation, compile};
+use nc_yang::{Compilation, CompileFault, ModuleText, compile};
 use nc_yang_statements::ModuleWhy;
-use nc_yang_texts::{CompileFault, ModuleText};
 use std::alloc::Global;
 
 /// With what the server starts: a schema (RFC 7950), and a running configuration that is valid by it (RFC
@@ -69,7 +68,7 @@ fn line_at(features: &[Text], place: usize) -> u64
 }
 
 // The schema that modules define, where each line of the features names one of theirs.
-#[tactic(auto, using(crate::proofs::Refusing::feature_refuses))]
+#[tactic(auto, using(crate::proofs::Refusing::known_has, crate::proofs::Refusing::unknown_refuses, crate::proofs::Refusing::unknown_within))]
 fn with_features(contents: &Contents, made: Compilation) -> Result<Schema, SetupFault>
     requires { IsCompiled contents.now.modules contents.now.features made }
     ensures defines { MatchResult result (HasSchema contents.now)
@@ -86,7 +85,7 @@ fn with_features(contents: &Contents, made: Compilation) -> Result<Schema, Setup
 }
 
 // The schema of the modules.
-#[tactic(auto, using(crate::proofs::Refusing::module_refuses))]
+#[tactic(auto, using(crate::proofs::Refusing::module_refuses, crate::proofs::Refusing::with_refusals))]
 fn schema_of<M: Maker>(
     alloc: Global,
     contents: &Contents,

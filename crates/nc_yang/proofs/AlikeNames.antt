@@ -3,13 +3,13 @@ use Rattle.std.proofs.Common.{inl, inr, ◌≡◌, ℕ, suc, List, [], ◌∷◌
 use Rattle.std.specs.Prelude.{Some, slice_get, Contains}
 use Rattle.nc_yang_words.specs.declared.statement.Statement.{Statement}
 use Rattle.nc_yang_order.proofs.Lists.{contains_none}
-use Rattle.nc_yang_loops.proofs.Lists.{contains_cases, contains_first, contains_later}
+use Rattle.nc_yang_scopes.proofs.LinkLists.{contains_cases, contains_first, contains_later}
 use Rattle.nc_yang_scopes.specs.Numbers.{AreNumbers}
 use Rattle.nc_yang_scopes.specs.Scopes.{Located, Scoping}
 use Rattle.nc_yang_nodes.specs.Roles.{FeatureTest}
-use Rattle.nc_yang_identities.specs.Identities.{identities}
-use Rattle.nc_yang_identities.specs.Picks.{Picks, none, passed, picked}
-use Rattle.nc_yang_identities.specs.Values.{IsUnder, IsValue}
+use Rattle.nc_yang_nodes.specs.Identities.{identities}
+use Rattle.nc_yang_nodes.specs.Picks.{Picks, none, passed, picked}
+use Rattle.nc_yang_nodes.specs.Values.{IsUnder, IsValue}
 use Rattle.nc_yang_leafs.specs.Named.{AreAlike, NameOne, NameSame, identity_of}
 use Rattle.nc_yang.specs.Schemas.{AreNames}
 

@@ -13,10 +13,10 @@ use Rattle.nc_yang_scopes.specs.Scopes.{Located}
 use Rattle.nc_yang_types.specs.declared.bound.Counted.TheVariants.{Units, Lengths}
 use Rattle.nc_yang_types.specs.declared.member.Named.{Named}
 use Rattle.nc_yang_types.specs.Entries.{decimal, decimals, digits_of, integers, lengths, listing_of, names_left, narrowed, own, required, restricted}
-use Rattle.nc_yang_meanings.specs.Features.{stands}
-use Rattle.nc_yang_meanings.specs.Meanings.{DerivedFrom, Entry, Meaning, Means, OneOf, Refers, by_itself, in_text, meant, of_access, over, said, with_parts}
-use Rattle.nc_yang_meanings.specs.Places.{part_of, parts_of}
-use Rattle.nc_yang_defaults.proofs.AlikeLemmas.{has_others}
+use Rattle.nc_yang_types.specs.Features.{stands}
+use Rattle.nc_yang_types.specs.Meanings.{DerivedFrom, Entry, Meaning, Means, OneOf, Refers, by_itself, in_text, meant, of_access, over, said, with_parts}
+use Rattle.nc_yang_types.specs.Places.{part_of, parts_of}
+use Rattle.nc_yang_leafs.proofs.AlikeLemmas.{has_others}
 
 abbrev pub IsAlone : Meaning → Type 0
 IsAlone (Entry entry patterns names) = has_others entry ≡ false

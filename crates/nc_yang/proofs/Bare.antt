@@ -7,7 +7,7 @@ use Rattle.nc_yang_nodes.specs.declared.planned.Plan.{Plan}
 use Rattle.nc_yang_leafs.specs.Patterns.{HasPatterns}
 use Rattle.nc_yang_leafs.specs.declared.bare.Typed.{Typed}
 use Rattle.nc_yang_leafs.proofs.PatternLemmas.{patterns_left_out, stated_typed, with_patterns_typed}
-use Rattle.nc_yang_defaults.specs.Defaults.{KeepsDefaults}
+use Rattle.nc_yang_leafs.specs.Defaults.{KeepsDefaults}
 use Rattle.nc_yang.specs.Depths.{KeepsDepth}
 use Rattle.nc_yang.specs.Schemas.{AreNames, IsBareOf, basis_of}
 use Rattle.nc_yang.specs.inner.Judged.{HasBare}

@@ -9,7 +9,7 @@ use Rattle.nc_schema.specs.Values.{Givers, Gives, text_in_type, type_of, type_te
 use Rattle.nc_schema.specs.declared.value_type.ValueType.{ValueType}
 use Rattle.nc_schema.specs.declared.value_type.ValueType.TheVariants.{Union, Leafref}
 use Rattle.nc_yang_order.proofs.Lists.{contains_none}
-use Rattle.nc_yang_loops.proofs.Lists.{contains_cases, contains_first, contains_later}
+use Rattle.nc_yang_scopes.proofs.LinkLists.{contains_cases, contains_first, contains_later}
 use Rattle.nc_yang.proofs.Lists.{without}
 
 -- the type of a number asks that of another

@@ -9,9 +9,9 @@ use Rattle.nc_yang_statements.specs.declared.fault.ModuleWhy.TheVariants.{Loop}
 use Rattle.nc_yang_statements.specs.Statements.{below, line}
 use Rattle.nc_yang_scopes.specs.Scopes.{Located, Place, child, inside as inside_of}
 use Rattle.nc_yang_scopes.specs.Names.{StandsIn, inside, itself}
-use Rattle.nc_yang_loops.specs.declared.kinds.Defined.{Defined}
-use Rattle.nc_yang_loops.specs.Loops.{IsDefinition, KeepsLoops, Names, Reaches, itself as arrived, through}
-use Rattle.nc_yang_loops.proofs.Lists.{contains_first, contains_later}
+use Rattle.nc_yang_scopes.specs.declared.kinds.Defined.{Defined}
+use Rattle.nc_yang_scopes.specs.Loops.{IsDefinition, KeepsLoops, Names, Reaches, itself as arrived, through}
+use Rattle.nc_yang_scopes.proofs.LinkLists.{contains_first, contains_later}
 use Rattle.nc_yang.proofs.Lists.{without}
 use Rattle.nc_yang.proofs.Looked.{child_of, lay, root_of}
 use Rattle.nc_yang.proofs.Trees.{tree}

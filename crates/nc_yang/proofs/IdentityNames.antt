@@ -16,16 +16,16 @@ use Rattle.nc_yang_statements.specs.Arguments.{why_misfit}
 use Rattle.nc_yang_statements.specs.Keywords.{is_same_keyword}
 use Rattle.nc_yang_statements.specs.Statements.{argument, below, kind, name, text_or_nothing}
 use Rattle.nc_yang_statements.proofs.Tags.{same_keyword}
-use Rattle.nc_yang_loops.proofs.Lists.{contains_first, contains_filter, contains_get, contains_later, contains_map}
+use Rattle.nc_yang_scopes.proofs.LinkLists.{contains_first, contains_filter, contains_get, contains_later, contains_map}
 use Rattle.nc_yang_order.proofs.Lists.{contains_none}
 use Rattle.nc_yang_scopes.specs.Parts.{in_it, parts_of}
 use Rattle.nc_yang_scopes.specs.Prefixes.{namespace_at, namespace_in}
 use Rattle.nc_yang_scopes.specs.Scopes.{Located, Scoping}
 use Rattle.nc_yang_nodes.specs.Roles.{FeatureTest}
-use Rattle.nc_yang_texts.specs.Rules.{KeepsTexts}
-use Rattle.nc_yang_identities.specs.Identities.{defined_in, identities}
-use Rattle.nc_yang_identities.specs.Picks.{Picks, none, passed as left, picked}
-use Rattle.nc_yang_identities.specs.Values.{IsValue}
+use Rattle.nc_yang.specs.Rules.{KeepsTexts}
+use Rattle.nc_yang_nodes.specs.Identities.{defined_in, identities}
+use Rattle.nc_yang_nodes.specs.Picks.{Picks, none, passed as left, picked}
+use Rattle.nc_yang_nodes.specs.Values.{IsValue}
 use Rattle.nc_yang_data.specs.Modules.{module_of, modules_from}
 use Rattle.nc_yang.specs.Schemas.{AreNames, identity_name}
 use Rattle.nc_yang.proofs.Lists.{contained_passes, flat_origin}

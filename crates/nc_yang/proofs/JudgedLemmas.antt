@@ -10,16 +10,16 @@ use Rattle.nc_yang_scopes.specs.Numbers.{AreNumbers, IsNumber}
 use Rattle.nc_yang_scopes.specs.Parts.{part_of}
 use Rattle.nc_yang_scopes.specs.Scopes.{Located, Scoping, root}
 use Rattle.nc_yang_scopes.proofs.Lists.{past_end}
-use Rattle.nc_yang_identities.specs.inner.Marks.{Tells}
-use Rattle.nc_yang_meanings.specs.Faults.{is_reference}
-use Rattle.nc_yang_meanings.specs.Meanings.{DerivedFrom, Entry, Meaning, Means, OneOf, Refers}
-use Rattle.nc_yang_meanings.specs.Plans.{AreMeanings, IsFinding, IsPlan}
-use Rattle.nc_yang_meanings.specs.declared.planned.Finding.{Finding}
-use Rattle.nc_yang_meanings.specs.declared.planned.Finding.TheVariants.{Broken, Nothing, Plan}
-use Rattle.nc_yang_meanings.specs.declared.planned.Meanings.{Meanings}
-use Rattle.nc_yang_meanings.specs.declared.planned.Planned.{Planned}
-use Rattle.nc_yang_meanings.specs.declared.planned.Planned.TheVariants.{Bases, Finished, Leafref, Members}
-use Rattle.nc_yang_meanings.proofs.MeaningLemmas.{means_one}
+use Rattle.nc_yang_nodes.specs.inner.Marks.{Tells}
+use Rattle.nc_yang_types.specs.Faults.{is_reference}
+use Rattle.nc_yang_types.specs.Meanings.{DerivedFrom, Entry, Meaning, Means, OneOf, Refers}
+use Rattle.nc_yang_types.specs.Plans.{AreMeanings, IsFinding, IsPlan}
+use Rattle.nc_yang_types.specs.declared.planned.Finding.{Finding}
+use Rattle.nc_yang_types.specs.declared.planned.Finding.TheVariants.{Broken, Nothing, Plan}
+use Rattle.nc_yang_types.specs.declared.planned.Meanings.{Meanings}
+use Rattle.nc_yang_types.specs.declared.planned.Planned.{Planned}
+use Rattle.nc_yang_types.specs.declared.planned.Planned.TheVariants.{Bases, Finished, Leafref, Members}
+use Rattle.nc_yang_types.proofs.MeaningLemmas.{means_one}
 use Rattle.nc_yang.specs.Typedefs.{HasPlainType, IsJudged, is_plain, typedefs_in, typedefs_within}
 use Rattle.nc_yang.specs.inner.Judged.{AddsTypedefs, has_default, is_plain_plan, means_plain, plain_by}
 

@@ -9,10 +9,10 @@ use Rattle.nc_schema.specs.declared.node.Node.{Node}
 use Rattle.nc_yang_order.proofs.Lists.{get_none}
 use Rattle.nc_yang_scopes.specs.Scopes.{Scoping}
 use Rattle.nc_yang_nodes.specs.declared.planned.Plan.{Plan}
-use Rattle.nc_yang_defaults.specs.Defaults.{HasDefaults}
-use Rattle.nc_yang_defaults.specs.Sources.{Defined}
-use Rattle.nc_yang_defaults.specs.Typed.{IsTyped as IsReady}
-use Rattle.nc_yang_defaults.proofs.OutcomeLemmas.{stated}
+use Rattle.nc_yang_leafs.specs.Defaults.{HasDefaults}
+use Rattle.nc_yang_leafs.specs.Sources.{Defined}
+use Rattle.nc_yang_leafs.specs.Typed.{IsTyped as IsReady}
+use Rattle.nc_yang_leafs.proofs.OutcomeLemmas.{stated}
 use Rattle.nc_yang.specs.Laws.{reference_at, reference_in}
 
 module _ (scoping : Scoping) (plan : Plan) (typed tables : Tables) (is : IsReady scoping plan typed) (has : HasDefaults scoping plan typed tables) where

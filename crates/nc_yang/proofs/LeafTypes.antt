@@ -10,21 +10,21 @@ use Rattle.nc_schema.specs.declared.node.Node.{Node}
 use Rattle.nc_schema.specs.declared.value_type.ValueType.{ValueType}
 use Rattle.nc_schema.specs.declared.value_type.ValueType.TheVariants.{Chars as String, Union, Leafref}
 use Rattle.nc_yang_order.proofs.Lists.{contains_none, contains_one, get_none}
-use Rattle.nc_yang_loops.specs.References.{fault_at}
-use Rattle.nc_yang_loops.proofs.Lists.{contains_cases, contains_first}
+use Rattle.nc_yang_scopes.specs.References.{fault_at}
+use Rattle.nc_yang_scopes.proofs.LinkLists.{contains_cases, contains_first}
 use Rattle.nc_yang_scopes.specs.Scopes.{Located}
 use Rattle.nc_yang_scopes.specs.declared.naming.TextFault.{TextFault}
 use Rattle.nc_yang_nodes.proofs.ListLemmas.{got}
-use Rattle.nc_yang_meanings.specs.Meanings.{DerivedFrom, Entry, Meaning, Means, OneOf, Refers as RefersTo}
-use Rattle.nc_yang_meanings.specs.Wholes.{UsesPath, itself as used, member as used_in, members_of}
-use Rattle.nc_yang_meanings.proofs.MeaningLemmas.{means_one}
+use Rattle.nc_yang_types.specs.Meanings.{DerivedFrom, Entry, Meaning, Means, OneOf, Refers as RefersTo}
+use Rattle.nc_yang_types.specs.Wholes.{UsesPath, itself as used, member as used_in, members_of}
+use Rattle.nc_yang_types.proofs.MeaningLemmas.{means_one}
 use Rattle.nc_yang_leafs.specs.Bases.{AllMeanWhole, Basis, leads, type_of}
 use Rattle.nc_yang_leafs.specs.Faults.{BreaksLeafref}
 use Rattle.nc_yang_leafs.specs.Typings.{HasItsType, HasType, HasTypes, HasTypings, IsEntry, IsPatterned, IsSameNode, none, numbers_of, one_more}
 use Rattle.nc_yang_leafs.proofs.ClosingLemmas.{IsOne}
-use Rattle.nc_yang_circles.specs.Circles.{HasNoCircle, Reaches, Refers, itself, through}
-use Rattle.nc_yang_defaults.proofs.AlikeLemmas.{IsPair, has_others, path_tables}
-use Rattle.nc_yang_defaults.proofs.BareLemmas.{bare_by}
+use Rattle.nc_yang_leafs.specs.Circles.{HasNoCircle, Reaches, Refers, itself, through}
+use Rattle.nc_yang_leafs.proofs.AlikeLemmas.{IsPair, has_others, path_tables}
+use Rattle.nc_yang_leafs.proofs.BareLemmas.{bare_by}
 use Rattle.nc_yang.proofs.Alone.{IsAlone, means_alone}
 use Rattle.nc_yang.proofs.Chains.{Asks, Ends, ends, member, places, target}
 use Rattle.nc_yang.proofs.Lists.{without}

@@ -38,3 +38,7 @@ pub mod TextReasons
 pub mod TypeReasons
 pub mod Reasons
 pub mod Worked
+mod Utf8
+mod TextReading
+pub mod OneWay
+mod Ruling

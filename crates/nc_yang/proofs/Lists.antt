@@ -4,7 +4,7 @@ use Rattle.std.specs.Prelude.{Option, Some, None, slice_get, option_map, filter,
 use Rattle.std.specs.List.{flat_map}
 use Rattle.std.proofs.lemmas.List.Elements.{Contains-append_cases, Contains-append_left, Contains-append_right, filter_passes}
 use Rattle.nc_yang_order.proofs.Lists.{contains_none}
-use Rattle.nc_yang_loops.proofs.Lists.{contains_cases, contains_first, contains_later}
+use Rattle.nc_yang_scopes.proofs.LinkLists.{contains_cases, contains_first, contains_later}
 
 -- what is found stands there and passes
 pub find_there : {A : Type 0} (test : A → Bool) (xs : List A) (x : A) → find test xs ≡ Some x → (i : ℕ) × (slice_get xs i ≡ Some x) × (test x ≡ true)

@@ -21,9 +21,9 @@ use Rattle.nc_yang_statements.proofs.Tags.{same_keyword}
 use Rattle.nc_yang_order.proofs.Lists.{contains_at}
 use Rattle.nc_yang_scopes.specs.Scopes.{Located, Place, child, defines, found, found_in, has_colon, inside as inside_of, local_of, prefix_of, resolved, root, text_of_prefix, top}
 use Rattle.nc_yang_scopes.specs.Names.{StandsIn, inside, is_nameless, itself}
-use Rattle.nc_yang_loops.specs.declared.kinds.Defined.TheVariants.{Typedefs}
-use Rattle.nc_yang_loops.specs.Loops.{IsDefinition, typedef_of}
-use Rattle.nc_yang_texts.specs.Rules.{KeepsTexts, alone, misnamed as bad_names}
+use Rattle.nc_yang_scopes.specs.declared.kinds.Defined.TheVariants.{Typedefs}
+use Rattle.nc_yang_scopes.specs.Loops.{IsDefinition, typedef_of}
+use Rattle.nc_yang.specs.Rules.{KeepsTexts, alone, misnamed as bad_names}
 use Rattle.nc_yang.proofs.Lists.{find_there, flat_contains}
 
 -- it stands in a text, and in no statement that is passed over

@@ -19,20 +19,20 @@ use Rattle.nc_yang_statements.proofs.Tags.{same_keyword}
 use Rattle.nc_yang_order.proofs.Lists.{contains_none}
 use Rattle.nc_yang_scopes.specs.Scopes.{Located, Place, inside as inside_of, resolved}
 use Rattle.nc_yang_scopes.specs.Names.{StandsIn, itself}
-use Rattle.nc_yang_loops.specs.declared.kinds.Defined.TheVariants.{Typedefs}
-use Rattle.nc_yang_loops.specs.Loops.{IsDefinition, Names, typedef_of}
-use Rattle.nc_yang_loops.proofs.Lists.{contains_cases, contains_filter, contains_get, contains_map}
-use Rattle.nc_yang_texts.specs.Rules.{KeepsTexts, looping}
+use Rattle.nc_yang_scopes.specs.declared.kinds.Defined.TheVariants.{Typedefs}
+use Rattle.nc_yang_scopes.specs.Loops.{IsDefinition, Names, typedef_of}
+use Rattle.nc_yang_scopes.proofs.LinkLists.{contains_cases, contains_filter, contains_get, contains_map}
+use Rattle.nc_yang.specs.Rules.{KeepsTexts, looping}
 use Rattle.nc_yang_types.specs.declared.member.Named.{Named}
 use Rattle.nc_yang_types.specs.Entries.{listing_of, misused, names_left, narrowed, narrowed_faults, own, own_faults, required}
 use Rattle.nc_yang_types.specs.Parts.{foreign, lacking, misshapen}
 use Rattle.nc_yang_types.specs.Patterns.{ill_patterns}
 use Rattle.nc_yang_types.proofs.LawLemmas.{narrowed_gives, own_gives}
-use Rattle.nc_yang_meanings.specs.Faults.{KeepsTypes}
-use Rattle.nc_yang_meanings.specs.Features.{stands}
-use Rattle.nc_yang_meanings.specs.Meanings.{Breaks, DerivedFrom, Entry, Meaning, OneOf, Refers, by_itself, in_itself, in_text, meant, names_of, of_access, over, over_base, said, shape, with_parts}
-use Rattle.nc_yang_meanings.specs.Places.{base_of, built_in, in_it, of_typedef, part_of, parts_of}
-use Rattle.nc_yang_meanings.specs.Wholes.{MeansWhole, members_of, whole}
+use Rattle.nc_yang_types.specs.Faults.{KeepsTypes}
+use Rattle.nc_yang_types.specs.Features.{stands}
+use Rattle.nc_yang_types.specs.Meanings.{Breaks, DerivedFrom, Entry, Meaning, OneOf, Refers, by_itself, in_itself, in_text, meant, names_of, of_access, over, over_base, said, shape, with_parts}
+use Rattle.nc_yang_types.specs.Places.{base_of, built_in, in_it, of_typedef, part_of, parts_of}
+use Rattle.nc_yang_types.specs.Wholes.{MeansWhole, members_of, whole}
 use Rattle.nc_yang.specs.Laws.{TypesMean}
 use Rattle.nc_yang.proofs.Lists.{empty_left, empty_right, find_there, none_there}
 use Rattle.nc_yang.proofs.Looked.{Looked, deeper, directly, has_part, looked_deeper, looked_in, named_defined, put, type_named, typedef_type}

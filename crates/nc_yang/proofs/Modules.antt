@@ -24,14 +24,14 @@ use Rattle.nc_yang_statements.specs.Rules.{at, broken, faulty_below, misfit, why
 use Rattle.nc_yang_statements.specs.Statements.{argument, below, kind, line, name, part, text_or_nothing}
 use Rattle.nc_yang_statements.proofs.Tags.{same_keyword}
 use Rattle.nc_yang_order.proofs.Lists.{contains_none}
-use Rattle.nc_yang_loops.proofs.Lists.{contains_cases, contains_first}
+use Rattle.nc_yang_scopes.proofs.LinkLists.{contains_cases, contains_first}
 use Rattle.nc_yang_scopes.specs.declared.modules.Title.{Title}
 use Rattle.nc_yang_scopes.specs.declared.modules.Title.TheVariants.{OfName, OfNamespace}
 use Rattle.nc_yang_scopes.specs.declared.naming.TextFault.{TextFault}
 use Rattle.nc_yang_scopes.specs.Modules.{has_title, is_second, seconds, title_of, twins}
 use Rattle.nc_yang_scopes.specs.Prefixes.{namespace_in}
 use Rattle.nc_yang_nodes.specs.Roles.{FeatureTest}
-use Rattle.nc_yang_texts.specs.Rules.{KeepsTexts, alone, twin}
+use Rattle.nc_yang.specs.Rules.{KeepsTexts, alone, twin}
 use Rattle.nc_yang_data.specs.Modules.{module_of, modules_from}
 use Rattle.nc_yang.specs.Laws.{ModulesAreProper}
 use Rattle.nc_yang.proofs.Lists.{empty_left, empty_right, find_there, none_there}

@@ -13,7 +13,7 @@ use Rattle.nc_yang_scopes.specs.Prefixes.{namespace_at, namespace_in}
 use Rattle.nc_yang_scopes.specs.Scopes.{Located, Scoping}
 use Rattle.nc_yang_scopes.proofs.Lists.{take_next}
 use Rattle.nc_yang_nodes.specs.Roles.{FeatureTest}
-use Rattle.nc_yang_identities.specs.Values.{AreDerivedNumbers}
+use Rattle.nc_yang_nodes.specs.Values.{AreDerivedNumbers}
 use Rattle.nc_yang.specs.Schemas.{AreNames, identity_name}
 use Rattle.nc_yang.specs.inner.Names.{name_at}
 

@@ -14,8 +14,8 @@ use Rattle.nc_yang_order.proofs.Lists.{contains_none}
 use Rattle.nc_yang_scopes.specs.Scopes.{Located, Scoping}
 use Rattle.nc_yang_scopes.specs.declared.naming.TextFault.{TextFault}
 use Rattle.nc_yang_scopes.proofs.Scopings.{one_scoping}
-use Rattle.nc_yang_texts.specs.Rules.{BreaksText, KeepsTexts}
-use Rattle.nc_yang_texts.specs.declared.text.ModuleText.{ModuleText}
+use Rattle.nc_yang.specs.Rules.{BreaksText, KeepsTexts}
+use Rattle.nc_yang.specs.declared.text.ModuleText.{ModuleText}
 use Rattle.nc_yang_nodes.specs.Plans.{IsPlan}
 use Rattle.nc_yang_nodes.specs.Roles.{FeatureTest}
 use Rattle.nc_yang_nodes.specs.Supported.{AreOn}
@@ -23,22 +23,22 @@ use Rattle.nc_yang_nodes.specs.declared.planned.Plan.{Plan}
 use Rattle.nc_yang_nodes.specs.Alike.{AreAlike}
 use Rattle.nc_yang_nodes.proofs.Alike.{plans_alike}
 use Rattle.nc_yang_nodes.proofs.Lawful.{no_fault}
-use Rattle.nc_yang_identities.specs.Picks.{Picks, none, passed, picked}
-use Rattle.nc_yang_identities.specs.Identities.{identities}
-use Rattle.nc_yang_identities.specs.Values.{IsValue}
-use Rattle.nc_yang_identities.proofs.PickLemmas.{first_of}
+use Rattle.nc_yang_nodes.specs.Picks.{Picks, none, passed, picked}
+use Rattle.nc_yang_nodes.specs.Identities.{identities}
+use Rattle.nc_yang_nodes.specs.Values.{IsValue}
+use Rattle.nc_yang_nodes.proofs.PickLemmas.{first_of}
 use Rattle.nc_yang_data.specs.Data.{data_faults, data_tables}
 use Rattle.nc_yang_data.proofs.AlikeLemmas.{faults_alike, tables_alike}
-use Rattle.nc_yang_meanings.specs.Faults.{KeepsTypes}
+use Rattle.nc_yang_types.specs.Faults.{KeepsTypes}
 use Rattle.nc_yang_leafs.specs.Bases.{AllMeanWhole, Basis, type_of}
 use Rattle.nc_yang_leafs.specs.Conditions.{holds}
 use Rattle.nc_yang_leafs.specs.Patterns.{without_patterns}
 use Rattle.nc_yang_leafs.specs.Typings.{HasTypings, IsTyped, NameEach}
 use Rattle.nc_yang_leafs.proofs.PatternLemmas.{NamesNone, bare_typings}
-use Rattle.nc_yang_circles.specs.Circles.{HasNoCircle}
-use Rattle.nc_yang_defaults.specs.Defaults.{BreaksDefault, KeepsDefaults}
-use Rattle.nc_yang_defaults.specs.Readings.{value_of}
-use Rattle.nc_yang_defaults.proofs.AlikeLemmas.{TakesAlike, canonical_alike, defaults_kept, keep_alike, path_tables, value_alike}
+use Rattle.nc_yang_leafs.specs.Circles.{HasNoCircle}
+use Rattle.nc_yang_leafs.specs.Defaults.{BreaksDefault, KeepsDefaults}
+use Rattle.nc_yang_leafs.specs.Readings.{value_of}
+use Rattle.nc_yang_leafs.proofs.AlikeLemmas.{TakesAlike, canonical_alike, defaults_kept, keep_alike, path_tables, value_alike}
 use Rattle.nc_yang.specs.Access.{in_file}
 use Rattle.nc_yang.specs.Depths.{BreaksDepth, KeepsDepth, depth_fault, too_deep_at}
 use Rattle.nc_yang.specs.Features.{is_given}

@@ -3,20 +3,20 @@ use Rattle.std.proofs.Common.{◌≡◌, ℕ, List, sym, subst, ◌∙◌}
 use Rattle.nc_schema.specs.Tables.{Tables}
 use Rattle.nc_yang_scopes.specs.Scopes.{Scoping}
 use Rattle.nc_yang_scopes.proofs.Scopings.{one_scoping}
-use Rattle.nc_yang_texts.specs.Rules.{KeepsTexts}
-use Rattle.nc_yang_texts.specs.declared.text.ModuleText.{ModuleText}
+use Rattle.nc_yang.specs.Rules.{KeepsTexts}
+use Rattle.nc_yang.specs.declared.text.ModuleText.{ModuleText}
 use Rattle.nc_yang_nodes.specs.Plans.{IsPlan}
 use Rattle.nc_yang_nodes.specs.Roles.{FeatureTest}
 use Rattle.nc_yang_nodes.specs.declared.planned.Plan.{Plan}
 use Rattle.nc_yang_nodes.proofs.Alike.{plans_alike}
 use Rattle.nc_yang_data.specs.Data.{data_tables}
 use Rattle.nc_yang_data.proofs.AlikeLemmas.{tables_alike}
-use Rattle.nc_yang_meanings.specs.Faults.{KeepsTypes}
+use Rattle.nc_yang_types.specs.Faults.{KeepsTypes}
 use Rattle.nc_yang_leafs.specs.Bases.{AllMeanWhole}
 use Rattle.nc_yang_leafs.specs.Conditions.{holds}
 use Rattle.nc_yang_leafs.specs.Typings.{IsTyped, NameEach}
-use Rattle.nc_yang_defaults.proofs.AlikeLemmas.{outcomes_alike}
-use Rattle.nc_yang_defaults.proofs.OutcomeLemmas.{canonical_kept}
+use Rattle.nc_yang_leafs.proofs.AlikeLemmas.{outcomes_alike}
+use Rattle.nc_yang_leafs.proofs.OutcomeLemmas.{canonical_kept}
 use Rattle.nc_yang.specs.Features.{is_given}
 use Rattle.nc_yang.specs.Laws.{AreOneSchema, OneSchema}
 use Rattle.nc_yang.specs.Schemas.{AreNames, Defines, GivesSchema, IsBegun, IsSchemaOf, basis}

@@ -13,11 +13,11 @@ use Rattle.nc_yang_statements.proofs.Firsts.{first_contains}
 use Rattle.nc_yang_scopes.specs.Numbers.{IsScoping}
 use Rattle.nc_yang_scopes.specs.Scopes.{Scoping}
 use Rattle.nc_yang_scopes.specs.declared.naming.TextFault.{TextFault}
-use Rattle.nc_yang_texts.specs.Rules.{BreaksText, KeepsTexts}
-use Rattle.nc_yang_texts.specs.Texts.{IsUnread, OnModule}
-use Rattle.nc_yang_texts.specs.declared.fault.CompileFault.{CompileFault}
-use Rattle.nc_yang_texts.specs.declared.fault.CompileFault.TheVariants.{Module, Memory as NoMemory}
-use Rattle.nc_yang_texts.specs.declared.text.ModuleText.{ModuleText}
+use Rattle.nc_yang.specs.Rules.{BreaksText, KeepsTexts}
+use Rattle.nc_yang.specs.Texts.{IsUnread, OnModule}
+use Rattle.nc_yang.specs.declared.fault.CompileFault.{CompileFault}
+use Rattle.nc_yang.specs.declared.fault.CompileFault.TheVariants.{Module, Memory as NoMemory}
+use Rattle.nc_yang.specs.declared.text.ModuleText.{ModuleText}
 use Rattle.nc_yang_nodes.specs.FeaturesOn.{is_on}
 use Rattle.nc_yang_nodes.specs.Plans.{IsFirstPast, IsPlan}
 use Rattle.nc_yang_nodes.specs.Roles.{FeatureTest}
@@ -25,16 +25,16 @@ use Rattle.nc_yang_nodes.specs.Supported.{AreOn}
 use Rattle.nc_yang_nodes.specs.declared.features.Features.{Features}
 use Rattle.nc_yang_nodes.specs.declared.planned.Plan.{Plan}
 use Rattle.nc_yang_data.specs.Data.{data_faults, data_tables}
-use Rattle.nc_yang_meanings.specs.Faults.{BreaksTypes, KeepsTypes}
+use Rattle.nc_yang_types.specs.Faults.{BreaksTypes, KeepsTypes}
 use Rattle.nc_yang_leafs.specs.Bases.{AllMeanWhole}
 use Rattle.nc_yang_leafs.specs.Conditions.{holds}
 use Rattle.nc_yang_leafs.specs.Faults.{BreaksLeafref}
 use Rattle.nc_yang_leafs.specs.Patterns.{AreTypings, HasPatterns, Refusals, RefusesType}
 use Rattle.nc_yang_leafs.specs.declared.bare.Typed.{Typed}
 use Rattle.nc_yang_leafs.proofs.PatternLemmas.{refused_in_use, stated_typed}
-use Rattle.nc_yang_circles.specs.Circles.{BreaksCircle, HasNoCircle}
-use Rattle.nc_yang_defaults.specs.Defaults.{BreaksDefault, HasDefaults, KeepsDefaults}
-use Rattle.nc_yang_defaults.specs.Typed.{IsTyped as IsReady}
+use Rattle.nc_yang_leafs.specs.Circles.{BreaksCircle, HasNoCircle}
+use Rattle.nc_yang_leafs.specs.Defaults.{BreaksDefault, HasDefaults, KeepsDefaults}
+use Rattle.nc_yang_leafs.specs.Typed.{IsTyped as IsReady}
 use Rattle.nc_yang.specs.Access.{HaveStatements, in_file}
 use Rattle.nc_yang.specs.Depths.{BreaksDepth, KeepsDepth}
 use Rattle.nc_yang.specs.Features.{is_given}
@@ -214,11 +214,11 @@ begins modules lines scoping on roots same read keeps numbers features = record 
   features = features;
 }
 
-pub schema_stops : (modules : List ModuleText) (lines : List (List ℕ)) (refusals : Refusals) (scoping : Scoping) (on : FeatureTest) → IsBegun modules lines scoping on
+pub begun_stops : (modules : List ModuleText) (lines : List (List ℕ)) (refusals : Refusals) (scoping : Scoping) (on : FeatureTest) → IsBegun modules lines scoping on
     → (stop : Stop TextFault) → OnBroken (GivesNothing scoping on refusals) stop → OnBroken (OnFile (GivesNone modules lines refusals)) stop
-schema_stops modules lines refusals scoping on begun (Broken found) (inl h) = λ file is. inl (in_schema scoping on file found.fault begun (subst (BreaksSchema scoping on) is h))
-schema_stops modules lines refusals scoping on begun (Broken found) (inr h) = λ file is. inr (record { scoping = scoping; on = on; begun = begun; refuses = subst (RefusesSchema scoping on refusals) is h })
-schema_stops modules lines refusals scoping on begun Memory h = tt
+begun_stops modules lines refusals scoping on begun (Broken found) (inl h) = λ file is. inl (in_schema scoping on file found.fault begun (subst (BreaksSchema scoping on) is h))
+begun_stops modules lines refusals scoping on begun (Broken found) (inr h) = λ file is. inr (record { scoping = scoping; on = on; begun = begun; refuses = subst (RefusesSchema scoping on refusals) is h })
+begun_stops modules lines refusals scoping on begun Memory h = tt
 
 -- ---- of files
 pub unread_stops : (modules : List ModuleText) (lines : List (List ℕ)) (refusals : Refusals) (fault : CompileFault) → OnModule (IsUnread modules) fault → OnModule (GivesNone modules lines refusals) fault

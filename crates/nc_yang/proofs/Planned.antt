@@ -16,9 +16,9 @@ use Rattle.nc_yang_nodes.specs.declared.planned.Plan.{Plan}
 use Rattle.nc_yang_nodes.specs.Plans.{IsPlan, statement_of}
 use Rattle.nc_yang_nodes.specs.Roles.{FeatureTest, children}
 use Rattle.nc_yang_nodes.proofs.Followed.{AreAll, planned_are}
-use Rattle.nc_yang_texts.specs.Rules.{KeepsTexts}
-use Rattle.nc_yang_meanings.specs.Faults.{KeepsTypes}
-use Rattle.nc_yang_meanings.specs.Wholes.{MeansWhole}
+use Rattle.nc_yang.specs.Rules.{KeepsTexts}
+use Rattle.nc_yang_types.specs.Faults.{KeepsTypes}
+use Rattle.nc_yang_types.specs.Wholes.{MeansWhole}
 use Rattle.nc_yang.specs.Laws.{PlannedTypesMean, has_type}
 use Rattle.nc_yang.proofs.Lists.{find_there, mapped}
 use Rattle.nc_yang.proofs.Looked.{Looked, around, has_needed, has_part, looked_in, module_open, put, resolved_looked, root_of, types_key}

@@ -11,22 +11,22 @@ use Rattle.nc_yang_scopes.proofs.Lists.{get_within}
 use Rattle.nc_yang_nodes.specs.Plans.{IsPlan, statement_of}
 use Rattle.nc_yang_nodes.specs.Roles.{FeatureTest}
 use Rattle.nc_yang_nodes.specs.declared.planned.Plan.{Plan}
-use Rattle.nc_yang_texts.specs.Rules.{KeepsTexts}
-use Rattle.nc_yang_texts.specs.Texts.{OnModule}
-use Rattle.nc_yang_texts.specs.declared.fault.CompileFault.{CompileFault}
-use Rattle.nc_yang_texts.specs.declared.text.ModuleText.{ModuleText}
+use Rattle.nc_yang.specs.Rules.{KeepsTexts}
+use Rattle.nc_yang.specs.Texts.{OnModule}
+use Rattle.nc_yang.specs.declared.fault.CompileFault.{CompileFault}
+use Rattle.nc_yang.specs.declared.text.ModuleText.{ModuleText}
 use Rattle.nc_yang_data.specs.Data.{data_tables}
 use Rattle.nc_yang_data.proofs.Lawful.{in_place}
-use Rattle.nc_yang_meanings.specs.Faults.{KeepsTypes}
+use Rattle.nc_yang_types.specs.Faults.{KeepsTypes}
 use Rattle.nc_yang_leafs.specs.Bases.{AllMeanWhole}
 use Rattle.nc_yang_leafs.specs.Conditions.{holds}
 use Rattle.nc_yang_leafs.specs.Patterns.{Refusals}
 use Rattle.nc_yang_leafs.specs.Typings.{HasItsType, IsSameNode, IsTyped, NameEach}
 use Rattle.nc_yang_leafs.proofs.ProperLemmas.{types_are_proper}
-use Rattle.nc_yang_defaults.specs.Defaults.{HasDefaults, HasItsDefault}
-use Rattle.nc_yang_defaults.specs.Typed.{IsTyped as IsReady}
-use Rattle.nc_yang_defaults.proofs.LawLemmas.{has_one}
-use Rattle.nc_yang_defaults.proofs.OutcomeLemmas.{outcome_canonical}
+use Rattle.nc_yang_leafs.specs.Defaults.{HasDefaults, HasItsDefault}
+use Rattle.nc_yang_leafs.specs.Typed.{IsTyped as IsReady}
+use Rattle.nc_yang_leafs.proofs.LawLemmas.{has_one}
+use Rattle.nc_yang_leafs.proofs.OutcomeLemmas.{outcome_canonical}
 use Rattle.nc_yang.specs.Laws.{DefaultsAreCanonical, HasCanonicalDefaults, SchemasAreProper}
 use Rattle.nc_yang.specs.Schemas.{AreNames, Defines, GivesNone, IsCompiled, IsSchemaOf, basis}
 use Rattle.nc_yang.specs.declared.texts.Compilation.{Compilation}

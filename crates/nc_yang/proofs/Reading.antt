@@ -4,9 +4,9 @@ use Rattle.std.specs.Str.{chars}
 use Rattle.nc_yang_words.proofs.Exact.{one_tree}
 use Rattle.nc_yang_words.specs.declared.statement.Statement.{Statement}
 use Rattle.nc_yang_statements.specs.declared.fault.Fault.{Fault}
-use Rattle.nc_yang_texts.specs.Texts.{IsUnread}
-use Rattle.nc_yang_texts.specs.declared.text.ModuleText.{ModuleText}
-use Rattle.nc_yang_texts.proofs.OneWay.{read_one_way, read_or_faulty}
+use Rattle.nc_yang.specs.Texts.{IsUnread}
+use Rattle.nc_yang.specs.declared.text.ModuleText.{ModuleText}
+use Rattle.nc_yang.proofs.OneWay.{read_one_way, read_or_faulty}
 use Rattle.nc_yang.specs.Access.{HaveStatements, access_yang}
 
 pub have_one_way : (modules : List ModuleText) (one other : List Statement) → HaveStatements modules one → HaveStatements modules other → one ≡ other

@@ -23,16 +23,16 @@ use Rattle.nc_yang_nodes.proofs.Sound.{plan_is_sound}
 use Rattle.nc_yang_data.specs.Data.{data_tables, drafts, node_at, nodes_from}
 use Rattle.nc_yang_data.specs.Leafs.{CaseTest, names_case}
 use Rattle.nc_yang_data.specs.Drafts.{draft_at, draft_in, unknown_in}
-use Rattle.nc_yang_meanings.specs.Meanings.{Meaning, Means}
-use Rattle.nc_yang_meanings.specs.Wholes.{MeansWhole, whole}
+use Rattle.nc_yang_types.specs.Meanings.{Meaning, Means}
+use Rattle.nc_yang_types.specs.Wholes.{MeansWhole, whole}
 use Rattle.nc_yang_leafs.specs.Bases.{AllMeanWhole}
 use Rattle.nc_yang_leafs.specs.Conditions.{holds}
 use Rattle.nc_yang_leafs.specs.declared.bare.Typed.{Typed}
 use Rattle.nc_yang_leafs.specs.Patterns.{AreTypings}
 use Rattle.nc_yang_leafs.specs.Typings.{HasItsType, HasTypings, IsSameNode}
 use Rattle.nc_yang_scopes.specs.Numbers.{AreNumbers}
-use Rattle.nc_yang_defaults.specs.Sources.{Defined, IsDefined}
-use Rattle.nc_yang_defaults.specs.Typed.{HasMeaning, IsTyped as IsReady}
+use Rattle.nc_yang_leafs.specs.Sources.{Defined, IsDefined}
+use Rattle.nc_yang_leafs.specs.Typed.{HasMeaning, IsTyped as IsReady}
 use Rattle.nc_yang.specs.Schemas.{basis, basis_of}
 
 -- what is so of all is so of each

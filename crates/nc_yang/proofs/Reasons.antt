@@ -11,19 +11,19 @@ use Rattle.nc_yang_statements.specs.declared.fault.ModuleWhy.TheVariants.{Patter
 use Rattle.nc_yang_statements.specs.Statements.{below}
 use Rattle.nc_yang_scopes.specs.Scopes.{Located, Scoping}
 use Rattle.nc_yang_scopes.specs.declared.naming.TextFault.{TextFault}
-use Rattle.nc_yang_texts.specs.Texts.{OnModule}
-use Rattle.nc_yang_texts.specs.declared.fault.CompileFault.{CompileFault}
-use Rattle.nc_yang_texts.specs.declared.fault.CompileFault.TheVariants.{Module, Memory as NoMemory}
-use Rattle.nc_yang_texts.specs.declared.text.ModuleText.{ModuleText}
+use Rattle.nc_yang.specs.Texts.{OnModule}
+use Rattle.nc_yang.specs.declared.fault.CompileFault.{CompileFault}
+use Rattle.nc_yang.specs.declared.fault.CompileFault.TheVariants.{Module, Memory as NoMemory}
+use Rattle.nc_yang.specs.declared.text.ModuleText.{ModuleText}
 use Rattle.nc_yang_nodes.specs.Roles.{FeatureTest}
 use Rattle.nc_yang_nodes.specs.declared.planned.Plan.{Plan}
 use Rattle.nc_yang_data.specs.Data.{data_faults, data_tables}
 use Rattle.nc_yang_types.specs.Entries.{narrowed_faults, own_faults}
-use Rattle.nc_yang_meanings.specs.Faults.{BreaksOne}
-use Rattle.nc_yang_meanings.specs.Meanings.{Breaks as BreaksParts, in_itself, names_of, over_base, shape}
+use Rattle.nc_yang_types.specs.Faults.{BreaksOne}
+use Rattle.nc_yang_types.specs.Meanings.{Breaks as BreaksParts, in_itself, names_of, over_base, shape}
 use Rattle.nc_yang_leafs.specs.Bases.{type_of}
 use Rattle.nc_yang_leafs.specs.Patterns.{Refusals, without_patterns}
-use Rattle.nc_yang_defaults.specs.Defaults.{IsBroken}
+use Rattle.nc_yang_leafs.specs.Defaults.{IsBroken}
 use Rattle.nc_yang.specs.Access.{in_file}
 use Rattle.nc_yang.specs.Depths.{is_too_deep, too_deep_at}
 use Rattle.nc_yang.specs.Schemas.{Breaks, BreaksBare, BreaksPlan, BreaksSchema, BreaksTypedefs, GivesNone, IsCompiled, by_pattern, by_types, circle, deep, default, ill_typed, in_place, in_plan, in_schema, leafref, of_typedef, past, suits_none, text, unadmitted, unread}

@@ -11,12 +11,12 @@ use Rattle.nc_schema.specs.declared.pattern.LeafrefEnd.{LeafrefEnd}
 use Rattle.nc_schema.specs.declared.value_type.ValueType.{ValueType}
 use Rattle.nc_schema.specs.declared.value_type.ValueType.TheVariants.{Chars as String, Identity, Leafref, Union}
 use Rattle.nc_yang_scopes.specs.Scopes.{Located}
-use Rattle.nc_yang_meanings.specs.Meanings.{DerivedFrom, Entry, Meaning, OneOf, Refers}
-use Rattle.nc_yang_meanings.specs.Wholes.{members_of}
-use Rattle.nc_yang_meanings.proofs.MeaningLemmas.{means_one}
+use Rattle.nc_yang_types.specs.Meanings.{DerivedFrom, Entry, Meaning, OneOf, Refers}
+use Rattle.nc_yang_types.specs.Wholes.{members_of}
+use Rattle.nc_yang_types.proofs.MeaningLemmas.{means_one}
 use Rattle.nc_yang_leafs.specs.Bases.{Basis, leads}
 use Rattle.nc_yang_leafs.specs.Typings.{HasType, IsEntry, IsPatterned, none, numbers_of, one_more}
-use Rattle.nc_yang_defaults.proofs.AlikeLemmas.{has_others, path_tables}
+use Rattle.nc_yang_leafs.proofs.AlikeLemmas.{has_others, path_tables}
 use Rattle.nc_yang.specs.Depths.{asks, is_too_deep, leads_through}
 use Rattle.nc_yang.proofs.Alone.{IsAlone, means_alone}
 use Rattle.nc_yang.proofs.LeafTypes.{Typed, head}

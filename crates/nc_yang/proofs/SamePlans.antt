@@ -16,8 +16,8 @@ use Rattle.nc_yang_nodes.proofs.Alike.{statements_alike}
 use Rattle.nc_yang_leafs.specs.Bases.{Basis, type_of}
 use Rattle.nc_yang_leafs.specs.Faults.{BreaksLeafref}
 use Rattle.nc_yang_leafs.specs.Typings.{HasItsType, HasTypings, IsInUse, IsOfType, IsSameNode}
-use Rattle.nc_yang_circles.specs.Circles.{BreaksCircle, HasPath, Reaches, Refers, itself, through}
-use Rattle.nc_yang_defaults.specs.Defaults.{BreaksDefault, HasDefaults, KeepsDefaults}
+use Rattle.nc_yang_leafs.specs.Circles.{BreaksCircle, HasPath, Reaches, Refers, itself, through}
+use Rattle.nc_yang_leafs.specs.Defaults.{BreaksDefault, HasDefaults, KeepsDefaults}
 use Rattle.nc_yang.specs.Depths.{BreaksDepth, is_too_deep, too_deep_at}
 
 some_more : {A : Type 0} (P Q : A → Type 0) (o : Option A) → ((x : A) → P x → Q x) → IsSomeAnd o P → IsSomeAnd o Q

@@ -13,15 +13,15 @@ use Rattle.nc_schema.specs.Values.{Givers, Gives, agrees, text_in_type, type_of 
 use Rattle.nc_schema.specs.declared.pattern.LeafrefEnd.{LeafrefEnd}
 use Rattle.nc_schema.specs.declared.value_type.ValueType.{ValueType}
 use Rattle.nc_schema.specs.declared.value_type.ValueType.TheVariants.{Chars as String, Identity, Leafref, Union}
-use Rattle.nc_yang_loops.proofs.Lists.{contains_first, contains_later}
+use Rattle.nc_yang_scopes.proofs.LinkLists.{contains_first, contains_later}
 use Rattle.nc_yang_scopes.specs.Scopes.{Located}
-use Rattle.nc_yang_meanings.specs.Meanings.{DerivedFrom, Entry, Meaning, OneOf, Refers}
-use Rattle.nc_yang_meanings.specs.Wholes.{members_of}
-use Rattle.nc_yang_meanings.proofs.MeaningLemmas.{means_one}
+use Rattle.nc_yang_types.specs.Meanings.{DerivedFrom, Entry, Meaning, OneOf, Refers}
+use Rattle.nc_yang_types.specs.Wholes.{members_of}
+use Rattle.nc_yang_types.proofs.MeaningLemmas.{means_one}
 use Rattle.nc_yang_leafs.specs.Bases.{Basis, leads}
 use Rattle.nc_yang_leafs.specs.Typings.{HasType, IsEntry, IsPatterned, none, numbers_of, one_more}
-use Rattle.nc_yang_defaults.specs.Readings.{has_whole, is_whole}
-use Rattle.nc_yang_defaults.proofs.AlikeLemmas.{alone_alike, has_others, path_tables, strings_alike}
+use Rattle.nc_yang_leafs.specs.Readings.{has_whole, is_whole}
+use Rattle.nc_yang_leafs.proofs.AlikeLemmas.{alone_alike, has_others, path_tables, strings_alike}
 use Rattle.nc_yang.specs.Laws.{reference_at, reference_in}
 use Rattle.nc_yang.proofs.Alone.{IsAlone, means_alone}
 use Rattle.nc_yang.proofs.Chains.{Asks, Clear, Ends, asked_is, clear_at_start, ends, further, member, next_clear, one_is_left, target}

@@ -17,7 +17,7 @@ use Rattle.nc_schema.specs.declared.node.Node.{Node}
 use Rattle.nc_schema.specs.declared.value_type.ValueType.{ValueType}
 use Rattle.nc_schema.specs.declared.value_type.ValueType.TheVariants.{Instance, Leafref}
 use Rattle.nc_schema.specs.declared.violation.Violation.{Violation}
-use Rattle.nc_yang_loops.proofs.Lists.{contains_first, contains_later}
+use Rattle.nc_yang_scopes.proofs.LinkLists.{contains_first, contains_later}
 use Rattle.nc_yang.specs.Laws.{AreOneSchema, SameViolations, reference_at, reference_in}
 use Rattle.nc_yang.proofs.One.{one_schema}
 use Rattle.nc_yang.proofs.SameTrees.{value_too}

@@ -16,16 +16,16 @@ use Rattle.nc_yang_nodes.specs.Roles.{FeatureTest}
 use Rattle.nc_yang_nodes.specs.declared.planned.Plan.{Plan}
 use Rattle.nc_yang_nodes.proofs.ListLemmas.{got}
 use Rattle.nc_yang_data.specs.Modules.{modules_from}
-use Rattle.nc_yang_texts.specs.Rules.{KeepsTexts}
-use Rattle.nc_yang_meanings.specs.Faults.{KeepsTypes}
+use Rattle.nc_yang.specs.Rules.{KeepsTexts}
+use Rattle.nc_yang_types.specs.Faults.{KeepsTypes}
 use Rattle.nc_yang_leafs.specs.Bases.{AllMeanWhole}
 use Rattle.nc_yang_leafs.specs.Conditions.{holds}
 use Rattle.nc_yang_leafs.specs.Faults.{BreaksLeafref}
 use Rattle.nc_yang_leafs.specs.Patterns.{AreTypings, HasPatterns, IsRefused, Refusals, RefusesType}
 use Rattle.nc_yang_leafs.specs.declared.bare.Typed.{Typed}
 use Rattle.nc_yang_leafs.proofs.PatternLemmas.{refused_in_use, stated_typed}
-use Rattle.nc_yang_circles.specs.Circles.{BreaksCircle, HasNoCircle}
-use Rattle.nc_yang_defaults.specs.Defaults.{BreaksDefault, KeepsDefaults}
+use Rattle.nc_yang_leafs.specs.Circles.{BreaksCircle, HasNoCircle}
+use Rattle.nc_yang_leafs.specs.Defaults.{BreaksDefault, KeepsDefaults}
 use Rattle.nc_yang.specs.Depths.{BreaksDepth, KeepsDepth}
 use Rattle.nc_yang.specs.Schemas.{AreNames, AreSuited, BreaksBare, BreaksTypedefs, IsBareOf, KeepsTypedefs, basis_of, circle, deep, default, leafref, suits_none, typedef_basis, unadmitted}
 use Rattle.nc_yang.specs.Typedefs.{AreJudged, blank_leaf, blank_leafs, leaf_by, typedef_plan, typedef_tables}

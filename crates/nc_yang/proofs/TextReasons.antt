@@ -24,13 +24,13 @@ use Rattle.nc_yang_scopes.specs.Names.{BreaksNames, is_foreign, is_nameless, is_
 use Rattle.nc_yang_scopes.specs.Scopes.{Located}
 use Rattle.nc_yang_scopes.specs.Spaces.{faults_in, is_taken, renamed, spaces, taken}
 use Rattle.nc_yang_scopes.specs.States.{BreaksState, configured, inside, is_state_in, itself}
-use Rattle.nc_yang_loops.specs.Loops.{BreaksLoops}
-use Rattle.nc_yang_loops.specs.Revisions.{is_unrevised, unrevised, unrevised_at, unrevised_date, unrevised_from, unrevised_import, unrevised_in}
+use Rattle.nc_yang_scopes.specs.Loops.{BreaksLoops}
+use Rattle.nc_yang_scopes.specs.Revisions.{is_unrevised, unrevised, unrevised_at, unrevised_date, unrevised_from, unrevised_import, unrevised_in}
 use Rattle.nc_yang_scopes.specs.Scopes.{text_of}
-use Rattle.nc_yang_texts.specs.Rules.{BreaksText, alone, looping, twin}
-use Rattle.nc_yang_texts.specs.Rules.{configured as state_broken, misnamed as name_broken, renamed as name_taken, unrevised_import as import_broken}
-use Rattle.nc_yang_texts.specs.Texts.{HasNoStatements, IsUnread, bad_words, empty, long, many, not_utf8}
-use Rattle.nc_yang_texts.specs.declared.text.ModuleText.{ModuleText}
+use Rattle.nc_yang.specs.Rules.{BreaksText, alone, looping, twin}
+use Rattle.nc_yang.specs.Rules.{configured as state_broken, misnamed as name_broken, renamed as name_taken, unrevised_import as import_broken}
+use Rattle.nc_yang.specs.Texts.{HasNoStatements, IsUnread, bad_words, empty, long, many, not_utf8}
+use Rattle.nc_yang.specs.declared.text.ModuleText.{ModuleText}
 
 -- the reason of a rule
 abbrev pub is_of_rule : ModuleWhy → Bool

@@ -17,17 +17,17 @@ use Rattle.nc_yang_order.proofs.Lists.{contains_none}
 use Rattle.nc_yang_scopes.specs.Names.{itself}
 use Rattle.nc_yang_scopes.specs.Parts.{in_it, part_of}
 use Rattle.nc_yang_scopes.specs.Scopes.{Located, Scoping, root}
-use Rattle.nc_yang_loops.proofs.Lists.{contains_cases, contains_first, contains_later}
+use Rattle.nc_yang_scopes.proofs.LinkLists.{contains_cases, contains_first, contains_later}
 use Rattle.nc_yang_nodes.specs.Alike.{AreAlike, SeenNode, seen_node}
 use Rattle.nc_yang_nodes.specs.Plans.{statement_of}
 use Rattle.nc_yang_nodes.specs.Roles.{FeatureTest}
 use Rattle.nc_yang_nodes.specs.declared.planned.Planned.{Planned}
-use Rattle.nc_yang_identities.specs.Picks.{Picks, none, passed, picked}
-use Rattle.nc_yang_identities.proofs.NumberLemmas.{number_at_place}
-use Rattle.nc_yang_texts.specs.Rules.{KeepsTexts}
+use Rattle.nc_yang_nodes.specs.Picks.{Picks, none, passed, picked}
+use Rattle.nc_yang_nodes.proofs.NumberLemmas.{number_at_place}
+use Rattle.nc_yang.specs.Rules.{KeepsTexts}
 use Rattle.nc_yang_data.specs.Modules.{modules_from}
-use Rattle.nc_yang_meanings.specs.Faults.{KeepsTypes}
-use Rattle.nc_yang_meanings.specs.Wholes.{MeansWhole}
+use Rattle.nc_yang_types.specs.Faults.{KeepsTypes}
+use Rattle.nc_yang_types.specs.Wholes.{MeansWhole}
 use Rattle.nc_yang_leafs.specs.Bases.{AllMeanWhole, basis_on}
 use Rattle.nc_yang.specs.Typedefs.{AreJudged, IsJudged, blank_leaf, blank_leafs, leaf_by, opened, own_typedef, typedef_plan, typedef_tables, typedefs, typedefs_in, typedefs_within}
 use Rattle.nc_yang.proofs.Lists.{find_there, flat_origin, flat_where, mapped}
@@ -75,7 +75,7 @@ module _ (on : ℕ → List ℕ → Bool) (texts : List Statement) (keeps : Keep
   own_looked k looked l h = by (is_same_keyword Typedef (kind k.statement)) refl h
     where
       by : (b : Bool) → is_same_keyword Typedef (kind k.statement) ≡ b → Contains (cond b (k ∷ []) []) l → IsTypedefHere l
-      by true e among = elim (contains_cases k [] l among) [ inl same ↦ subst IsTypedefHere same (looked, e) | inr none ↦ absurd (contains_none l none) ]
+      by true e among = elim (contains_cases k [] l among) [ inl same ↦ subst IsTypedefHere same (looked, e) | inr nothing ↦ absurd (contains_none l nothing) ]
       by false e among = absurd (contains_none l among)
 
   -- what stands directly in a statement that is looked at is looked at

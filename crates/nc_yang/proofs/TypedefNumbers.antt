@@ -14,7 +14,7 @@ use Rattle.nc_yang_scopes.specs.Parts.{in_it}
 use Rattle.nc_yang_scopes.specs.Scopes.{Located, Scoping, child}
 use Rattle.nc_yang_scopes.specs.inner.Naming.{HasNumber}
 use Rattle.nc_yang_scopes.proofs.Misnaming.{child_is, statement_is}
-use Rattle.nc_yang_identities.proofs.NumberLemmas.{numbers_append}
+use Rattle.nc_yang_nodes.proofs.NumberLemmas.{numbers_append}
 use Rattle.nc_yang.specs.Typedefs.{opened, own_typedef, typedefs_within}
 use Rattle.nc_yang.specs.inner.Judged.{Adds, AddsTypedefs, is_end}
 

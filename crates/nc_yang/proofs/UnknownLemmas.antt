@@ -3,7 +3,7 @@ use Rattle.std.proofs.Common.{◌≡◌, ℕ, true, false, List, subst}
 use Rattle.std.specs.Prelude.{Option, Some, None, slice_get, IsSomeAnd, MatchOption}
 use Rattle.std.specs.List.{All}
 use Rattle.nc_yang_words.specs.declared.statement.Statement.{Statement}
-use Rattle.nc_yang_texts.specs.declared.text.ModuleText.{ModuleText}
+use Rattle.nc_yang.specs.declared.text.ModuleText.{ModuleText}
 use Rattle.nc_yang.specs.Access.{HaveStatements}
 use Rattle.nc_yang.specs.Features.{IsFirstOther, IsFirstUnknown, NamesFeature, is_feature}
 use Rattle.nc_yang.proofs.Reading.{have_one_way}

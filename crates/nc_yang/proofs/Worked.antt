@@ -22,11 +22,11 @@ use Rattle.nc_yang_statements.specs.declared.fault.Fault.{Fault}
 use Rattle.nc_yang_statements.specs.declared.fault.ModuleWhy.TheVariants.{BadArgument, BadWords, Loop, Missing, NotText, TooMany, Twice, UnknownName, UnknownStatement, Unsupported}
 use Rattle.nc_yang_scopes.specs.Names.{StandsIn, inside, itself, misnamed}
 use Rattle.nc_yang_scopes.specs.Scopes.{Located, child, inside as place_inside}
-use Rattle.nc_yang_loops.specs.Loops.{IsDefinition, Names, itself as leads_itself}
-use Rattle.nc_yang_loops.specs.declared.kinds.Defined.TheVariants.{Groupings}
-use Rattle.nc_yang_texts.specs.Rules.{alone, looping, misnamed as misnames}
-use Rattle.nc_yang_texts.specs.Texts.{bad_words, empty, is_long, many, not_utf8}
-use Rattle.nc_yang_texts.specs.declared.text.ModuleText.{ModuleText}
+use Rattle.nc_yang_scopes.specs.Loops.{IsDefinition, Names, itself as leads_itself}
+use Rattle.nc_yang_scopes.specs.declared.kinds.Defined.TheVariants.{Groupings}
+use Rattle.nc_yang.specs.Rules.{alone, looping, misnamed as misnames}
+use Rattle.nc_yang.specs.Texts.{bad_words, empty, is_long, many, not_utf8}
+use Rattle.nc_yang.specs.declared.text.ModuleText.{ModuleText}
 use Rattle.nc_yang.specs.Access.{HaveStatements, access_yang}
 use Rattle.nc_yang.specs.Schemas.{Breaks, text as of_text, unread}
 

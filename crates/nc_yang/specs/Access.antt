@@ -7,8 +7,8 @@ use Rattle.nc_yang_words.specs.Spelling.{TextSpells}
 use Rattle.nc_yang_words.specs.declared.statement.Statement.{Statement}
 use Rattle.nc_yang_statements.specs.declared.fault.Fault.{Fault}
 use Rattle.nc_yang_scopes.specs.declared.naming.TextFault.{TextFault}
-use Rattle.nc_yang_texts.specs.Texts.{AreRead}
-use Rattle.nc_yang_texts.specs.declared.text.ModuleText.{ModuleText}
+use Rattle.nc_yang.specs.Texts.{AreRead}
+use Rattle.nc_yang.specs.declared.text.ModuleText.{ModuleText}
 
 -- its lines. The type of `path` is the module's `node-instance-identifier`, and a pattern that of its
 -- `group-name-type`

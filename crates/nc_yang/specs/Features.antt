@@ -8,7 +8,7 @@ use Rattle.nc_yang_words.specs.declared.statement.Statement.{Statement}
 use Rattle.nc_yang_statements.specs.declared.keyword.Keyword.TheVariants.{Feature}
 use Rattle.nc_yang_scopes.specs.Scopes.{Place, has_colon, local_of, prefix_of, resolved, text_of, top}
 use Rattle.nc_yang_nodes.specs.Roles.{FeatureTest}
-use Rattle.nc_yang_texts.specs.declared.text.ModuleText.{ModuleText}
+use Rattle.nc_yang.specs.declared.text.ModuleText.{ModuleText}
 use Rattle.nc_yang.specs.Access.{HaveStatements}
 
 -- a line names that feature of the module of a text

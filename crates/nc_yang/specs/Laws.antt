@@ -25,11 +25,11 @@ use Rattle.nc_yang_scopes.specs.Parts.{part_of}
 use Rattle.nc_yang_nodes.specs.Plans.{IsPlan, statement_of}
 use Rattle.nc_yang_nodes.specs.Roles.{FeatureTest}
 use Rattle.nc_yang_nodes.specs.declared.planned.Plan.{Plan}
-use Rattle.nc_yang_texts.specs.Rules.{KeepsTexts}
-use Rattle.nc_yang_texts.specs.declared.text.ModuleText.{ModuleText}
+use Rattle.nc_yang.specs.Rules.{KeepsTexts}
+use Rattle.nc_yang.specs.declared.text.ModuleText.{ModuleText}
 use Rattle.nc_yang_data.specs.Data.{data_tables}
-use Rattle.nc_yang_meanings.specs.Faults.{KeepsTypes}
-use Rattle.nc_yang_meanings.specs.Wholes.{MeansWhole}
+use Rattle.nc_yang_types.specs.Faults.{KeepsTypes}
+use Rattle.nc_yang_types.specs.Wholes.{MeansWhole}
 use Rattle.nc_yang.specs.Schemas.{Breaks, Defines}
 
 -- in modules that keep all rules each `type` statement of a text, but for what is passed over, means something, and so

@@ -5,3 +5,6 @@ pub mod Depths
 pub mod Typedefs
 pub mod Schemas
 pub mod inner
+pub mod Texts
+pub mod Rules
+pub mod TextLaws

@@ -10,23 +10,23 @@ use Rattle.nc_yang_scopes.specs.Numbers.{IsScoping}
 use Rattle.nc_yang_scopes.specs.Prefixes.{namespace_at}
 use Rattle.nc_yang_scopes.specs.Scopes.{Located, Scoping}
 use Rattle.nc_yang_scopes.specs.declared.naming.TextFault.{TextFault}
-use Rattle.nc_yang_texts.specs.Rules.{BreaksText, KeepsTexts}
-use Rattle.nc_yang_texts.specs.Texts.{IsUnread}
-use Rattle.nc_yang_texts.specs.declared.text.ModuleText.{ModuleText}
+use Rattle.nc_yang.specs.Rules.{BreaksText, KeepsTexts}
+use Rattle.nc_yang.specs.Texts.{IsUnread}
+use Rattle.nc_yang.specs.declared.text.ModuleText.{ModuleText}
 use Rattle.nc_yang_nodes.specs.Plans.{IsFirstPast, IsPlan}
 use Rattle.nc_yang_nodes.specs.Roles.{FeatureTest}
 use Rattle.nc_yang_nodes.specs.Supported.{AreOn}
 use Rattle.nc_yang_nodes.specs.declared.planned.Plan.{Plan}
-use Rattle.nc_yang_identities.specs.Values.{AreDerived}
+use Rattle.nc_yang_nodes.specs.Values.{AreDerived}
 use Rattle.nc_yang_data.specs.Data.{data_faults, data_tables}
-use Rattle.nc_yang_meanings.specs.Faults.{BreaksTypes, KeepsTypes}
+use Rattle.nc_yang_types.specs.Faults.{BreaksTypes, KeepsTypes}
 use Rattle.nc_yang_leafs.specs.Bases.{Basis, basis_on}
 use Rattle.nc_yang_leafs.specs.Conditions.{holds}
 use Rattle.nc_yang_leafs.specs.Faults.{BreaksLeafref}
 use Rattle.nc_yang_leafs.specs.Patterns.{IsRefused, Refusals, without_patterns}
 use Rattle.nc_yang_leafs.specs.Typings.{IsTyped}
-use Rattle.nc_yang_circles.specs.Circles.{BreaksCircle, HasNoCircle}
-use Rattle.nc_yang_defaults.specs.Defaults.{BreaksDefault, HasDefaults, KeepsDefaults}
+use Rattle.nc_yang_leafs.specs.Circles.{BreaksCircle, HasNoCircle}
+use Rattle.nc_yang_leafs.specs.Defaults.{BreaksDefault, HasDefaults, KeepsDefaults}
 use Rattle.nc_yang.specs.Access.{HaveStatements, in_file}
 use Rattle.nc_yang.specs.Depths.{BreaksDepth, KeepsDepth}
 use Rattle.nc_yang.specs.Features.{IsFirstUnknown, NamesFeature, is_given}

@@ -14,9 +14,9 @@ use Rattle.nc_yang_statements.specs.Keywords.{is_closed, is_same_keyword}
 use Rattle.nc_yang_statements.specs.Statements.{below, has, kind}
 use Rattle.nc_yang_scopes.specs.Parts.{in_it, part_of}
 use Rattle.nc_yang_scopes.specs.Scopes.{Located, Scoping, root}
-use Rattle.nc_yang_identities.specs.Picks.{PicksNumbers}
-use Rattle.nc_yang_meanings.specs.Faults.{is_reference}
-use Rattle.nc_yang_meanings.specs.Meanings.{DerivedFrom, Entry, Meaning, Means, OneOf, Refers}
+use Rattle.nc_yang_nodes.specs.Picks.{PicksNumbers}
+use Rattle.nc_yang_types.specs.Faults.{is_reference}
+use Rattle.nc_yang_types.specs.Meanings.{DerivedFrom, Entry, Meaning, Means, OneOf, Refers}
 use Rattle.nc_yang_nodes.specs.Roles.{FeatureTest}
 use Rattle.nc_yang_nodes.specs.declared.planned.Plan.{Plan}
 use Rattle.nc_yang_nodes.specs.declared.planned.Planned.{Planned}

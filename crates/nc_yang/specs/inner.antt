@@ -4,3 +4,4 @@ pub mod Stops
 pub mod Finishing
 pub mod Marked
 pub mod Judged
+pub mod Named

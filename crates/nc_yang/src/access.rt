@@ -2,11 +2,11 @@
 ghost use Rattle.std.specs.Prelude.{◌≡◌, IfOk, MatchResult};
 ghost use Rattle.std.specs.Str.{chars};
 ghost use Rattle.nc_yang_words.specs.Spelling.{TextSpells};
-ghost use Rattle.nc_yang_texts.specs.Texts.{IsUnread, OnModule};
+ghost use Rattle.nc_yang.specs.Texts.{IsUnread, OnModule};
 ghost use Rattle.nc_yang.specs.Access.{HaveStatements, access_yang};
 
+use crate::{CompileFault, ModuleText, read_texts};
 use nc_names::{Many, Memory};
-use nc_yang_texts::{CompileFault, ModuleText, read_texts};
 use nc_yang_words::{Statement, statements};
 use std::alloc::Global;
 

@@ -10,9 +10,8 @@ ghost use Rattle.nc_yang.specs.Schemas.{AreNames, identity_name};
 ghost use Rattle.nc_yang.specs.inner.Names.{name_at};
 
 use nc_names::{Copies, Many, Memory, QName, Text};
-use nc_yang_identities::Identities;
 use nc_yang_leafs::{Derives, name_same};
-use nc_yang_nodes::Features;
+use nc_yang_nodes::{Features, Identities};
 use nc_yang_scopes::Scopes;
 use nc_yang_statements::name;
 use std::alloc::Global;

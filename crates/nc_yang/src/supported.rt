@@ -7,10 +7,10 @@ ghost use Rattle.nc_yang_statements.specs.declared.keyword.Keyword.TheVariants.{
 ghost use Rattle.nc_yang.specs.Features.{at_top};
 ghost use Rattle.nc_yang.specs.inner.Conditions.{is_on_at};
 
-use nc_yang_meanings::Features as Conditions;
 use nc_yang_nodes::Features;
 use nc_yang_scopes::Scopes;
 use nc_yang_statements::{Keyword, name};
+use nc_yang_types::Features as Conditions;
 
 /// The number of the feature to which a reference leads at the top of a text.
 pub(crate) fn feature_at<'a>(scopes: &Scopes<'a>, text: usize, reference: &'a str) -> Option<usize>

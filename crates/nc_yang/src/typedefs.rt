@@ -1,7 +1,7 @@
 //! The typedefs that are judged by their defaults (RFC 7950 7.3.4).
 ghost use Rattle.std.specs.Prelude.{◌≡◌, ◌<◌, ◌++◌, ◌∷◌, [], ℕ, Bool, List, if◌then◌else◌, length, IfOk, OnOk};
-ghost use Rattle.nc_yang_meanings.specs.Faults.{is_reference};
-ghost use Rattle.nc_yang_meanings.specs.Plans.{AreMeanings};
+ghost use Rattle.nc_yang_types.specs.Faults.{is_reference};
+ghost use Rattle.nc_yang_types.specs.Plans.{AreMeanings};
 ghost use Rattle.nc_yang_scopes.specs.Numbers.{AreNumbers};
 ghost use Rattle.nc_yang_scopes.specs.inner.Naming.{HasNumber};
 ghost use Rattle.nc_yang.specs.Typedefs as words;
@@ -9,9 +9,9 @@ ghost use Rattle.nc_yang.specs.inner.Judged as judging;
 
 use nc_names::{Many, Memory};
 use nc_schema::ValueType;
-use nc_yang_meanings::{Finding, Meanings, Planned};
 use nc_yang_scopes::{Scopes, part_of};
 use nc_yang_statements::{Keyword, has, is_closed, is_same_keyword, kind};
+use nc_yang_types::{Finding, Meanings, Planned};
 use nc_yang_words::Statement;
 use std::alloc::Global;
 

@@ -11,12 +11,12 @@ use Rattle.nc_yang_order.proofs.Lists.{contains_at, get_none}
 use Rattle.nc_yang_scopes.proofs.Lists.{get_left}
 use Rattle.nc_yang_scopes.specs.Numbers.{AreNumbers}
 use Rattle.nc_yang_scopes.specs.Scopes.{Located}
-use Rattle.nc_yang_meanings.specs.declared.planned.Planned.{Planned}
-use Rattle.nc_yang_meanings.specs.declared.planned.Planned.TheVariants.{Bases, Finished, Leafref, Members}
-use Rattle.nc_yang_meanings.specs.Meanings.{DerivedFrom, Entry, Meaning, Means, OneOf, Refers}
-use Rattle.nc_yang_meanings.specs.Plans.{AreMeanings, HasPlan, IsPlan}
-use Rattle.nc_yang_meanings.specs.Wholes.{MeansWhole, members_of, whole}
-use Rattle.nc_yang_meanings.proofs.MeaningLemmas.{means_one}
+use Rattle.nc_yang_types.specs.declared.planned.Planned.{Planned}
+use Rattle.nc_yang_types.specs.declared.planned.Planned.TheVariants.{Bases, Finished, Leafref, Members}
+use Rattle.nc_yang_types.specs.Meanings.{DerivedFrom, Entry, Meaning, Means, OneOf, Refers}
+use Rattle.nc_yang_types.specs.Plans.{AreMeanings, HasPlan, IsPlan}
+use Rattle.nc_yang_types.specs.Wholes.{MeansWhole, members_of, whole}
+use Rattle.nc_yang_types.proofs.MeaningLemmas.{means_one}
 use Rattle.nc_yang_leafs.specs.declared.table.Table.{Table}
 use Rattle.nc_yang_leafs.specs.Bases.{leads}
 use Rattle.nc_yang_leafs.specs.Typings.{HasTypes, IsEntry, IsPatterned, none, numbers_of, one_more}

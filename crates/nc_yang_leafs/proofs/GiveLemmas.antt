@@ -15,10 +15,10 @@ use Rattle.nc_yang_scopes.proofs.Lists.{get_left, get_right}
 use Rattle.nc_yang_scopes.specs.declared.naming.TextFault.{TextFault}
 use Rattle.nc_yang_scopes.specs.Scopes.{Located}
 use Rattle.nc_yang_nodes.specs.declared.planned.Plan.{Plan}
-use Rattle.nc_yang_meanings.specs.Meanings.{Means}
+use Rattle.nc_yang_types.specs.Meanings.{Means}
 use Rattle.nc_yang_scopes.specs.Numbers.{AreNumbers, OnNumber}
-use Rattle.nc_yang_meanings.specs.Plans.{AreMeanings}
-use Rattle.nc_yang_meanings.specs.Wholes.{MeansWhole}
+use Rattle.nc_yang_types.specs.Plans.{AreMeanings}
+use Rattle.nc_yang_types.specs.Wholes.{MeansWhole}
 use Rattle.nc_yang_leafs.specs.declared.site.Site.{Site}
 use Rattle.nc_yang_statements.specs.declared.stop.Stop.{Stop}
 use Rattle.nc_yang_statements.specs.declared.stop.Stop.TheVariants.{Broken, Memory}

@@ -28,9 +28,9 @@ use Rattle.nc_yang_scopes.specs.Scopes.{Located}
 use Rattle.nc_yang_types.specs.declared.member.Named.{Named}
 use Rattle.nc_yang_types.specs.Entries.{listing_of, names_left, narrowed, own, required}
 use Rattle.nc_yang_types.proofs.PatternLemmas.{AreRead, narrowed_read, own_read}
-use Rattle.nc_yang_meanings.specs.Features.{stands}
-use Rattle.nc_yang_meanings.specs.Meanings.{DerivedFrom, Entry, Meaning, Means, OneOf, Refers, by_itself, in_text, meant, names_of, of_access, over, said, shape, with_parts}
-use Rattle.nc_yang_meanings.specs.Wholes.{members_of}
+use Rattle.nc_yang_types.specs.Features.{stands}
+use Rattle.nc_yang_types.specs.Meanings.{DerivedFrom, Entry, Meaning, Means, OneOf, Refers, by_itself, in_text, meant, names_of, of_access, over, said, shape, with_parts}
+use Rattle.nc_yang_types.specs.Wholes.{members_of}
 use Rattle.nc_yang_leafs.specs.declared.bare.Typed.{Typed}
 use Rattle.nc_yang_leafs.specs.Bases.{Basis, leads}
 use Rattle.nc_yang_leafs.specs.Patterns.{AreTypings, HasPatterns, IsPatternInUse, IsReadable, IsRefused, Refusals, RefusesType, bare, numbers_in, text_at, with_numbers, without_patterns}

@@ -15,8 +15,8 @@ use Rattle.nc_yang_order.proofs.Lists.{get_none}
 use Rattle.nc_yang_statements.specs.Statements.{name}
 use Rattle.nc_yang_scopes.specs.Prefixes.{prefixes_in}
 use Rattle.nc_yang_scopes.specs.Scopes.{Located}
-use Rattle.nc_yang_meanings.specs.Meanings.{DerivedFrom, Entry, Meaning, Means, OneOf, Refers}
-use Rattle.nc_yang_meanings.specs.Wholes.{members_of}
+use Rattle.nc_yang_types.specs.Meanings.{DerivedFrom, Entry, Meaning, Means, OneOf, Refers}
+use Rattle.nc_yang_types.specs.Wholes.{members_of}
 use Rattle.nc_yang_leafs.specs.Bases.{AllMeanWhole, Basis, leads}
 use Rattle.nc_yang_leafs.specs.Typings.{HasItsType, HasTypes, IsEntry, IsSameNode, IsTyped, NameEach, none, numbers_of, one_more}
 use Rattle.nc_yang_leafs.proofs.ClosingLemmas.{IsOne}

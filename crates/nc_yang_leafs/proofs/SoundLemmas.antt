@@ -17,9 +17,9 @@ use Rattle.nc_yang_types.specs.declared.bound.Counted.TheVariants.{Units, Length
 use Rattle.nc_yang_types.specs.Entries.{decimal, decimals, digits_by, digits_in, digits_of, integers, lengths, listing_of, names_left, narrowed, own, own_faults, required, restricted}
 use Rattle.nc_yang_types.specs.declared.member.Named.{Named}
 use Rattle.nc_yang_types.specs.Members.{bit_names, enum_names}
-use Rattle.nc_yang_meanings.specs.Features.{stands}
-use Rattle.nc_yang_meanings.specs.Meanings.{DerivedFrom, Entry, Meaning, Means, OneOf, Refers, by_itself, in_text, meant, of_access, over, said, with_parts}
-use Rattle.nc_yang_meanings.specs.Places.{part_of, parts_of}
+use Rattle.nc_yang_types.specs.Features.{stands}
+use Rattle.nc_yang_types.specs.Meanings.{DerivedFrom, Entry, Meaning, Means, OneOf, Refers, by_itself, in_text, meant, of_access, over, said, with_parts}
+use Rattle.nc_yang_types.specs.Places.{part_of, parts_of}
 use Rattle.nc_yang_leafs.specs.Typings.{IsPatterned}
 use Rattle.nc_yang_types.proofs.ApartLemmas.{chosen_apart, names_apart}
 

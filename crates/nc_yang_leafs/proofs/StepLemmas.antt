@@ -11,14 +11,14 @@ use Rattle.nc_yang_scopes.proofs.Lists.{get_left, get_right}
 use Rattle.nc_yang_words.specs.declared.statement.Statement.{Statement}
 use Rattle.nc_yang_scopes.specs.declared.naming.TextFault.{TextFault}
 use Rattle.nc_yang_scopes.specs.Scopes.{Located, Scoping}
-use Rattle.nc_yang_meanings.specs.declared.planned.Finding.{Finding}
-use Rattle.nc_yang_meanings.specs.declared.planned.Finding.TheVariants.{Broken as BrokenFinding, Nothing, Plan}
-use Rattle.nc_yang_meanings.specs.declared.planned.Meanings.{Meanings}
-use Rattle.nc_yang_meanings.specs.declared.planned.Planned.{Planned}
-use Rattle.nc_yang_meanings.specs.declared.planned.Planned.TheVariants.{Bases, Finished, Leafref, Members}
-use Rattle.nc_yang_meanings.specs.Meanings.{DerivedFrom, Entry, Meaning, Means, OneOf, Refers}
-use Rattle.nc_yang_meanings.specs.Plans.{AreMeanings, HasPlan, IsFinding, IsPlan}
-use Rattle.nc_yang_meanings.specs.Wholes.{MeansWhole, UsesPath, itself, member, members_of, whole}
+use Rattle.nc_yang_types.specs.declared.planned.Finding.{Finding}
+use Rattle.nc_yang_types.specs.declared.planned.Finding.TheVariants.{Broken as BrokenFinding, Nothing, Plan}
+use Rattle.nc_yang_types.specs.declared.planned.Meanings.{Meanings}
+use Rattle.nc_yang_types.specs.declared.planned.Planned.{Planned}
+use Rattle.nc_yang_types.specs.declared.planned.Planned.TheVariants.{Bases, Finished, Leafref, Members}
+use Rattle.nc_yang_types.specs.Meanings.{DerivedFrom, Entry, Meaning, Means, OneOf, Refers}
+use Rattle.nc_yang_types.specs.Plans.{AreMeanings, HasPlan, IsFinding, IsPlan}
+use Rattle.nc_yang_types.specs.Wholes.{MeansWhole, UsesPath, itself, member, members_of, whole}
 use Rattle.nc_yang_leafs.specs.declared.table.Slot.{Slot}
 use Rattle.nc_yang_leafs.specs.declared.table.Table.{Table}
 use Rattle.nc_yang_statements.specs.declared.stop.Stop.{Stop}
@@ -28,7 +28,7 @@ use Rattle.nc_yang_leafs.specs.Typings.{IsAmong, itself as among_itself, member 
 use Rattle.nc_yang_leafs.specs.Marks.{plan_at, plan_in}
 use Rattle.nc_yang_leafs.specs.inner.Firsts.{AreFirsts, plan_for}
 use Rattle.nc_yang_leafs.specs.inner.Tables.{Adds, Enters, Fills, Fits, Goes, IsAtStart, IsOnWay, IsUsed, LosesPath, LosesPlan, Work, members_in, number_of, slot_at}
-use Rattle.nc_yang_meanings.proofs.MeaningLemmas.{means_one}
+use Rattle.nc_yang_types.proofs.MeaningLemmas.{means_one}
 use Rattle.nc_yang_leafs.proofs.AskLemmas.{Kept, map_kept}
 use Rattle.nc_yang_leafs.proofs.FirstLemmas.{own_of, own_or_bases}
 

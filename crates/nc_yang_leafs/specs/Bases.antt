@@ -14,7 +14,7 @@ use Rattle.nc_yang_nodes.specs.declared.planned.Plan.{Plan}
 use Rattle.nc_yang_nodes.specs.FeaturesOn.{is_on}
 use Rattle.nc_yang_nodes.specs.Plans.{statement_of}
 use Rattle.nc_yang_scopes.specs.Parts.{part_of}
-use Rattle.nc_yang_meanings.specs.Wholes.{MeansWhole}
+use Rattle.nc_yang_types.specs.Wholes.{MeansWhole}
 use Rattle.nc_yang_leafs.specs.Conditions.{holds}
 
 -- which `if-feature` statements hold, the texts, the statements of the data nodes, and the schema without types

@@ -6,7 +6,7 @@ use Rattle.nc_yang_statements.specs.declared.fault.ModuleWhy.TheVariants.{Unknow
 use Rattle.nc_yang_statements.specs.Statements.{line}
 use Rattle.nc_yang_scopes.specs.declared.naming.TextFault.{TextFault}
 use Rattle.nc_yang_scopes.specs.Scopes.{Located}
-use Rattle.nc_yang_meanings.specs.Wholes.{UsesPath}
+use Rattle.nc_yang_types.specs.Wholes.{UsesPath}
 use Rattle.nc_yang_leafs.specs.Bases.{Basis, leads, type_of}
 
 -- at a `path` statement

@@ -7,3 +7,9 @@ pub mod Marks
 pub mod Named
 pub mod Laws
 pub mod inner
+pub mod Circles
+pub mod Sources
+pub mod Readings
+pub mod Defaults
+pub mod Typed
+pub mod DefaultLaws

@@ -2,11 +2,11 @@
 use Rattle.std.specs.Prelude.{◌≡◌, ℕ, Bool, true, false, not, List, Option, Some, None, slice_get, unwrap_or, option_and_then}
 use Rattle.std.specs.List.{list_all}
 use Rattle.std.specs.Option.{option_map_or}
-use Rattle.nc_yang_meanings.specs.declared.planned.Finding.{Finding}
-use Rattle.nc_yang_meanings.specs.declared.planned.Finding.TheVariants.{Plan}
-use Rattle.nc_yang_meanings.specs.declared.planned.Meanings.{Meanings}
-use Rattle.nc_yang_meanings.specs.declared.planned.Planned.{Planned}
-use Rattle.nc_yang_meanings.specs.declared.planned.Planned.TheVariants.{Bases, Finished, Leafref, Members}
+use Rattle.nc_yang_types.specs.declared.planned.Finding.{Finding}
+use Rattle.nc_yang_types.specs.declared.planned.Finding.TheVariants.{Plan}
+use Rattle.nc_yang_types.specs.declared.planned.Meanings.{Meanings}
+use Rattle.nc_yang_types.specs.declared.planned.Planned.{Planned}
+use Rattle.nc_yang_types.specs.declared.planned.Planned.TheVariants.{Bases, Finished, Leafref, Members}
 
 -- the plan of a type, if it has one
 abbrev pub plan_in : Finding → Option ℕ

@@ -16,7 +16,7 @@ use Rattle.nc_yang_scopes.specs.declared.naming.TextFault.{TextFault}
 use Rattle.nc_yang_scopes.specs.Numbers.{AreNumbers}
 use Rattle.nc_yang_scopes.specs.Scopes.{Located}
 use Rattle.nc_yang_types.specs.declared.member.Named.{Named}
-use Rattle.nc_yang_meanings.specs.Meanings.{Entry, Means}
+use Rattle.nc_yang_types.specs.Meanings.{Entry, Means}
 use Rattle.nc_yang_leafs.specs.declared.bare.Typed.{Typed}
 use Rattle.nc_yang_leafs.specs.Bases.{Basis, type_of}
 use Rattle.nc_yang_leafs.specs.Typings.{HasTypings, IsAmong}

@@ -13,8 +13,8 @@ use Rattle.nc_schema.specs.Tables.{Tables}
 use Rattle.nc_yang_words.specs.declared.statement.Statement.{Statement}
 use Rattle.nc_yang_statements.specs.Statements.{name}
 use Rattle.nc_yang_scopes.specs.Scopes.{Located}
-use Rattle.nc_yang_meanings.specs.Meanings.{DerivedFrom, Entry, Meaning, Means, OneOf, Refers}
-use Rattle.nc_yang_meanings.specs.Wholes.{members_of}
+use Rattle.nc_yang_types.specs.Meanings.{DerivedFrom, Entry, Meaning, Means, OneOf, Refers}
+use Rattle.nc_yang_types.specs.Wholes.{members_of}
 use Rattle.nc_yang_leafs.specs.Bases.{Basis, leads, type_of}
 
 -- those numbers name the patterns of these statements, one after another (RFC 7950 9.4.5)

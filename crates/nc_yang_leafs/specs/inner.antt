@@ -4,3 +4,8 @@ pub mod Sites
 pub mod Nodes
 pub mod Assembly
 pub mod Adding
+pub mod Plans
+pub mod Walks
+pub mod Links
+pub mod Reading
+pub mod Putting

@@ -11,9 +11,9 @@ use crate::table::Table;
 use nc_names::{Copies, Many, Memory};
 use nc_paths::leafref_end;
 use nc_schema::{LeafrefEnd, ValueType};
-use nc_yang_meanings::Planned;
 use nc_yang_scopes::TextFault;
 use nc_yang_statements::{Fault, ModuleWhy, Stop, name};
+use nc_yang_types::Planned;
 use std::alloc::Global;
 
 // Where the `path` statement of a number leads from a data node.

@@ -1,7 +1,7 @@
 //! The entries of the numbers that were given.
 ghost use Rattle.std.specs.Prelude.{◌≡◌, OnOk, IfErr, ℕ, Bool, List};
 ghost use Rattle.nc_yang_scopes.specs.Scopes.{Located};
-ghost use Rattle.nc_yang_meanings.specs.Plans.{AreMeanings};
+ghost use Rattle.nc_yang_types.specs.Plans.{AreMeanings};
 ghost use Rattle.nc_yang_statements.specs.Stops.{OnBroken};
 ghost use Rattle.nc_yang_leafs.specs.inner.Sites.{HasPrefixes, work};
 ghost use Rattle.nc_yang_leafs.specs.inner.Tables as words;

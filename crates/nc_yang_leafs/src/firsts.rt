@@ -1,6 +1,6 @@
 //! Types identityref with the same values share one entry of the table of types.
 ghost use Rattle.std.specs.Prelude.{◌≡◌, true, Some, slice_get, IfOk, IfSome};
-ghost use Rattle.nc_yang_meanings.specs.declared.planned.Planned.TheVariants.{Bases};
+ghost use Rattle.nc_yang_types.specs.declared.planned.Planned.TheVariants.{Bases};
 ghost use Rattle.nc_yang_leafs.specs.inner.Firsts as words;
 
 use crate::derives::Derives;
@@ -8,8 +8,8 @@ use crate::marks::{is_marked, plan_at};
 use crate::named::identity_of;
 use crate::site::Site;
 use nc_names::{Many, Memory};
-use nc_yang_meanings::{Meanings, Planned};
 use nc_yang_scopes::Scopes;
+use nc_yang_types::{Meanings, Planned};
 use std::alloc::Global;
 use std::collections::BTreeMap;
 

@@ -3,8 +3,8 @@ ghost use Rattle.std.specs.Prelude.{◌≡◌, true, IfOk};
 ghost use Rattle.nc_yang_leafs.specs.Marks as words;
 
 use nc_names::{Many, Memory};
-use nc_yang_meanings::{Finding, Meanings, Planned};
 use nc_yang_order::{Ordered, is_within, targets_first};
+use nc_yang_types::{Finding, Meanings, Planned};
 use std::alloc::Global;
 
 /// The number of the plan of the `type` statement of a number, if it has a plan.

@@ -7,7 +7,7 @@ ghost use Rattle.nc_yang_leafs.specs.inner.Nodes as nodes;
 ghost use Rattle.nc_yang_leafs.specs.inner.Sites.{HasPrefixes, work};
 ghost use Rattle.nc_yang_leafs.specs.inner.Tables.{IsReady, LosesPath};
 ghost use Rattle.nc_yang_scopes.specs.Numbers.{OnNumber};
-ghost use Rattle.nc_yang_meanings.specs.Plans.{AreMeanings};
+ghost use Rattle.nc_yang_types.specs.Plans.{AreMeanings};
 
 use crate::derives::Derives;
 use crate::firsts::plan_for;

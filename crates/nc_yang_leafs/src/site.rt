@@ -2,8 +2,8 @@
 
 use nc_names::{Bound, Many};
 use nc_schema::Schema;
-use nc_yang_meanings::Meanings;
 use nc_yang_scopes::Scopes;
+use nc_yang_types::Meanings;
 
 /// From what the types of a schema's leafs are made.
 #[derive(Drop)]

@@ -1,6 +1,6 @@
 //! A schema with the types of its leafs and leaf-lists.
 ghost use Rattle.std.specs.Prelude.{◌≡◌, ℕ, Bool, List, [], length, IfOk, IfErr, OnOk, MatchResult};
-ghost use Rattle.nc_yang_meanings.specs.Plans.{AreMeanings};
+ghost use Rattle.nc_yang_types.specs.Plans.{AreMeanings};
 ghost use Rattle.nc_yang_nodes.specs.FeaturesOn.{is_on};
 ghost use Rattle.nc_yang_scopes.specs.Prefixes.{ArePrefixes};
 ghost use Rattle.nc_yang_leafs.specs.Bases as bases;
@@ -19,10 +19,10 @@ use crate::marks::marks_of;
 use crate::site::Site;
 use nc_names::{Bound, Copies, Many, Memory};
 use nc_schema::{Schema, ValueType};
-use nc_yang_meanings::Meanings;
 use nc_yang_nodes::{Features, Plan};
 use nc_yang_scopes::{Scopes, TextFault};
 use nc_yang_statements::Stop;
+use nc_yang_types::Meanings;
 use std::alloc::Global;
 
 // A type without its patterns, and the numbers of these.

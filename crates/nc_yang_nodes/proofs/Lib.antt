@@ -10,3 +10,8 @@ pub mod Lawful
 pub mod Sound
 pub mod Followed
 pub mod Alike
+pub mod NumberLemmas
+pub mod PlaceLemmas
+pub mod EdgeLemmas
+pub mod DerivedLemmas
+pub mod PickLemmas

@@ -8,3 +8,6 @@ pub mod Plans
 pub mod Alike
 pub mod Laws
 pub mod inner
+pub mod Identities
+pub mod Picks
+pub mod Values

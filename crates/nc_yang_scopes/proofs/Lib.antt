@@ -10,3 +10,11 @@ pub mod Misnaming
 pub mod Sharing
 pub mod StateLemmas
 pub mod PartLemmas
+pub mod LinkLists
+pub mod Graphs
+pub mod Adding
+pub mod Marking
+pub mod DefinedNames
+pub mod Linking
+pub mod Arranging
+pub mod Revising

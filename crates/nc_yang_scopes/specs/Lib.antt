@@ -9,3 +9,8 @@ pub mod Prefixes
 pub mod Numbers
 pub mod Laws
 pub mod inner
+pub mod Loops
+pub mod Orders
+pub mod References
+pub mod OrderLaws
+pub mod Revisions

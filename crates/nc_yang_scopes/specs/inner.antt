@@ -4,3 +4,4 @@ pub mod Names
 pub mod Books
 pub mod Naming
 pub mod Sharing
+pub mod Links

@@ -8,3 +8,13 @@ pub mod OrderLemmas
 pub mod ApartLemmas
 pub mod PatternLemmas
 pub mod ChoiceLemmas
+pub mod FootingLemmas
+pub mod DependentLemmas
+pub mod MeaningLemmas
+pub mod TableLemmas
+pub mod CheckLemmas
+pub mod FoundLemmas
+pub mod DefaultLemmas
+pub mod MemberLemmas
+pub mod ConditionalLemmas
+pub mod TakenLemmas

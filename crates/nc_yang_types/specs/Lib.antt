@@ -5,3 +5,12 @@ pub mod Patterns
 pub mod Entries
 pub mod Laws
 pub mod inner
+pub mod Features
+pub mod Places
+pub mod Meanings
+pub mod Wholes
+pub mod Numbers
+pub mod Plans
+pub mod Defaults
+pub mod Faults
+pub mod MeaningLaws

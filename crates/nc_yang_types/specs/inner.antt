@@ -1,3 +1,7 @@
 pub mod Cuts
 pub mod Walks
 pub mod Known
+pub mod Footings
+pub mod Planning
+pub mod Judging
+pub mod KnownTypes

@@ -11,8 +11,7 @@
 use nc_names::{Bytes, Many, Memory, Text};
 use nc_patterns::RegexMaker;
 use nc_schema::{Deny, Schema};
-use nc_yang::compile;
-use nc_yang_texts::{CompileFault, ModuleText};
+use nc_yang::{CompileFault, ModuleText, compile};
 use std::alloc::Global;
 use std::io::{self, ErrorKind};
 

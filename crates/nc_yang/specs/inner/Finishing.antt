@@ -9,7 +9,7 @@ use Rattle.nc_yang_leafs.specs.Patterns.{HasPatterns, IsRefused, Refusals, Refus
 use Rattle.nc_yang_nodes.specs.Roles.{FeatureTest}
 use Rattle.nc_yang.specs.Depths.{BreaksDepth, KeepsDepth}
 use Rattle.nc_yang.specs.Schemas.{BreaksPlan, BreaksSchema, IsTypedOf, RefusesSchema, basis}
-use Rattle.nc_yang_defaults.specs.Defaults.{BreaksDefault, HasDefaults, KeepsDefaults}
+use Rattle.nc_yang_leafs.specs.Defaults.{BreaksDefault, HasDefaults, KeepsDefaults}
 
 -- it has them
 pub record Finishes (scoping : Scoping) (plan : Plan) (typed : Typed) (tables : Tables) : Type 0 where

@@ -8,22 +8,22 @@ use Rattle.nc_yang_statements.specs.Keywords.{is_closed}
 use Rattle.nc_yang_statements.specs.Statements.{below, has, kind}
 use Rattle.nc_yang_scopes.specs.Numbers.{AreNumbers, OnNumber}
 use Rattle.nc_yang_scopes.specs.Scopes.{Located, Scoping}
-use Rattle.nc_yang_identities.specs.inner.Marks.{Tells}
-use Rattle.nc_yang_meanings.specs.Faults.{is_reference}
-use Rattle.nc_yang_meanings.specs.Plans.{AreMeanings}
-use Rattle.nc_yang_meanings.specs.declared.planned.Finding.{Finding}
-use Rattle.nc_yang_meanings.specs.declared.planned.Finding.TheVariants.{Plan as PlanOf}
-use Rattle.nc_yang_meanings.specs.declared.planned.Meanings.{Meanings}
-use Rattle.nc_yang_meanings.specs.declared.planned.Planned.{Planned}
-use Rattle.nc_yang_meanings.specs.declared.planned.Planned.TheVariants.{Bases, Finished, Leafref, Members}
+use Rattle.nc_yang_nodes.specs.inner.Marks.{Tells}
+use Rattle.nc_yang_types.specs.Faults.{is_reference}
+use Rattle.nc_yang_types.specs.Plans.{AreMeanings}
+use Rattle.nc_yang_types.specs.declared.planned.Finding.{Finding}
+use Rattle.nc_yang_types.specs.declared.planned.Finding.TheVariants.{Plan as PlanOf}
+use Rattle.nc_yang_types.specs.declared.planned.Meanings.{Meanings}
+use Rattle.nc_yang_types.specs.declared.planned.Planned.{Planned}
+use Rattle.nc_yang_types.specs.declared.planned.Planned.TheVariants.{Bases, Finished, Leafref, Members}
 use Rattle.nc_yang_nodes.specs.Roles.{FeatureTest}
 use Rattle.nc_yang_nodes.specs.declared.planned.Plan.{Plan}
 use Rattle.nc_yang_leafs.specs.Patterns.{AreTypings, HasPatterns, Refusals, RefusesType}
 use Rattle.nc_yang_leafs.specs.declared.bare.Typed.{Typed}
-use Rattle.nc_yang_defaults.specs.Typed.{IsTyped as IsReady}
-use Rattle.nc_yang_circles.specs.Circles.{HasNoCircle}
+use Rattle.nc_yang_leafs.specs.Typed.{IsTyped as IsReady}
+use Rattle.nc_yang_leafs.specs.Circles.{HasNoCircle}
 use Rattle.nc_yang_leafs.specs.Conditions.{holds}
-use Rattle.nc_yang_defaults.specs.Defaults.{BreaksDefault, KeepsDefaults}
+use Rattle.nc_yang_leafs.specs.Defaults.{BreaksDefault, KeepsDefaults}
 use Rattle.nc_yang_scopes.specs.declared.naming.TextFault.{TextFault}
 use Rattle.nc_yang.specs.declared.suited.Suited.{Suited}
 use Rattle.nc_yang.specs.Depths.{KeepsDepth}

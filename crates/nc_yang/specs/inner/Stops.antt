@@ -4,9 +4,9 @@ use Rattle.nc_yang_statements.specs.declared.fault.Fault.{Fault}
 use Rattle.nc_yang_statements.specs.declared.stop.Stop.{Stop}
 use Rattle.nc_yang_statements.specs.declared.stop.Stop.TheVariants.{Broken, Memory}
 use Rattle.nc_yang_scopes.specs.declared.naming.TextFault.{TextFault}
-use Rattle.nc_yang_texts.specs.declared.fault.CompileFault.{CompileFault}
+use Rattle.nc_yang.specs.declared.fault.CompileFault.{CompileFault}
 use Rattle.nc_yang.specs.Access.{in_file}
-use Rattle.nc_yang_texts.specs.declared.fault.CompileFault.TheVariants.{Module, Memory as NoMemory}
+use Rattle.nc_yang.specs.declared.fault.CompileFault.TheVariants.{Module, Memory as NoMemory}
 
 -- so it is with a fault of a text that is a file's
 abbrev pub OnFile : (ℕ → Fault → Type 0) → TextFault → Type 0

@@ -2,9 +2,9 @@
 use Rattle.std.specs.Prelude.{◌≡◌, ◌⊎◌, ℕ, Bool, false, List, Option, Some, slice_get, unwrap_or, option_map}
 use Rattle.nc_names.specs.declared.name.QName.{QName}
 use Rattle.nc_yang_scopes.specs.Scopes.{Located}
-use Rattle.nc_yang_meanings.specs.declared.planned.Finding.{Finding}
-use Rattle.nc_yang_meanings.specs.declared.planned.Planned.{Planned}
-use Rattle.nc_yang_meanings.specs.declared.planned.Planned.TheVariants.{Bases}
+use Rattle.nc_yang_types.specs.declared.planned.Finding.{Finding}
+use Rattle.nc_yang_types.specs.declared.planned.Planned.{Planned}
+use Rattle.nc_yang_types.specs.declared.planned.Planned.TheVariants.{Bases}
 use Rattle.nc_yang_leafs.specs.Marks.{is_marked, plan_at}
 use Rattle.nc_yang_leafs.specs.Named.{AreAlike}
 

@@ -9,10 +9,10 @@ use Rattle.nc_yang_scopes.specs.declared.naming.TextFault.{TextFault}
 use Rattle.nc_yang_scopes.specs.Numbers.{AreNumbers}
 use Rattle.nc_yang_scopes.specs.Scopes.{Located}
 use Rattle.nc_yang_nodes.specs.declared.planned.Plan.{Plan}
-use Rattle.nc_yang_meanings.specs.declared.planned.Meanings.{Meanings}
-use Rattle.nc_yang_meanings.specs.Meanings.{Means}
-use Rattle.nc_yang_meanings.specs.Plans.{AreMeanings}
-use Rattle.nc_yang_meanings.specs.Wholes.{MeansWhole}
+use Rattle.nc_yang_types.specs.declared.planned.Meanings.{Meanings}
+use Rattle.nc_yang_types.specs.Meanings.{Means}
+use Rattle.nc_yang_types.specs.Plans.{AreMeanings}
+use Rattle.nc_yang_types.specs.Wholes.{MeansWhole}
 use Rattle.nc_yang_leafs.specs.declared.table.Table.{Table}
 use Rattle.nc_yang_leafs.specs.declared.site.Site.{Site}
 use Rattle.nc_yang_leafs.specs.Bases.{AllMeanWhole, Basis, basis_on, leads, type_of}

@@ -8,12 +8,12 @@ use Rattle.nc_schema.specs.declared.value_type.ValueType.TheVariants.{Leafref as
 use Rattle.nc_schema.specs.Tables.{Tables}
 use Rattle.nc_yang_scopes.specs.declared.naming.TextFault.{TextFault}
 use Rattle.nc_yang_scopes.specs.Scopes.{Located, Scoping}
-use Rattle.nc_yang_meanings.specs.declared.planned.Meanings.{Meanings}
-use Rattle.nc_yang_meanings.specs.declared.planned.Planned.{Planned}
-use Rattle.nc_yang_meanings.specs.declared.planned.Planned.TheVariants.{Bases, Finished, Leafref, Members}
+use Rattle.nc_yang_types.specs.declared.planned.Meanings.{Meanings}
+use Rattle.nc_yang_types.specs.declared.planned.Planned.{Planned}
+use Rattle.nc_yang_types.specs.declared.planned.Planned.TheVariants.{Bases, Finished, Leafref, Members}
 use Rattle.nc_yang_scopes.specs.Numbers.{OnNumber}
-use Rattle.nc_yang_meanings.specs.Plans.{HasPlan}
-use Rattle.nc_yang_meanings.specs.Wholes.{UsesPath}
+use Rattle.nc_yang_types.specs.Plans.{HasPlan}
+use Rattle.nc_yang_types.specs.Wholes.{UsesPath}
 use Rattle.nc_yang_leafs.specs.declared.table.Slot.{Slot}
 use Rattle.nc_yang_leafs.specs.declared.table.Table.{Table}
 use Rattle.nc_yang_leafs.specs.Bases.{leads}

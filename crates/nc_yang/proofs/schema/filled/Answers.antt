@@ -2,7 +2,7 @@ use Rattle.std.proofs.Common.{subst}
 use Rattle.std.proofs.lemmas.Result.{err_from_is_err_and}
 use Rattle.nc_schema.specs.Tables.{Tables}
 use Rattle.nc_yang_statements.specs.Stops.{OnBroken}
-use Rattle.nc_yang_circles.specs.Circles.{BreaksCircle, HasNoCircle}
+use Rattle.nc_yang_leafs.specs.Circles.{BreaksCircle, HasNoCircle}
 use Rattle.nc_yang_leafs.specs.Faults.{BreaksLeafref}
 use Rattle.nc_yang_leafs.specs.Patterns.{AreTypings, refusing}
 use Rattle.nc_yang_nodes.specs.FeaturesOn.{is_on}

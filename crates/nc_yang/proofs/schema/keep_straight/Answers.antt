@@ -1,6 +1,6 @@
 use Rattle.std.proofs.Common.{subst}
 use Rattle.nc_yang_nodes.specs.FeaturesOn.{is_on}
-use Rattle.nc_yang_circles.specs.Circles.{JudgesCircles}
+use Rattle.nc_yang_leafs.specs.Circles.{JudgesCircles}
 use Rattle.nc_yang_leafs.specs.Conditions.{holds}
 use Rattle.nc_yang.specs.Schemas.{basis_of}
 use Rattle.nc_yang.proofs.schema.keep_straight.Goals as goal

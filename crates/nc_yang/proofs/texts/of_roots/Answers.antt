@@ -2,9 +2,9 @@ use Rattle.std.proofs.Common.{sym, subst}
 use Rattle.std.proofs.lemmas.Result.{err_from_is_err_and}
 use Rattle.nc_yang_leafs.specs.Patterns.{refusing}
 use Rattle.nc_yang_nodes.specs.FeaturesOn.{is_on}
-use Rattle.nc_yang_texts.specs.Rules.{KeepsTexts}
+use Rattle.nc_yang.specs.Rules.{KeepsTexts}
 use Rattle.nc_yang.specs.Access.{HaveStatements}
-use Rattle.nc_yang.proofs.Outcomes.{begins, schema_stops, text_stops}
+use Rattle.nc_yang.proofs.Outcomes.{begins, begun_stops, text_stops}
 use Rattle.nc_yang.proofs.UnknownLemmas.{known}
 use Rattle.nc_yang.proofs.texts.of_roots.Goals as goal
 
@@ -21,7 +21,7 @@ pub returns-in_err-schema : goal.returns-in_err-schema
 returns-in_err-schema g c = λ modules read.
     let p = err_from_is_err_and c.from_residual-in_err-schema.result c.from_residual-in_err-schema.ensures.1 in
     let on = is_on c.in_ok-features.features in
-    rw (p.1, p.2) (schema_stops modules c.args.lines.now
+    rw (p.1, p.2) (begun_stops modules c.args.lines.now
     (refusing (g.M.Maker.refusals c.args.maker.now) (g.M.Maker.refusals c.compiled.new.maker) (g.M.Maker.last_refused c.compiled.new.maker)) c.in_ok-scopes.scopes on
     (begins modules c.args.lines.now c.in_ok-scopes.scopes on c.args.roots.now c.in_ok-scopes.ensures.texts read c.in_ok-keep_texts.ensures c.in_ok-scopes.ensures.numbers c.in_ok-features.ensures)
     c.in_err-schema.field-0.0 c.in_err-schema.ensures)

@@ -1,8 +1,8 @@
 use Rattle.std.proofs.Common.{[], arith, subst, sym}
 use Rattle.std.proofs.lemmas.Option.{slice_get-get_or}
 use Rattle.nc_yang_scopes.specs.Numbers.{AreNumbers}
-use Rattle.nc_yang_identities.specs.Picks.{PicksNumbers}
-use Rattle.nc_yang_identities.proofs.PickLemmas.{looked_all, looks_at, picks_nothing}
+use Rattle.nc_yang_nodes.specs.Picks.{PicksNumbers}
+use Rattle.nc_yang_nodes.proofs.PickLemmas.{looked_all, looks_at, picks_nothing}
 use Rattle.nc_yang.specs.Typedefs.{IsJudged, typedefs}
 use Rattle.nc_yang.proofs.typedefs.judged.Goals as goal
 

@@ -1,8 +1,8 @@
 -- Those of the typedefs before.
 use Rattle.std.proofs.Common.{ℕ, List, take}
 use Rattle.std.specs.Prelude.{Bool}
-use Rattle.nc_yang_identities.specs.Picks.{PicksNumbers}
-use Rattle.nc_yang_meanings.specs.Plans.{AreMeanings}
+use Rattle.nc_yang_nodes.specs.Picks.{PicksNumbers}
+use Rattle.nc_yang_types.specs.Plans.{AreMeanings}
 use Rattle.nc_yang.specs.Typedefs.{IsJudged, typedefs}
 use Rattle.nc_yang.proofs.typedefs.judged.Given as goal
 

@@ -1,7 +1,7 @@
 use Rattle.std.proofs.Common.{◌++◌, ◌+◌, sym, subst}
 use Rattle.std.specs.List.{flat_map, range_with_len}
 use Rattle.nc_yang_scopes.specs.Numbers.{AreNumbers}
-use Rattle.nc_yang_identities.proofs.NumberLemmas.{flat_range_more, numbers_append}
+use Rattle.nc_yang_nodes.proofs.NumberLemmas.{flat_range_more, numbers_append}
 use Rattle.nc_yang.specs.Typedefs.{typedefs_in}
 use Rattle.nc_yang.proofs.typedefs.typedefs.Goals as goal
 

@@ -1,6 +1,6 @@
 use Rattle.std.proofs.Common.{◌≡◌, ◌<◌, ℕ, true, false}
 use Rattle.std.specs.Prelude.{Some, slice_get}
-use Rattle.nc_yang_meanings.specs.declared.planned.Planned.{Planned}
+use Rattle.nc_yang_types.specs.declared.planned.Planned.{Planned}
 use Rattle.nc_yang_leafs.specs.Marks.{is_marked, is_plain}
 use Rattle.nc_yang_leafs.proofs.marks.are_marks.Given as goal
 

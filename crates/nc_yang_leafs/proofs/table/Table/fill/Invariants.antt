@@ -1,6 +1,6 @@
 use Rattle.std.proofs.Common.{ℕ, Bool, List}
 use Rattle.nc_yang_scopes.specs.Scopes.{Located}
-use Rattle.nc_yang_meanings.specs.Plans.{AreMeanings}
+use Rattle.nc_yang_types.specs.Plans.{AreMeanings}
 use Rattle.nc_yang_leafs.specs.inner.Sites.{work}
 use Rattle.nc_yang_leafs.specs.inner.Tables.{Goes, IsAtStart}
 use Rattle.nc_yang_leafs.proofs.table.Table.fill.Given as goal

@@ -1,5 +1,0 @@
-use Rattle.nc_yang_defaults.proofs.LawLemmas.{are_canonical}
-use Rattle.nc_yang_defaults.proofs.laws.defaults_are_canonical.Goals as goal
-
-pub returns : goal.returns
-returns c = are_canonical

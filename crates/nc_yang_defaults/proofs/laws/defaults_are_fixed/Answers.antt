@@ -1,5 +1,0 @@
-use Rattle.nc_yang_defaults.proofs.LawLemmas.{are_fixed}
-use Rattle.nc_yang_defaults.proofs.laws.defaults_are_fixed.Goals as goal
-
-pub returns : goal.returns
-returns c = are_fixed

@@ -1,5 +1,0 @@
-use Rattle.nc_yang_defaults.proofs.LawLemmas.{keep_rules}
-use Rattle.nc_yang_defaults.proofs.laws.defaults_keep_rules.Goals as goal
-
-pub returns : goal.returns
-returns c = keep_rules

@@ -1,5 +1,0 @@
-use Rattle.nc_yang_defaults.proofs.OutcomeLemmas.{outcome_canonical}
-use Rattle.nc_yang_defaults.proofs.laws.outcome_is_canonical.Goals as goal
-
-pub returns : goal.returns
-returns c = λ scoping plan typed tables number node is has. outcome_canonical scoping plan typed tables is has number node

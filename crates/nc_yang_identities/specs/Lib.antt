@@ -1,4 +1,0 @@
-pub mod Identities
-pub mod Picks
-pub mod Values
-pub mod inner

@@ -1,5 +1,0 @@
-use Rattle.nc_yang_loops.proofs.Arranging.{order_has_no_circle}
-use Rattle.nc_yang_loops.proofs.laws.order_has_no_circle.Goals as goal
-
-pub returns : goal.returns
-returns c = order_has_no_circle

@@ -1,6 +1,0 @@
-use Rattle.std.proofs.Common.{◌∙◌, sym}
-use Rattle.nc_yang_loops.proofs.Naming.{closed_none}
-use Rattle.nc_yang_loops.proofs.links.is_out.Goals as goal
-
-pub returns-then-is_of : goal.returns-then-is_of
-returns-then-is_of c = λ shut. closed_none c.args.scopes.now c.args.sort c.args.number (sym c.is_in_closed.ensures ∙ shut)

@@ -1,5 +1,0 @@
-use Rattle.nc_yang_meanings.specs.inner.Footings.{AreDependents}
-use Rattle.nc_yang_meanings.proofs.dependents.dependents.Given as goal
-
-abbrev pub invariant-loop-number : goal.invariant-loop-number
-invariant-loop-number l = AreDependents l.footings l.number l.graph

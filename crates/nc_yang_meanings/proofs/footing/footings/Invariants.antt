@@ -1,5 +1,0 @@
-use Rattle.nc_yang_meanings.specs.inner.Footings.{AreFootings}
-use Rattle.nc_yang_meanings.proofs.footing.footings.Given as goal
-
-abbrev pub invariant-loop-number : goal.invariant-loop-number
-invariant-loop-number l = AreFootings l.scopes l.number l.footings

@@ -1,4 +1,0 @@
-pub mod Footings
-pub mod Planning
-pub mod Judging
-pub mod Known

@@ -1,4 +1,0 @@
-mod Utf8
-mod Reading
-pub mod OneWay
-mod Ruling

@@ -1,6 +1,0 @@
-use Rattle.std.proofs.Common.{◌≡◌, ℕ, List, take, length}
-use Rattle.nc_yang_texts.specs.Texts.{AreEachRead}
-use Rattle.nc_yang_texts.proofs.read.read_texts.Given as goal
-
-abbrev pub invariant-loop-file : goal.invariant-loop-file
-invariant-loop-file l = AreEachRead (take l.file l.fn.texts) l.roots

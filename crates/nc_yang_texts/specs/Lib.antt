@@ -1,4 +1,0 @@
-pub mod Texts
-pub mod Rules
-pub mod Laws
-pub mod inner

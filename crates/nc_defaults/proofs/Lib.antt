@@ -1,3 +1,4 @@
+pub mod BelowLemmas
 pub mod ListLemmas
 pub mod PartsLemmas
 pub mod Runs

@@ -201,6 +201,24 @@ fn add_parts<'a>(
     Ok(())
 }
 
+/// The places below one, in document order.
+pub(crate) fn places_below<'a>(
+    alloc: Global,
+    children: &Children<'_>,
+    config: &'a Listed,
+    steps: &[Step],
+    here: Here,
+) -> Result<Many<Spot<'a>>, Memory>
+    requires { IsWithin config.now here }
+    ensures places { IfOk result (λ it. places_in config.now it
+        ≡ places_under children.now (place_here config.now steps.now here) 0) }
+    ensures within { IfOk result (AreWithin config.now) }
+{
+    let mut out = Many::new(alloc);
+    add_below(&mut out, children, config, steps, here, 0)?;
+    Ok(out)
+}
+
 /// A place and all below it, in document order.
 pub fn places_from<'a>(
     alloc: Global,

@@ -1,6 +1,7 @@
 //! Which data nodes stand in which (RFC 7950 7.5, 7.8). It is found once for a schema, so that in each
 //! place of a configuration only the children of its data node are looked at.
-ghost use Rattle.std.specs.Prelude.{◌≡◌, ◌++◌, ◌∷◌, ◌+◌, ◌<◌, ◌^◌, [], length, replicate, slice_get, slice_set, IfOk, OnSome};
+ghost use Rattle.std.specs.Prelude.{◌≡◌, ◌++◌, ◌∷◌, ◌+◌, ◌<◌, ◌^◌, []};
+ghost use Rattle.std.specs.Prelude.{length, replicate, slice_get, slice_set, IfOk, OnSome};
 ghost use Rattle.std.specs.List.{list_any};
 ghost use Rattle.std.specs.Option.{option_copied};
 ghost use Rattle.nc_schema.specs.Children.{HasLowerParents};

@@ -1,5 +1,6 @@
 //! Places of a configuration.
-ghost use Rattle.std.specs.Prelude.{◌≡◌, ◌++◌, ◌≤◌, ◌∷◌, [], Option, Some, length, option_map, option_to_list, find, IfSome};
+ghost use Rattle.std.specs.Prelude.{◌≡◌, ◌++◌, ◌≤◌, ◌∷◌, []};
+ghost use Rattle.std.specs.Prelude.{Option, Some, length, option_map, option_to_list, find, IfSome};
 ghost use Rattle.nc_names.specs.declared.path.Step.{Step};
 ghost use Rattle.nc_schema.specs.Kinds as kinds;
 ghost use Rattle.nc_schema.specs.Places as places;

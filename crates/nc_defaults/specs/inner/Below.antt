@@ -15,6 +15,6 @@ values_at tables number place =
 abbrev pub values_among : Tables → ℕ → List Place → List (List ℕ)
 values_among tables number found = flat_map (values_at tables number) found
 
--- the texts to which references lead
+-- the texts that are meant
 abbrev pub texts : List (Bor (List ℕ)) → List (List ℕ)
 texts values = map (λ value. value.now) values

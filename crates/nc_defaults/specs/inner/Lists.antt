@@ -10,7 +10,7 @@ abbrev pub list_place : Option ℕ → ℕ
 list_place None = 0
 list_place (Some number) = number + 1
 
--- the list in a place, an empty one past the last
+-- the list at that place; none past the last
 abbrev pub list_at : List (List ℕ) → ℕ → List ℕ
 list_at lists place = unwrap_or (slice_get lists place) []
 

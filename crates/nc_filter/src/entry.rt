@@ -282,44 +282,45 @@ fn is_cut(schema: &Schema, config: &Config, low: &Path, high: &Path) -> Result<b
     begins_after(schema, config, place, high)
 }
 
+// A list of a configuration, below the steps to what it stands in.
+#[derive(Drop)]
+struct Listed<'a> {
+    schema: &'a Schema,
+    config: &'a Config,
+    above: &'a [Step],
+    list: u32,
+}
+
 // Whether no entry has these keys first and then one that goes on from a text by white space.
 fn is_clear_at(
     alloc: Global,
-    schema: &Schema,
-    config: &Config,
-    above: &[Step],
-    list: u32,
+    listed: &Listed<'_>,
     front: &[Text],
     text: &str,
 ) -> Result<bool, Memory>
-    ensures { IfOk result (λ it. it ≡ true →
-        inner.IsClearAt schema.now config.now above.now list front.now text.now) }
+    ensures { IfOk result (λ it. it ≡ true → inner.IsClearAt listed.now.schema.now listed.now.config.now
+        listed.now.above.now listed.now.list front.now text.now) }
 {
+    let above = listed.above;
+    let list = listed.list;
     let low = entry_path(alloc, above, list, keys_at(alloc, front, text, "\u{1}")?)?;
     let high = entry_path(alloc, above, list, keys_at(alloc, front, text, "!")?)?;
-    is_cut(schema, config, &low, &high)
+    is_cut(listed.schema, listed.config, &low, &high)
 }
 
 // Whether no entry has white space at the ends of a key where the texts have none.
-fn are_clear(
-    alloc: Global,
-    schema: &Schema,
-    config: &Config,
-    above: &[Step],
-    list: u32,
-    texts: &[Text],
-) -> Result<bool, Memory>
-    ensures { IfOk result (λ it. it ≡ true →
-        inner.AreClear schema.now config.now above.now list [] texts.now) }
+fn are_clear(alloc: Global, listed: &Listed<'_>, texts: &[Text]) -> Result<bool, Memory>
+    ensures { IfOk result (λ it. it ≡ true → inner.AreClear listed.now.schema.now listed.now.config.now
+        listed.now.above.now listed.now.list [] texts.now) }
 {
     let mut at = 0;
     for text in texts {
         let front = &texts[..at];
         at += 1;
-        if !is_clear_at(alloc, schema, config, above, list, front, "")? {
+        if !is_clear_at(alloc, listed, front, "")? {
             return Ok(false);
         }
-        if !is_clear_at(alloc, schema, config, above, list, front, text.as_str())? {
+        if !is_clear_at(alloc, listed, front, text.as_str())? {
             return Ok(false);
         }
     }
@@ -337,7 +338,13 @@ fn only_entry(
 ) -> Result<Option<Path>, Memory>
     ensures { IfOk result (λ it. IfSome it (inner.IsOnlyEntry schema.now config.now above.now list texts)) }
 {
-    if !are_clear(alloc, schema, config, above, list, texts.as_slice())? {
+    let listed = Listed {
+        schema,
+        config,
+        above,
+        list,
+    };
+    if !are_clear(alloc, &listed, texts.as_slice())? {
         return Ok(None);
     }
     let path = entry_path(alloc, above, list, texts)?;

@@ -60,30 +60,38 @@ fn slot<'t>(items: &'t BTreeMap<Many<u8>, Many<usize>>, label: &Many<u8>) -> &'t
     }
 }
 
-// Adds what a label selects. `rows` and `groups` are the numbers of `spots` and of `wants` by their labels.
+// Rows and wants, and their numbers by their labels.
+#[derive(Drop)]
+struct Labelled<'a, 'w> {
+    spots: &'w [Spot<'a>],
+    rows: BTreeMap<Many<u8>, Many<usize>>,
+    wants: &'w [Want<'a>],
+    groups: BTreeMap<Many<u8>, Many<usize>>,
+}
+
+// Adds what a label selects.
 fn with_label<'a>(
     alloc: Global,
-    spots: &[Spot<'a>],
-    rows: &BTreeMap<Many<u8>, Many<usize>>,
-    wants: &[Want],
-    groups: &BTreeMap<Many<u8>, Many<usize>>,
+    labelled: &Labelled<'a, '_>,
     label: &Many<u8>,
     out: Many<&'a Row>,
 ) -> Result<Many<&'a Row>, Memory>
     ensures { IfOk result (λ it. (tables : Tables) (depth : ℕ) →
-        labels.AreSlots (labels.spot_has tables depth) rows.now spots.now spots.now →
-        labels.AreSlots labels.want_has groups.now wants.now wants.now → (test : Row → Bool) →
+        labels.AreSlots (labels.spot_has tables depth) labelled.now.rows
+        labelled.now.spots.now labelled.now.spots.now →
+        labels.AreSlots labels.want_has labelled.now.groups labelled.now.wants.now labelled.now.wants.now →
+        (test : Row → Bool) →
         list_any test (map (λ row. row.now) it) ≡ (list_any test (map (λ row. row.now) out.entry)
-        || labels.label_picks tables depth spots.now wants.now test label.now)) }
+        || labels.label_picks tables depth labelled.now.spots.now labelled.now.wants.now test label.now)) }
 {
-    let places = slot(rows, label);
+    let places = slot(&labelled.rows, label);
     if places.is_empty() {
         return Ok(out);
     }
-    let some = slot(groups, label);
-    let set = union_of(alloc, wants, some)?;
+    let some = slot(&labelled.groups, label);
+    let set = union_of(alloc, labelled.wants, some)?;
     let numbers = set.as_slice();
-    let found = with_spots(numbers, spots, places, out)?;
+    let found = with_spots(numbers, labelled.spots, places, out)?;
     Ok(found)
 }
 
@@ -107,9 +115,15 @@ pub(crate) fn pick_labels<'a>(
     }
     let rows = spots::by_label(alloc, schema, depth, spots)?;
     let table = wants::by_label(alloc, wants)?;
+    let labelled = Labelled {
+        spots,
+        rows,
+        wants,
+        groups: table,
+    };
     let mut out = out;
     for label in some {
-        out = with_label(alloc, spots, &rows, wants, &table, label, out)?;
+        out = with_label(alloc, &labelled, label, out)?;
     }
     Ok(out)
 }

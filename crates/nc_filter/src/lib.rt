@@ -14,6 +14,7 @@
 #![tactic(auto)]
 
 mod asked;
+mod basis;
 mod below;
 mod bits;
 mod descent;

@@ -105,26 +105,34 @@ fn reached(alloc: Global, runs: &[Run], below: &Below, members: &Members) -> Res
     Ok(Reached::Bits(reached_bits(alloc, runs, members)?))
 }
 
+// Instances, by their keys and by those in which they stand.
+#[derive(Drop)]
+struct Instances<'a, 'r> {
+    runs: &'r [Run<'a>],
+    table: &'r Table,
+    below: Below,
+}
+
 // Groups with those of the elements of a want.
 fn with_want<'a>(
     alloc: Global,
-    table: &Table,
-    runs: &[Run<'a>],
-    below: &Below,
+    instances: &Instances<'a, '_>,
     upper: Option<usize>,
     want: &Want<'a>,
     out: Many<Group<'a>>,
 ) -> Result<Many<Group<'a>>, Memory>
-    ensures { IfOk result (λ it. inner.IsKeyed table.now.items runs.now → IsBelow runs.now below.now →
-        inner.AddsWant runs.now upper want.now out.entry it) }
+    ensures { IfOk result (λ it. inner.IsKeyed instances.now.table.now.items instances.now.runs.now →
+        IsBelow instances.now.runs.now instances.now.below →
+        inner.AddsWant instances.now.runs.now upper want.now out.entry it) }
 {
     let elems = want.elems.as_slice();
     if elems.is_empty() {
         return Ok(out);
     }
+    let runs = instances.runs;
     let classes = classes(alloc, upper, elems)?;
-    let from = reached(alloc, runs, below, &want.members)?;
-    let found = group_each(alloc, table, runs, &from, classes, out)?;
+    let from = reached(alloc, runs, &instances.below, &want.members)?;
+    let found = group_each(alloc, instances.table, runs, &from, classes, out)?;
     Ok(found)
 }
 
@@ -140,9 +148,10 @@ pub(crate) fn groups<'a>(
         inner.AreGroups runs.now upper wants.now it) }
 {
     let below = Below::of(alloc, runs)?;
+    let instances = Instances { runs, table, below };
     let mut out = Many::new(alloc);
     for want in wants {
-        out = with_want(alloc, table, runs, &below, upper, want, out)?;
+        out = with_want(alloc, &instances, upper, want, out)?;
     }
     let found = joined_groups(alloc, out)?;
     Ok(found)

@@ -7,12 +7,11 @@ ghost use Rattle.nc_filter.specs.inner.Keys.{among};
 ghost use Rattle.nc_filter.specs.inner.Runs.{AreKnown, AreRuns, IsKnown};
 ghost use Rattle.nc_filter.specs.inner.Tables.{IsIndex, has_text};
 
-use crate::index::Index;
+use crate::basis::Basis;
 use crate::instances::instance_keys;
 use crate::rows::Spot;
 use crate::texts::{bytes_of, with_text};
 use nc_names::{Many, Memory, Row, Step, same_steps};
-use nc_schema::Schema;
 use std::alloc::Global;
 use std::collections::BTreeSet;
 
@@ -67,9 +66,7 @@ fn key_set(alloc: Global, keys: &[Many<u8>]) -> Result<BTreeSet<Many<u8>>, Memor
 }
 
 fn new_run<'a>(
-    alloc: Global,
-    schema: &Schema,
-    index: &Index<'a>,
+    basis: &Basis<'a>,
     upper: Option<usize>,
     parent: usize,
     above: &'a [Step],
@@ -77,12 +74,12 @@ fn new_run<'a>(
 ) -> Result<Run<'a>, Memory>
     ensures rows { IfOk result (λ it. (it.parent ≡ parent) × (it.above ≡ above.entry)
         × (map (λ row. row.now) it.rows ≡ row.now ∷ [])) }
-    ensures keys { IfOk result (λ it. (all : List Row) → IsIndex index.now.table all →
-        IsKnown schema.now all upper it) }
+    ensures keys { IfOk result (λ it. (all : List Row) → IsIndex basis.now.index.table all →
+        IsKnown basis.now.schema.now all upper it) }
 {
-    let inside = instance_keys(alloc, schema, index, upper, above)?;
-    let keys = key_set(alloc, inside.as_slice())?;
-    let mut rows = Many::new(alloc);
+    let inside = instance_keys(basis.alloc, basis.schema, &basis.index, upper, above)?;
+    let keys = key_set(basis.alloc, inside.as_slice())?;
+    let mut rows = Many::new(basis.alloc);
     rows.push(row)?;
     Ok(Run {
         parent,
@@ -104,9 +101,7 @@ fn is_run(run: &Run, parent: usize, above: &[Step]) -> bool
 
 // Runs with a row more.
 fn with_next<'a>(
-    alloc: Global,
-    schema: &Schema,
-    index: &Index<'a>,
+    basis: &Basis<'a>,
     depth: usize,
     upper: Option<usize>,
     runs: Many<Run<'a>>,
@@ -114,15 +109,15 @@ fn with_next<'a>(
 ) -> Result<Many<Run<'a>>, Memory>
     ensures runs { IfOk result (λ it. (spots : List Spot) → AreRuns depth spots runs.entry →
         AreRuns depth (spots ++ spot.now ∷ []) it) }
-    ensures known { IfOk result (λ it. (all : List Row) → IsIndex index.now.table all →
-        AreKnown schema.now all upper runs.entry → AreKnown schema.now all upper it) }
+    ensures known { IfOk result (λ it. (all : List Row) → IsIndex basis.now.index.table all →
+        AreKnown basis.now.schema.now all upper runs.entry → AreKnown basis.now.schema.now all upper it) }
 {
     let number = spot.number;
     let row = spot.row;
     let above = front(depth, row.path.steps.as_slice());
     let mut runs = runs;
     let Some(last) = runs.pop() else {
-        runs.push(new_run(alloc, schema, index, upper, number, above, row)?)?;
+        runs.push(new_run(basis, upper, number, above, row)?)?;
         return Ok(runs);
     };
     if is_run(&last, number, above) {
@@ -130,26 +125,24 @@ fn with_next<'a>(
         return Ok(runs);
     }
     runs.push(last)?;
-    runs.push(new_run(alloc, schema, index, upper, number, above, row)?)?;
+    runs.push(new_run(basis, upper, number, above, row)?)?;
     Ok(runs)
 }
 
 /// Rows by the instances at a depth above them.
 pub(crate) fn cut<'a>(
-    alloc: Global,
-    schema: &Schema,
-    index: &Index<'a>,
+    basis: &Basis<'a>,
     depth: usize,
     upper: Option<usize>,
     spots: &[Spot<'a>],
 ) -> Result<Many<Run<'a>>, Memory>
     ensures runs { IfOk result (λ it. AreRuns depth spots.now it) }
-    ensures known { IfOk result (λ it. (all : List Row) → IsIndex index.now.table all →
-        AreKnown schema.now all upper it) }
+    ensures known { IfOk result (λ it. (all : List Row) → IsIndex basis.now.index.table all →
+        AreKnown basis.now.schema.now all upper it) }
 {
-    let mut runs = Many::new(alloc);
+    let mut runs = Many::new(basis.alloc);
     for spot in spots {
-        runs = with_next(alloc, schema, index, depth, upper, runs, spot)?;
+        runs = with_next(basis, depth, upper, runs, spot)?;
     }
     Ok(runs)
 }

@@ -8,6 +8,7 @@ ghost use Rattle.nc_schema.specs.Order.{keys_above};
 ghost use Rattle.nc_protocol.specs.Filter as meant;
 ghost use Rattle.nc_filter.specs.inner.Tables.{ArePlaces, IsIndex};
 
+use crate::basis::Basis;
 use crate::element::last_step;
 use crate::front::met_rows;
 use crate::index::{Index, above_last};
@@ -32,22 +33,20 @@ fn push_copy_if(rows: Many<Row>, selected: bool, row: &Row) -> Result<Many<Row>,
 
 // The rows that the filter selects by itself, in some order.
 fn chosen<'a>(
-    alloc: Global,
-    schema: &Schema,
-    index: &Index<'a>,
+    basis: &Basis<'a>,
     filter: &'a Elem,
     rows: &[&'a Row],
 ) -> Result<Many<&'a Row>, Memory>
-    ensures { IfOk result (λ it. IsIndex index.now.table (map (λ row. row.now) rows.now) →
+    ensures { IfOk result (λ it. IsIndex basis.now.index.table (map (λ row. row.now) rows.now) →
         (test : Row → Bool) →
         list_any test (map (λ row. row.now) it)
-        ≡ list_any test (meant.chosen schema.now filter.now (map (λ row. row.now) rows.now))) }
+        ≡ list_any test (meant.chosen basis.now.schema.now filter.now (map (λ row. row.now) rows.now))) }
 {
-    let mut elems = Many::new(alloc);
+    let mut elems = Many::new(basis.alloc);
     elems.push(filter)?;
     let top = elems.as_slice();
-    let none = Many::new(alloc);
-    let found = pick_within(alloc, schema, index, 0, top, rows, none)?;
+    let none = Many::new(basis.alloc);
+    let found = pick_within(basis, 0, top, rows, none)?;
     Ok(found)
 }
 
@@ -119,7 +118,7 @@ fn kept<'a>(
 
 fn selected_rows<'a>(
     alloc: Global,
-    schema: &Schema,
+    schema: &'a Schema,
     filter: &'a Elem,
     rows: &[&'a Row],
 ) -> Result<Many<Row>, Memory>
@@ -127,7 +126,12 @@ fn selected_rows<'a>(
         ≡ meant.selected schema.now filter.now (map (λ row. row.now) rows.now)) }
 {
     let index = Index::new(alloc, rows)?;
-    let found = chosen(alloc, schema, &index, filter, rows)?;
+    let basis = Basis {
+        alloc,
+        schema,
+        index,
+    };
+    let found = chosen(&basis, filter, rows)?;
     let places = Places::new(alloc, found.as_slice())?;
     let out = kept(alloc, schema, &places, rows)?;
     Ok(out)

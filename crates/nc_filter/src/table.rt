@@ -8,13 +8,12 @@ ghost use Rattle.nc_filter.specs.inner.Runs as runs;
 ghost use Rattle.nc_filter.specs.inner.Sets.{has};
 ghost use Rattle.nc_filter.specs.inner.Tables.{IsIndex};
 
-use crate::index::Index;
+use crate::basis::Basis;
 use crate::instances::instance_keys;
 use crate::members::{Members, with_number};
 use crate::runs::Run;
 use crate::texts::bytes_of;
 use nc_names::{Many, Memory};
-use nc_schema::Schema;
 use std::alloc::Global;
 use std::collections::BTreeMap;
 
@@ -67,20 +66,18 @@ fn with_keys(
 }
 
 fn with_run<'a>(
-    alloc: Global,
-    schema: &Schema,
-    index: &Index<'a>,
+    basis: &Basis<'a>,
     upper: Option<usize>,
     items: BTreeMap<Many<u8>, Members>,
     run: &Run<'a>,
     number: usize,
 ) -> Result<BTreeMap<Many<u8>, Members>, Memory>
-    ensures { IfOk result (λ it. (all : List Row) → IsIndex index.now.table all →
-        runs.Marks items it (runs.has_key schema.now all upper run.now) number) }
+    ensures { IfOk result (λ it. (all : List Row) → IsIndex basis.now.index.table all →
+        runs.Marks items it (runs.has_key basis.now.schema.now all upper run.now) number) }
 {
-    let keys = instance_keys(alloc, schema, index, upper, run.above)?;
+    let keys = instance_keys(basis.alloc, basis.schema, &basis.index, upper, run.above)?;
     let inside = keys.as_slice();
-    let more = with_keys(alloc, items, inside, number)?;
+    let more = with_keys(basis.alloc, items, inside, number)?;
     Ok(more)
 }
 
@@ -107,19 +104,17 @@ fn few_of(members: &Members) -> Option<&[usize]>
 impl Table {
     /// The table of some instances.
     pub(crate) fn new<'a>(
-        alloc: Global,
-        schema: &Schema,
-        index: &Index<'a>,
+        basis: &Basis<'a>,
         upper: Option<usize>,
         rows: &[Run<'a>],
     ) -> Result<Table, Memory>
-        ensures { IfOk result (λ it. (all : List Row) → IsIndex index.now.table all →
-            runs.IsTable schema.now all upper it.items rows.now) }
+        ensures { IfOk result (λ it. (all : List Row) → IsIndex basis.now.index.table all →
+            runs.IsTable basis.now.schema.now all upper it.items rows.now) }
     {
-        let mut items = BTreeMap::new(alloc);
+        let mut items = BTreeMap::new(basis.alloc);
         let mut number = 0;
         for run in rows {
-            items = with_run(alloc, schema, index, upper, items, run, number)?;
+            items = with_run(basis, upper, items, run, number)?;
             number += 1;
         }
         Ok(Table { items })

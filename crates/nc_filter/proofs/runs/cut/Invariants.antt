@@ -7,4 +7,4 @@ use Rattle.nc_filter.proofs.runs.cut.Given as goal
 abbrev pub invariant-loop-spot : goal.invariant-loop-spot
 invariant-loop-spot l =
     AreRuns l.depth (take l.spot-index l.spots) l.runs
-    × ((all : List Row) → IsIndex l.index.table all → AreKnown l.schema all l.upper l.runs)
+    × ((all : List Row) → IsIndex l.basis.index.table all → AreKnown l.basis.schema.now all l.upper l.runs)

@@ -11,9 +11,9 @@ pub returns : goal.returns
 returns c = λ index test.
     let rows : List Row = map (λ row. row.now) c.args.rows.now in
     let found : List Row = map (λ row. row.now) c.in_ok-found.found in
-    chosen_done c.args.schema.now rows found c.args.filter.now
-    (subst (λ (before : List Row). Adds before found (λ row. list_any (within c.args.schema.now rows 0 row) (c.args.filter.now ∷ [])) rows)
+    chosen_done c.args.basis.now.schema.now rows found c.args.filter.now
+    (subst (λ (before : List Row). Adds before found (λ row. list_any (within c.args.basis.now.schema.now rows 0 row) (c.args.filter.now ∷ [])) rows)
     (ap (map (λ row. row.now)) c.new-none.ensures)
-    (subst (λ (elems : List Elem). Adds (map (λ row. row.now) c.new-none.result) found (λ row. list_any (within c.args.schema.now rows 0 row) elems) rows)
+    (subst (λ (elems : List Elem). Adds (map (λ row. row.now) c.new-none.result) found (λ row. list_any (within c.args.basis.now.schema.now rows 0 row) elems) rows)
     (ap (map (λ elem. elem.now)) (c.as_slice-top.ensures ∙ c.in_ok-push.ensures.ok ∙ ap (λ elems. elems ++ c.args.filter ∷ []) c.new-elems.ensures))
     (c.in_ok-found.ensures rows index))) test

@@ -24,9 +24,9 @@ decreases-pick_open l = 8 * (2 ^ 64 - l.depth) + 1
 
 abbrev pub invariant-pick_level-nodes : goal.invariant-pick_level-nodes
 invariant-pick_level-nodes l =
-    (all : List Row) → IsIndex l.index.table all → AreNames l.level.items l.level.elems l.level.elems → (test : Row → Bool) →
-    (list_any test (map (λ row. row.now) l.out) || list_any (λ row. picked l.schema all l.depth (map (λ elem. elem.now) l.level.elems) row && test row) (map (λ row. row.now) l.rest))
-    ≡ (list_any test (map (λ row. row.now) l.fn.out) || list_any (λ row. picked l.schema all l.depth (map (λ elem. elem.now) l.level.elems) row && test row) (map (λ row. row.now) l.rows))
+    (all : List Row) → IsIndex l.basis.index.table all → AreNames l.level.items l.level.elems l.level.elems → (test : Row → Bool) →
+    (list_any test (map (λ row. row.now) l.out) || list_any (λ row. picked l.basis.schema.now all l.depth (map (λ elem. elem.now) l.level.elems) row && test row) (map (λ row. row.now) l.rest))
+    ≡ (list_any test (map (λ row. row.now) l.fn.out) || list_any (λ row. picked l.basis.schema.now all l.depth (map (λ elem. elem.now) l.level.elems) row && test row) (map (λ row. row.now) l.rows))
 
 abbrev pub decreases-pick_level-nodes : goal.decreases-pick_level-nodes
 decreases-pick_level-nodes l = length l.rest

@@ -6,10 +6,10 @@ use Rattle.nc_filter.proofs.table.Table.new.Goals as goal
 pub loop-run-preserved : goal.loop-run-preserved
 loop-run-preserved c = (
   ap (λ n. n + 1) c.loop-run.invariant.0,
-  λ all index. run_marked c.args.schema.now all c.args.upper c.loop-run.items c.in_ok-items.items c.args.rows.now c.loop-run.run-index c.run-item.result c.loop-run-test.true c.run-item.is
+  λ all index. run_marked c.args.basis.now.schema.now all c.args.upper c.loop-run.items c.in_ok-items.items c.args.rows.now c.loop-run.run-index c.run-item.result c.loop-run-test.true c.run-item.is
       (c.loop-run.invariant.1 all index)
-      (subst (λ (n : ℕ). Marks c.loop-run.items c.in_ok-items.items (has_key c.args.schema.now all c.args.upper c.run-item.result) n) c.loop-run.invariant.0 (c.in_ok-items.ensures all index)),
+      (subst (λ (n : ℕ). Marks c.loop-run.items c.in_ok-items.items (has_key c.args.basis.now.schema.now all c.args.upper c.run-item.result) n) c.loop-run.invariant.0 (c.in_ok-items.ensures all index)),
 )
 
 pub returns : goal.returns
-returns c = λ all index. all_marked c.args.schema.now all c.args.upper c.loop-run.items c.args.rows.now c.loop-run.run-index c.loop-run-test.false (c.loop-run.invariant.1 all index)
+returns c = λ all index. all_marked c.args.basis.now.schema.now all c.args.upper c.loop-run.items c.args.rows.now c.loop-run.run-index c.loop-run-test.false (c.loop-run.invariant.1 all index)

@@ -6,4 +6,4 @@ use Rattle.nc_filter.proofs.table.Table.new.Given as goal
 
 abbrev pub invariant-loop-run : goal.invariant-loop-run
 invariant-loop-run l =
-    (l.number ≡ l.run-index) × ((all : List Row) → IsIndex l.index.table all → IsTable l.schema all l.upper l.items (take l.run-index l.rows))
+    (l.number ≡ l.run-index) × ((all : List Row) → IsIndex l.basis.index.table all → IsTable l.basis.schema.now all l.upper l.items (take l.run-index l.rows))

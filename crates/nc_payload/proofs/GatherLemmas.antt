@@ -505,50 +505,46 @@ module _ (tables : Tables) (turns : Turns) where
       by same up it = subst (λ (m : List Mark). Climbs tables turns m (drop (suc i) items)) same (subst (λ (n : ℕ). Climbs tables turns next (drop n items)) up it)
 
   pub place_taken : (before after : Gathered) (steps : List Step) → (fresh : IsFresh tables turns before steps) → after.base ≡ before.base → after.rows ≡ before.rows → after.next ≡ before.next →
-      ((key : List Step) → has_seen after key ≡ (has_seen before key || is_same_path steps key)) → is_by_user tables fresh.step.node ≡ false → TakesPlace tables turns before steps (Some after)
+      ((key : List Step) → has_seen after key ≡ (has_seen before key || is_same_path steps key)) → is_by_user tables fresh.step.node ≡ false → TakesPlace tables turns before steps after
   place_taken before after steps fresh base same next added system = (fresh, λ rows holds. place_holds before after rows steps fresh holds base same next added system)
 
   pub row_taken : (before after : Gathered) (row : Row) (fresh : IsFresh tables turns before row.path.steps) → after.base ≡ before.base →
       after.rows.entries ≡ insert_entry in_marks before.rows.entries (row_marks tables turns row) row → IsStrictlySortedBy in_marks (keys_of after.rows.entries) →
       ((key : List Step) → has_seen after key ≡ (has_seen before key || is_same_path row.path.steps key)) → before.next ≤ after.next →
-      (is_by_user tables fresh.step.node ≡ true → turn_of turns row.path.steps < after.next) → TakesRow tables turns before row (Some after)
+      (is_by_user tables fresh.step.node ≡ true → turn_of turns row.path.steps < after.next) → TakesRow tables turns before row after
   row_taken before after row fresh same entries sorted added later turn = (fresh, λ rows holds. put_holds before after rows row fresh holds same entries sorted added later turn)
 
-  pub rows_more : (first before after : Gathered) (items : List Row) (i : ℕ) (row : Row) → i < length items → row ≡ get_or items i row → TakesRow tables turns before row (Some after) →
-      ((rows : List Row) → Holds tables turns first rows → Holds tables turns before (fold (put tables turns) rows (take i items))) →
-      (rows : List Row) → Holds tables turns first rows → Holds tables turns after (fold (put tables turns) rows (take (i + 1) items))
+  pub rows_more : (first before after : Gathered) (items : List Row) (i : ℕ) (row : Row) → i < length items → row ≡ get_or items i row → TakesRow tables turns before row after →
+      TakesRows tables turns first (take i items) before → TakesRows tables turns first (take (i + 1) items) after
   rows_more first before after items i row within item taken so_far rows holds =
       subst (Holds tables turns after)
       (sym ((λ k. fold (put tables turns) rows (take_more items i row within k)) ∙ fold_join (put tables turns) rows (take i items) (get_or items i row ∷ []) ∙ (λ k. put tables turns (fold (put tables turns) rows (take i items)) (sym item k))))
       (taken.1 (fold (put tables turns) rows (take i items)) (so_far rows holds))
 
-  pub edit_more : (before after : Gathered) (items : List Edit) (i : ℕ) (edit : Edit) → i < length items → edit ≡ get_or items i edit → Gathers tables turns before edit (Some after) →
+  pub edit_more : (before after : Gathered) (items : List Edit) (i : ℕ) (edit : Edit) → i < length items → edit ≡ get_or items i edit → Gathers tables turns before edit after →
       Holds tables turns before (fold (left_by tables) [] (take i items)) → Holds tables turns after (fold (left_by tables) [] (take (i + 1) items))
   edit_more before after items i edit within item gathers holds =
       subst (Holds tables turns after)
       (sym ((λ k. fold (left_by tables) [] (take_more items i edit within k)) ∙ fold_join (left_by tables) [] (take i items) (get_or items i edit ∷ []) ∙ (λ k. left_by tables (fold (left_by tables) [] (take i items)) (sym item k))))
       (gathers (fold (left_by tables) [] (take i items)) holds)
 
-  pub block_taken : (before middle : Gathered) (path : Path) (block rest : List Row) (first : Row) → block ≡ first ∷ rest → first.path.steps ≡ path.steps → AreBelow path rest → Climbs tables turns (row_marks tables turns first) rest →
-      TakesRow tables turns before first (Some middle) → (it : Option Gathered) → TakesRows tables turns middle rest it → TakesBlock tables turns before path block it
-  block_taken before middle path block rest first is at below climbs one None more = tt
-  block_taken before middle path block rest first is at below climbs one (Some after) more = λ rows value holds is_block.
+  pub block_taken : (before middle after : Gathered) (path : Path) (block rest : List Row) (first : Row) → block ≡ first ∷ rest → first.path.steps ≡ path.steps → AreBelow path rest → Climbs tables turns (row_marks tables turns first) rest →
+      TakesRow tables turns before first middle → TakesRows tables turns middle rest after → TakesBlock tables turns before path block after
+  block_taken before middle after path block rest first is at below climbs one more = λ rows value holds is_block.
       let done = more (put tables turns rows first) (one.1 rows holds) in
       subst (Holds tables turns after)
       (rows_merged_at before after rows rest path value first holds (subst (IsFresh tables turns before) at one.0) (sym is_block ∙ is) at below climbs done) done
 
-  pub no_rows_taken : (before : Gathered) (path : Path) (block : List Row) → block ≡ [] → (it : Option Gathered) → TakesPlace tables turns before path.steps it → TakesBlock tables turns before path block it
-  no_rows_taken before path block none None taken = tt
-  no_rows_taken before path block none (Some after) taken = λ rows value holds is_block.
+  pub no_rows_taken : (before after : Gathered) (path : Path) (block : List Row) → block ≡ [] → TakesPlace tables turns before path.steps after → TakesBlock tables turns before path block after
+  no_rows_taken before after path block none taken = λ rows value holds is_block.
       subst (Holds tables turns after) (sym (nothing_merged before rows path value holds taken.0 (sym is_block ∙ none))) (taken.1 rows holds)
 
-  pub block_merged : (before : Gathered) (path : Path) (value : Option (List ℕ)) (block : List Row) → block ≡ rows_of_node tables path value → (it : Option Gathered) → TakesBlock tables turns before path block it →
-      Gathers tables turns before (record { path = path; action = Merge value; place = Kept }) it
-  block_merged before path value block is_block None taken = tt
-  block_merged before path value block is_block (Some after) taken = λ rows holds. taken rows value holds is_block
+  pub block_merged : (before after : Gathered) (path : Path) (value : Option (List ℕ)) (block : List Row) → block ≡ rows_of_node tables path value → TakesBlock tables turns before path block after →
+      Gathers tables turns before (record { path = path; action = Merge value; place = Kept }) after
+  block_merged before after path value block is_block taken = λ rows holds. taken rows value holds is_block
 
   pub leaf_stands : (so_far : Gathered) (path : Path) (value : Option (List ℕ)) (block : List Row) → has_seen so_far path.steps ≡ true → Stands tables turns so_far path block → block ≡ rows_of_node tables path value →
-      Gathers tables turns so_far (record { path = path; action = Merge value; place = Kept }) (Some so_far)
+      Gathers tables turns so_far (record { path = path; action = Merge value; place = Kept }) so_far
   leaf_stands so_far path value block seen stands is_block rows holds =
       subst (Holds tables turns so_far) (sym (nothing_new so_far rows path value block holds seen stands (sym is_block))) holds
 

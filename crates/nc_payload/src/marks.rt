@@ -5,7 +5,8 @@ ghost use Rattle.nc_schema.specs.Standing as standing;
 ghost use Rattle.nc_payload.specs.inner.Marks as meant;
 
 use nc_names::{Copies, Many, Memory, Step, Text};
-use nc_schema::Schema;
+use nc_protocol::Edit;
+use nc_schema::{Case, Schema};
 use std::alloc::Global;
 use std::collections::BTreeMap;
 
@@ -24,6 +25,14 @@ pub(crate) struct Mark {
 pub(crate) struct Turns {
     pub(crate) entries: BTreeMap<Many<Step>, u64>,
     pub(crate) cases: BTreeMap<(Many<Step>, u32), u32>,
+}
+
+/// What merges are gathered by: their schema, and what they say before they are made.
+#[derive(Drop)]
+pub(crate) struct Plan<'a> {
+    pub(crate) alloc: Global,
+    pub(crate) schema: &'a Schema,
+    pub(crate) turns: Turns,
 }
 
 fn place_among(keys: &Many<u32>, number: u32) -> u128
@@ -73,22 +82,20 @@ pub(crate) fn turn_of(turns: &Turns, steps: &Many<Step>) -> u64
 
 // The mark of a step, with the steps that end with it.
 fn mark_of(
-    alloc: Global,
-    schema: &Schema,
-    turns: &Turns,
+    plan: &Plan<'_>,
     at: Option<u32>,
     steps: &Many<Step>,
     step: &Step,
 ) -> Result<Mark, Memory>
     ensures { IfOk result (λ it. it
-        ≡ meant.mark schema.now (meant.turn_of turns.now) at steps.now step.now) }
+        ≡ meant.mark plan.now.schema.now (meant.turn_of plan.now.turns) at steps.now step.now) }
 {
-    let place = place_of(schema, at, step.node);
-    if is_by_user(schema, step.node) {
+    let place = place_of(plan.schema, at, step.node);
+    if is_by_user(plan.schema, step.node) {
         return Ok(Mark {
             place,
-            turn: turn_of(turns, steps),
-            keys: Many::new(alloc),
+            turn: turn_of(&plan.turns, steps),
+            keys: Many::new(plan.alloc),
         });
     }
     Ok(Mark {
@@ -99,21 +106,67 @@ fn mark_of(
 }
 
 /// The marks of the steps to a node.
-pub(crate) fn marks_of(
-    alloc: Global,
-    schema: &Schema,
-    turns: &Turns,
-    steps: &Many<Step>,
-) -> Result<Many<Mark>, Memory>
-    ensures { IfOk result (λ it. it ≡ meant.marks schema.now (meant.turn_of turns.now) steps.now) }
+pub(crate) fn marks_of(plan: &Plan<'_>, steps: &Many<Step>) -> Result<Many<Mark>, Memory>
+    ensures { IfOk result (λ it. it
+        ≡ meant.marks plan.now.schema.now (meant.turn_of plan.now.turns) steps.now) }
 {
-    let mut marks = Vec::with_capacity(alloc, steps.len())?;
-    let mut above = Many::from_vec(Vec::with_capacity(alloc, steps.len())?);
+    let mut marks = Vec::with_capacity(plan.alloc, steps.len())?;
+    let mut above = Many::from_vec(Vec::with_capacity(plan.alloc, steps.len())?);
     let mut at = None;
     for step in steps.as_slice() {
         above.push(step.copy()?)?;
-        marks.push(mark_of(alloc, schema, turns, at, &above, step)?)?;
+        marks.push(mark_of(plan, at, &above, step)?)?;
         at = Some(step.node);
     }
     Ok(Many::from_vec(marks))
+}
+
+impl Turns {
+    // Notes when an entry that the user orders comes first.
+    fn note_entry(
+        &mut self,
+        schema: &Schema,
+        turn: u64,
+        steps: &Many<Step>,
+        number: u32,
+    ) -> Result<(), Memory> {
+        if !is_by_user(schema, number) || self.entries.contains_key(steps) {
+            return Ok(());
+        }
+        self.entries.insert(steps.copy()?, turn)?;
+        Ok(())
+    }
+
+    // Notes the cases of a node below these steps.
+    fn note_cases(&mut self, above: &Many<Step>, cases: &Many<Case>) -> Result<(), Memory> {
+        for case in cases.as_slice() {
+            self.cases.insert((above.copy()?, case.choice), case.case)?;
+        }
+        Ok(())
+    }
+
+    fn note(&mut self, schema: &Schema, turn: u64, steps: &Many<Step>) -> Result<(), Memory> {
+        let mut above = steps.copy()?;
+        let Some(step) = above.pop() else {
+            return Ok(());
+        };
+        self.note_entry(schema, turn, steps, step.node)?;
+        let Some(node) = schema.node(step.node) else {
+            return Ok(());
+        };
+        self.note_cases(&above, &node.cases)
+    }
+
+    /// What merges say before they are made. Nothing rests on it but time: what is gathered by turns is
+    /// compared with them step by step.
+    pub(crate) fn of(alloc: Global, schema: &Schema, merges: &Many<Edit>) -> Result<Turns, Memory> {
+        let mut turns = Turns {
+            entries: BTreeMap::new(alloc),
+            cases: BTreeMap::new(alloc),
+        };
+        for (turn, merge) in merges.as_slice().iter().enumerate() {
+            turns.note(schema, turn as u64, &merge.path.steps)?;
+        }
+        Ok(turns)
+    }
 }

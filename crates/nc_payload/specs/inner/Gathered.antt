@@ -125,10 +125,10 @@ pub record Stands (tables : Tables) (turns : Turns) (so_far : Gathered) (path : 
 abbrev pub AreBelow : Path → List Row → Type 0
 AreBelow path rows = All (λ row. is_at_or_below path.steps row.path ≡ true) rows
 
--- ---- what a call leaves, if it takes what it is given
-abbrev pub TakesPlace : Tables → Turns → Gathered → List Step → Option Gathered → Type 0
-TakesPlace tables turns before steps None = Unit {0}
-TakesPlace tables turns before steps (Some after) =
+-- ---- what a call leaves that takes what it is given
+-- the rows as they are: with a node more that has none
+abbrev pub TakesPlace : Tables → Turns → Gathered → List Step → Gathered → Type 0
+TakesPlace tables turns before steps after =
     IsFresh tables turns before steps ×
     ((rows : List Row) → Holds tables turns before rows → Holds tables turns after rows)
 
@@ -139,29 +139,25 @@ Receives tables turns next steps number (Some after) =
     (is_by_user tables number ≡ true → (next ≤ turn_of turns steps) × (turn_of turns steps < after)) × (next ≤ after)
 
 -- with one row more of a node that may be merged now, put in its place
-abbrev pub TakesRow : Tables → Turns → Gathered → Row → Option Gathered → Type 0
-TakesRow tables turns before row None = Unit {0}
-TakesRow tables turns before row (Some after) =
+abbrev pub TakesRow : Tables → Turns → Gathered → Row → Gathered → Type 0
+TakesRow tables turns before row after =
     IsFresh tables turns before row.path.steps ×
     ((rows : List Row) → Holds tables turns before rows → Holds tables turns after (put tables turns rows row))
 
 -- with several rows more, each put in its place in turn
-abbrev pub TakesRows : Tables → Turns → Gathered → List Row → Option Gathered → Type 0
-TakesRows tables turns before block None = Unit {0}
-TakesRows tables turns before block (Some after) =
+abbrev pub TakesRows : Tables → Turns → Gathered → List Row → Gathered → Type 0
+TakesRows tables turns before block after =
     (rows : List Row) → Holds tables turns before rows →
     Holds tables turns after (fold (put tables turns) rows block)
 
 -- with the rows of a node
-abbrev pub TakesBlock : Tables → Turns → Gathered → Path → List Row → Option Gathered → Type 0
-TakesBlock tables turns before path block None = Unit {0}
-TakesBlock tables turns before path block (Some after) =
+abbrev pub TakesBlock : Tables → Turns → Gathered → Path → List Row → Gathered → Type 0
+TakesBlock tables turns before path block after =
     (rows : List Row) (value : Option (List ℕ)) → Holds tables turns before rows →
     block ≡ rows_of_node tables path value →
     Holds tables turns after (left_by tables rows (record { path = path; action = Merge value; place = Kept }))
 
 -- with one edit more
-abbrev pub Gathers : Tables → Turns → Gathered → Edit → Option Gathered → Type 0
-Gathers tables turns before edit None = Unit {0}
-Gathers tables turns before edit (Some after) =
+abbrev pub Gathers : Tables → Turns → Gathered → Edit → Gathered → Type 0
+Gathers tables turns before edit after =
     (rows : List Row) → Holds tables turns before rows → Holds tables turns after (left_by tables rows edit)

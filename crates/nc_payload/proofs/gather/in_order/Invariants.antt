@@ -5,4 +5,4 @@ use Rattle.nc_payload.specs.inner.Gathered.{Holds}
 use Rattle.nc_payload.proofs.gather.in_order.Given as goal
 
 abbrev pub invariant-loop-merge : goal.invariant-loop-merge
-invariant-loop-merge l = Holds l.schema l.turns l.so_far (fold (left_by l.schema) [] (take l.merge-index l.merge-items))
+invariant-loop-merge l = Holds l.schema l.plan.turns l.gathered (fold (left_by l.schema) [] (take l.merge-index l.merge-items))

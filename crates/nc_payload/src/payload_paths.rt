@@ -1,5 +1,5 @@
 //! The paths that a request's payload names.
-ghost use Rattle.std.specs.Prelude.{◌≡◌, ◌||◌, ◌∷◌, ◌++◌, [], false, List, Result, IfOk};
+ghost use Rattle.std.specs.Prelude.{◌≡◌, ◌||◌, ◌∷◌, ◌++◌, [], false, List, Result, IfOk, OnOk};
 ghost use Rattle.std.specs.List.{flat_map};
 ghost use Rattle.std.specs.Option.{option_map_or};
 ghost use Rattle.nc_names.specs.Same.{is_same_path};
@@ -40,23 +40,34 @@ pub struct Names {
     pub(crate) fault: Option<Path>,
 }
 
-fn no_places(alloc: Global) -> Places
-    ensures { (key : List Step) → has result key ≡ false }
-{
-    Places {
-        items: BTreeSet::new(alloc),
-        some: false,
+impl Places {
+    fn none(alloc: Global) -> Places
+        ensures { (key : List Step) → has result key ≡ false }
+    {
+        Places {
+            items: BTreeSet::new(alloc),
+            some: false,
+        }
     }
-}
 
-// With a place more, below places that are there.
-fn with_place(places: Places, steps: Many<Step>) -> Result<Places, Memory>
-    ensures { IfOk result (λ it. AddsPlace places it steps) }
-{
-    let Places { items, some: _ } = places;
-    let mut items = items;
-    items.insert(steps)?;
-    Ok(Places { items, some: true })
+    // Takes a place more, below places that are there.
+    fn take(&mut self, steps: Many<Step>) -> Result<(), Memory>
+        ensures { OnOk result (AddsPlace self.old self.new steps) }
+    {
+        self.items.insert(steps)?;
+        self.some = true;
+        Ok(())
+    }
+
+    // Whether the node at a path is a place or above one.
+    fn has(&self, path: &Path) -> bool
+        ensures { result ≡ has_place self.now path.now }
+    {
+        if path.steps.is_empty() {
+            return self.some;
+        }
+        self.items.contains(&path.steps)
+    }
 }
 
 fn steps_with(above: &Many<Step>, number: u32, keys: Many<Text>) -> Result<Many<Step>, Memory>
@@ -87,18 +98,18 @@ fn add_elem(
     above: &Many<Step>,
     parent: Option<u32>,
     elem: &Elem,
-    places: Places,
-) -> Result<Places, Memory>
-    ensures { IfOk result (λ it. HasAbove places above.now →
-        AddsPlaces places it (inside_places (reading_of schema.now) above.now parent elem.now)) }
+    places: &mut Places,
+) -> Result<(), Memory>
+    ensures { OnOk result (HasAbove places.old above.now → AddsPlaces places.old places.new
+        (inside_places (reading_of schema.now) above.now parent elem.now)) }
 {
     let Some(named) = find_named(schema, parent, elem) else {
-        return Ok(places);
+        return Ok(());
     };
     let Some(steps) = step_named(alloc, schema, above, named)? else {
-        return Ok(places);
+        return Ok(());
     };
-    let places = with_place(places, steps.copy()?)?;
+    places.take(steps.copy()?)?;
     add_parts(
         alloc,
         schema,
@@ -116,14 +127,14 @@ fn add_part(
     above: &Many<Step>,
     parent: Option<u32>,
     part: &Part,
-    places: Places,
-) -> Result<Places, Memory>
-    ensures { IfOk result (λ it. HasAbove places above.now →
-        AddsPlaces places it (meant.part_places (reading_of schema.now) above.now parent part.now)) }
+    places: &mut Places,
+) -> Result<(), Memory>
+    ensures { OnOk result (HasAbove places.old above.now → AddsPlaces places.old places.new
+        (meant.part_places (reading_of schema.now) above.now parent part.now)) }
 {
     match part {
         Part::Child(elem) => add_elem(alloc, schema, above, parent, elem.get(), places),
-        Part::Chars(_) => Ok(places),
+        Part::Chars(_) => Ok(()),
     }
 }
 
@@ -134,17 +145,15 @@ fn add_parts(
     above: &Many<Step>,
     parent: Option<u32>,
     parts: &Many<Part>,
-    places: Places,
-) -> Result<Places, Memory>
-    ensures { IfOk result (λ it. HasAbove places above.now →
-        AddsPlaces places it (flat_map
-        (meant.part_places (reading_of schema.now) above.now parent) parts.now)) }
+    places: &mut Places,
+) -> Result<(), Memory>
+    ensures { OnOk result (HasAbove places.old above.now → AddsPlaces places.old places.new
+        (flat_map (meant.part_places (reading_of schema.now) above.now parent) parts.now)) }
 {
-    let mut places = places;
     for part in parts.as_slice() {
-        places = add_part(alloc, schema, above, parent, part, places)?;
+        add_part(alloc, schema, above, parent, part, places)?;
     }
-    Ok(places)
+    Ok(())
 }
 
 fn places_in(alloc: Global, schema: &Schema, config: &Elem) -> Result<Places, Memory>
@@ -152,7 +161,9 @@ fn places_in(alloc: Global, schema: &Schema, config: &Elem) -> Result<Places, Me
         meant.stands_in (reading_of schema.now) config.now path) }
 {
     let top = Many::new(alloc);
-    add_parts(alloc, schema, &top, None, &config.parts, no_places(alloc))
+    let mut places = Places::none(alloc);
+    add_parts(alloc, schema, &top, None, &config.parts, &mut places)?;
+    Ok(places)
 }
 
 // The path of a payload's fault.
@@ -207,7 +218,7 @@ fn nothing(alloc: Global) -> Names
     ensures { (path : Path) → is_named result path ≡ false }
 {
     Names {
-        places: no_places(alloc),
+        places: Places::none(alloc),
         fault: None,
     }
 }
@@ -236,19 +247,10 @@ impl Names {
     pub fn names(&self, path: &Path) -> bool
         ensures { result ≡ is_named self.now path.now }
     {
-        let stands = is_place(&self.places, path);
+        let stands = self.places.has(path);
         let at_fault = is_at(&self.fault, path);
         stands || at_fault
     }
-}
-
-fn is_place(places: &Places, path: &Path) -> bool
-    ensures { result ≡ has_place places.now path.now }
-{
-    if path.steps.is_empty() {
-        return places.some;
-    }
-    places.items.contains(&path.steps)
 }
 
 fn is_at(fault: &Option<Path>, path: &Path) -> bool

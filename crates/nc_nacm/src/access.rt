@@ -7,7 +7,7 @@ ghost use Rattle.nc_model.specs.Sight as sight;
 ghost use Rattle.nc_nacm.specs.inner.Reasons as reasons;
 
 use crate::applying::rules_for;
-use crate::index::{Index, first_place, index_for};
+use crate::finder::{Finder, finder_for, first_place};
 use crate::made::{Made, Reason, decision_of};
 use crate::nodes::{data_denial, module_at, subject};
 use crate::plain::{data_default, first_steps, permitted, ruled};
@@ -28,7 +28,7 @@ pub struct Access<'a> {
     policy: &'a Policy,
     peer: &'a Peer,
     rules: Many<&'a Rule>,
-    index: Option<Index>,
+    finder: Finder,
 }
 
 impl<'a> Model for Access<'a> {
@@ -39,7 +39,7 @@ impl<'a> Model for Access<'a> {
 
     ghost view = { λ a. record { tables = a.schema.now; policy = a.policy.now; peer = a.peer.now } };
 
-    ghost invariant = { λ a. IsReady a.policy.now a.peer.now a.rules a.index };
+    ghost invariant = { λ a. IsReady a.policy.now a.peer.now a.rules a.finder };
 }
 
 /// The rule at a place.
@@ -69,13 +69,13 @@ impl<'a> Access<'a> {
             ≡ record { tables = schema.now; policy = policy.now; peer = peer.now }) }
     {
         let rules = rules_for(alloc, policy, peer)?;
-        let index = index_for(alloc, rules.as_slice(), nodes)?;
+        let finder = finder_for(alloc, rules.as_slice(), nodes)?;
         Ok(Access {
             schema,
             policy,
             peer,
             rules,
-            index,
+            finder,
         })
     }
 
@@ -86,7 +86,7 @@ impl<'a> Access<'a> {
     {
         let name = module_at(self.schema, steps);
         let rules = self.rules.as_slice();
-        rule_at(rules, first_place(rules, &self.index, name, steps, right))
+        rule_at(rules, first_place(rules, &self.finder, name, steps, right))
     }
 
     fn made(&self, steps: &[Step], right: Right) -> Made<'a>

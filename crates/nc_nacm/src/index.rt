@@ -1,5 +1,5 @@
 //! The rules of a user about data nodes, by their module and pattern.
-ghost use Rattle.std.specs.Prelude.{◌≡◌, ◌++◌, ◌∷◌, [], Bool, List, IfOk, IfSome, OnOk, IsTrue, length, map, unwrap_or};
+ghost use Rattle.std.specs.Prelude.{◌≡◌, ◌++◌, ◌∷◌, [], Bool, List, IfOk, OnOk, IsTrue, length, map, unwrap_or};
 ghost use Rattle.std.specs.List.Sorted.{IsStrictlySortedBy};
 ghost use Rattle.std.specs.List.{position_from};
 ghost use Rattle.std.specs.Map.{keys_of};
@@ -9,16 +9,12 @@ ghost use Rattle.nc_nacm.specs.inner.Found.{IsIndex, earlier, matches_under, und
 ghost use Rattle.nc_nacm.specs.inner.Tables as tables;
 ghost use Rattle.nc_nacm.specs.inner.Places as inner;
 
-use crate::asked::matches_under;
 use crate::key::{Key, compare, key_of, pattern_in, shape_of};
 use nc_model::server_words::star;
 use nc_model::{AccessOperations, Rule};
 use nc_names::{Many, Memory, Right, Step};
 use std::alloc::Global;
 use std::collections::{BTreeMap, BTreeSet};
-
-// For the decisions on so few nodes no index is made: it takes the time of as many.
-const FEW: u64 = 64;
 
 /// The first place, in a list of rules, of one that has each right.
 #[derive(Clone, Copy)]
@@ -192,8 +188,8 @@ fn members(
     Ok(members)
 }
 
-// The shapes of the patterns of some rules, each once.
-fn shapes_of(alloc: Global, rules: &[&Rule]) -> Result<Many<Many<Many<bool>>>, Memory>
+/// The shapes of the patterns of some rules, each once.
+pub(crate) fn shapes_of(alloc: Global, rules: &[&Rule]) -> Result<Many<Many<Many<bool>>>, Memory>
     ensures { IfOk result (λ it. tables.HasShapes it (map (λ rule. rule.now) rules.now)) }
 {
     let known = all_shapes(alloc, rules)?;
@@ -207,24 +203,17 @@ pub(crate) struct Index {
     shapes: Many<Many<Many<bool>>>,
 }
 
-/// The index of some rules.
-pub(crate) fn index_of(alloc: Global, rules: &[&Rule]) -> Result<Index, Memory>
+/// The index of some rules, whose shapes are these.
+pub(crate) fn index_of(
+    alloc: Global,
+    rules: &[&Rule],
+    shapes: Many<Many<Many<bool>>>,
+) -> Result<Index, Memory>
+    requires { tables.HasShapes shapes (map (λ rule. rule.now) rules.now) }
     ensures { IfOk result (λ it. IsIndex (map (λ rule. rule.now) rules.now) it) }
 {
-    let shapes = shapes_of(alloc, rules)?;
     let entries = entries_of(alloc, table_of(alloc, rules)?)?;
     Ok(Index { entries, shapes })
-}
-
-/// The index of some rules, for decisions on so many nodes at most; none where they are few.
-pub(crate) fn index_for(alloc: Global, rules: &[&Rule], nodes: u64) -> Result<Option<Index>, Memory>
-    ensures { IfOk result (λ it. IfSome it (IsIndex (map (λ rule. rule.now) rules.now))) }
-{
-    if nodes <= FEW {
-        return Ok(None);
-    }
-    let index = index_of(alloc, rules)?;
-    Ok(Some(index))
 }
 
 /// What is at the key that is sought for a path.
@@ -288,8 +277,9 @@ fn place_under(
     )
 }
 
-// The place of the first rule that matches: each shape is looked up.
-fn first_by_shapes(
+/// The place of the first rule that is about the node to which the steps lead, of the module of that name,
+/// and about the right: each shape is looked up.
+pub(crate) fn first_by_shapes(
     rules: &[&Rule],
     index: &Index,
     name: &str,
@@ -306,56 +296,4 @@ fn first_by_shapes(
         first = earlier(first, place);
     }
     first
-}
-
-// The same: each rule is asked.
-fn first_of_all(rules: &[&Rule], name: &str, steps: &[Step], right: Right) -> Option<usize>
-    ensures { result ≡ position_from (matches_under name.now steps.now right) 0
-        (map (λ rule. rule.now) rules.now) }
-{
-    for (at, rule) in rules.iter().enumerate() {
-        if matches_under(*rule, name, steps, right) {
-            return Some(at);
-        }
-    }
-    None
-}
-
-// The place of the first rule that is about the node to which the steps lead, of the module of that name,
-// and about the right. A look-up of a shape takes the time of some dozen rules, so all rules are asked
-// where there are too many shapes for their number.
-fn first_indexed(
-    rules: &[&Rule],
-    index: &Index,
-    name: &str,
-    steps: &[Step],
-    right: Right,
-) -> Option<usize>
-    requires { IsIndex (map (λ rule. rule.now) rules.now) index.now }
-    ensures { result ≡ position_from (matches_under name.now steps.now right) 0
-        (map (λ rule. rule.now) rules.now) }
-{
-    if index.shapes.len() > rules.len() / 16 + 8 {
-        return first_of_all(rules, name, steps, right);
-    }
-    first_by_shapes(rules, index, name, steps, right)
-}
-
-/// The place of the first rule that is about the node to which the steps lead, of the module of that name,
-/// and about the right. Where there is no index each rule is asked.
-pub(crate) fn first_place(
-    rules: &[&Rule],
-    index: &Option<Index>,
-    name: &str,
-    steps: &[Step],
-    right: Right,
-) -> Option<usize>
-    requires { IfSome index.now (IsIndex (map (λ rule. rule.now) rules.now)) }
-    ensures { result ≡ position_from (matches_under name.now steps.now right) 0
-        (map (λ rule. rule.now) rules.now) }
-{
-    match index {
-        Some(index) => first_indexed(rules, index, name, steps, right),
-        None => first_of_all(rules, name, steps, right),
-    }
 }

@@ -9,14 +9,19 @@
 #![tactic(auto)]
 
 mod access;
+mod anchors;
 mod applying;
 mod asked;
 mod called;
+mod chained;
+mod chains;
 mod entries;
+mod finder;
 mod groups;
 mod index;
 mod key;
 mod made;
+mod marks;
 mod nodes;
 mod numbers;
 mod operations;

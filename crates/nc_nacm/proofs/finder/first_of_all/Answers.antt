@@ -1,7 +1,7 @@
 use Rattle.std.proofs.Common.{sym, ◌∙◌}
 use Rattle.nc_nacm.specs.inner.Found.{matches_under}
 use Rattle.nc_nacm.proofs.Firsts.{first_ends, first_goes_on, first_stops}
-use Rattle.nc_nacm.proofs.index.first_of_all.Goals as goal
+use Rattle.nc_nacm.proofs.finder.first_of_all.Goals as goal
 
 pub returns-then-matches_under : goal.returns-then-matches_under
 returns-then-matches_under c =

@@ -1,6 +1,7 @@
 #!/usr/bin/env bash
 # Times `nc_nacm`: what a policy of so many rules takes to read, an `Access` to make, the rows of a configuration to hide, and
-# the decisions on all its rows; with rules that name entries by their keys, with rules of which each gives other keys, with
+# the decisions on all its rows; with rules that name entries by their keys, with rules of which each gives other keys (of
+# values of its own; all of one value, with rows that have it in one key too few; with one key that all give alike), with
 # many groups in each of many rule-lists, and with many users in each of many groups.
 set -euo pipefail
 works=(
@@ -13,7 +14,9 @@ works=(
     # rules that give other keys each, and entries of one row each
     'shapes-policy 1000 0' 'shapes-policy 2000 0' 'shapes-policy 4000 0'
     'shapes-access 1000 0' 'shapes-access 2000 0' 'shapes-access 4000 0'
-    'shapes-visible 1000 10000' 'shapes-visible 1000 30000' 'shapes-visible 4000 10000'
+    'shapes-visible 250 10000' 'shapes-visible 1000 10000' 'shapes-visible 1000 30000' 'shapes-visible 4000 10000'
+    'equal-visible 250 10000' 'equal-visible 1000 10000' 'equal-visible 2000 10000'
+    'alike-visible 250 10000' 'alike-visible 1000 10000' 'alike-visible 2000 10000'
     'shapes-may 1000 10000' 'shapes-may 2000 10000' 'shapes-may 4000 10000'
     # rule-lists, and groups of each
     'lists-policy 300 0' 'lists-policy 1000 0' 'lists-access 300 0' 'lists-access 1000 0'
@@ -256,12 +259,12 @@ fn put_rule(rows: &mut Many<Row>, name: &str, path: &str) -> Result<(), Memory> 
 }
 
 /// A path that gives the keys whose bits are in a number.
-fn path_of(alloc: Global, number: u32) -> Result<String, Memory> {
+fn path_of(alloc: Global, number: u32, value: &str) -> Result<String, Memory> {
     let mut path = String::from_str(alloc, "/ex:routes/ex:route")?;
     let mut rest = number;
     for key in "abcdefghijkl".chars() {
         if rest % 2 == 1 {
-            let part = format!(in alloc; "[ex:{key}='{number}']")?;
+            let part = format!(in alloc; "[ex:{key}='{value}']")?;
             path.push_str(part.as_str())?;
         }
         rest /= 2;
@@ -269,15 +272,48 @@ fn path_of(alloc: Global, number: u32) -> Result<String, Memory> {
     Ok(path)
 }
 
-fn put_rules(rows: &mut Many<Row>, count: u32, shapes: bool) -> Result<(), Memory> {
+/// The next number that has so many of twelve bits, or more.
+fn next_of(number: u32, bits: u32) -> u32 {
+    for more in 1..4096u32 {
+        let next = number.wrapping_add(more) % 4096;
+        if next.count_ones() >= bits {
+            return next;
+        }
+    }
+    number
+}
+
+/// The path of the rule after one that gives the keys of a number, and its own number.
+fn path_after(alloc: Global, kind: &str, number: u32) -> Result<(String, u32), Memory> {
+    if kind.starts_with("equal") {
+        let next = next_of(number, 6);
+        return Ok((path_of(alloc, next, "x")?, next));
+    }
+    let next = number.wrapping_add(1);
+    if kind.starts_with("alike") {
+        return Ok((path_of(alloc, next.wrapping_mul(2).wrapping_add(1), "x")?, next));
+    }
+    let value = format!(in alloc; "{next}")?;
+    Ok((path_of(alloc, next, value.as_str())?, next))
+}
+
+fn put_shapes(rows: &mut Many<Row>, count: u32, kind: &str) -> Result<(), Memory> {
+    let alloc = rows.alloc();
+    let mut number = 0u32;
+    for at in 0..count {
+        let name = format!(in alloc; "p{at}")?;
+        let (path, next) = path_after(alloc, kind, number)?;
+        number = next;
+        put_rule(rows, name.as_str(), path.as_str())?;
+    }
+    Ok(())
+}
+
+fn put_rules(rows: &mut Many<Row>, count: u32) -> Result<(), Memory> {
     let alloc = rows.alloc();
     for at in 0..count {
         let name = format!(in alloc; "p{at}")?;
-        let path = if shapes {
-            path_of(alloc, at.wrapping_add(1))?
-        } else {
-            format!(in alloc; "/ex:ports/ex:port[ex:name='p{at}']")?
-        };
+        let path = format!(in alloc; "/ex:ports/ex:port[ex:name='p{at}']")?;
         put_rule(rows, name.as_str(), path.as_str())?;
     }
     Ok(())
@@ -294,11 +330,21 @@ fn put_ports(rows: &mut Many<Row>, count: u32) -> Result<(), Memory> {
     Ok(())
 }
 
-fn put_route(rows: &mut Many<Row>, name: &str) -> Result<(), Memory> {
+// The value of a key of a route: its name, or x in the keys whose bits are in a number.
+fn put_key(keys: &mut Many<Text>, kind: &str, name: &str, number: u32, at: u32) -> Result<(), Memory> {
+    let alloc = keys.alloc();
+    if kind.starts_with("shapes") {
+        return keys.push(text(alloc, name)?);
+    }
+    let one = number.wrapping_shr(at) % 2 == 1;
+    keys.push(text(alloc, if one { "x" } else { name })?)
+}
+
+fn put_route(rows: &mut Many<Row>, kind: &str, name: &str, number: u32) -> Result<(), Memory> {
     let alloc = rows.alloc();
     let mut keys = Many::new(alloc);
-    for _ in 0..12u32 {
-        keys.push(text(alloc, name)?)?;
+    for at in 0..12u32 {
+        put_key(&mut keys, kind, name, number, at)?;
     }
     let mut path = Many::new(alloc);
     path.push(step(alloc, 26, "")?)?;
@@ -309,13 +355,31 @@ fn put_route(rows: &mut Many<Row>, name: &str) -> Result<(), Memory> {
     })
 }
 
-fn put_routes(rows: &mut Many<Row>, count: u32) -> Result<(), Memory> {
+/// The next number of five of twelve bits.
+fn next_five(number: u32) -> u32 {
+    for more in 1..4096u32 {
+        let next = number.wrapping_add(more) % 4096;
+        if next.count_ones() == 5 {
+            return next;
+        }
+    }
+    number
+}
+
+fn put_routes(rows: &mut Many<Row>, kind: &str, count: u32) -> Result<(), Memory> {
     let alloc = rows.alloc();
+    let mut number = 0u32;
     for at in 0..count {
         let name = format!(in alloc; "r{at}")?;
-        put_route(rows, name.as_str())?;
+        number = next_five(number);
+        let has = if kind.starts_with("equal") { number } else { 1 };
+        put_route(rows, kind, name.as_str(), has)?;
     }
     Ok(())
+}
+
+fn is_of_shapes(kind: &str) -> bool {
+    kind.starts_with("shapes") || kind.starts_with("equal") || kind.starts_with("alike")
 }
 
 /// Rows of access control.
@@ -342,14 +406,17 @@ fn put_nacm(rows: &mut Many<Row>, kind: &str, size: u32) -> Result<(), Memory> {
     if kind.starts_with("groups") {
         return Ok(());
     }
-    put_rules(rows, size, kind.starts_with("shapes"))
+    if is_of_shapes(kind) {
+        return put_shapes(rows, size, kind);
+    }
+    put_rules(rows, size)
 }
 
 fn config(alloc: Global, kind: &str, size: u32, ports: u32) -> Result<Config, Memory> {
     let mut rows = Many::new(alloc);
     put_nacm(&mut rows, kind, size)?;
-    if kind.starts_with("shapes") {
-        put_routes(&mut rows, ports)?;
+    if is_of_shapes(kind) {
+        put_routes(&mut rows, kind, ports)?;
     } else {
         put_ports(&mut rows, ports)?;
     }

@@ -13,6 +13,7 @@ IsFreeRow tables depth asked row =
     (own : Step) → slice_get row.path.steps depth ≡ Some own →
     cases_differ (cases_of tables asked.node) (cases_of tables own.node) ≡ false
 
+-- no step of these rows at a depth is of another case than that of the path
 unfoldable pub AreFree : Tables → ℕ → Step → List Row → Type 0
 AreFree tables depth asked rows = All (IsFreeRow tables depth asked) rows
 
@@ -35,6 +36,7 @@ abbrev pub IsRowIn : Option ℕ → Option ℕ → ℕ → Row → Type 0
 IsRowIn low high depth row =
     (own : Step) → slice_get row.path.steps depth ≡ Some own → IsNumberIn low high own.node
 
+-- the numbers of the steps of these rows at a depth are between two bounds
 unfoldable pub AreIn : Option ℕ → Option ℕ → ℕ → List Row → Type 0
 AreIn low high depth rows = All (IsRowIn low high depth) rows
 

@@ -103,6 +103,7 @@ pub record AreLaid (aim : Aiming) (lay : Laying) : Type 0 where
       (depth : ℕ) (asked : Step) → slice_get aim.steps depth ≡ Some asked → is_by_user aim.tables asked.node ≡ true →
       TurnOf (turn_by lay.turn aim.steps depth) aim lay depth asked lay.laid
 
+-- each step of the path goes so among all rows, where the orders are not listed
 unfoldable pub AreTurned : Aiming → Type 0
 AreTurned aim = IfSome aim.lay (λ lay. AreLaid aim lay)
 

@@ -36,6 +36,7 @@ TurnsOn Here turn aim depth fork = Unit {0}
 TurnsOn Right turn aim depth fork = IsTurned turn aim depth fork.right.rows
 TurnsOn Unknown turn aim depth fork = Unit {0}
 
+-- the path goes on that way, and the entries there stand so to it
 pub record Goes (way : Way) (turn : Turn) (aim : Aiming) (depth : ℕ) (above : Option ℕ) (branches : Branches)
     (fork : Fork) : Type 0 where
   pub on : GoesOn way aim depth above branches fork

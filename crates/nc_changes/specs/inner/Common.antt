@@ -3,6 +3,7 @@ use Rattle.std.specs.Prelude.{◌≡◌, ◌<◌, ◌≤◌, ℕ, List, drop, ge
 use Rattle.std.proofs.Common.{Bor}
 use Rattle.nc_names.specs.declared.path.Row.{Row}
 
+-- the rows to which references lead
 abbrev pub rows_of : List (Bor Row) → List Row
 rows_of rows = map (λ row. row.now) rows
 

@@ -13,6 +13,7 @@ abbrev pub entry_from : List (List ℕ) → Option (List (List ℕ)) → List (L
 entry_from keys above [] = above
 entry_from keys above (entry ∷ more) = if is_same_keys entry keys then above else entry_from keys (Some entry) more
 
+-- the keys of entries are ordered in turn
 abbrev pub order : Bor (List (List ℕ)) → Bor (List (List ℕ)) → Ordering
 order keys others = slice_cmp (slice_cmp nat_cmp) keys.now others.now
 

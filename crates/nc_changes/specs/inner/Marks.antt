@@ -14,6 +14,7 @@ marked mark number = (mark * 1099511628211 % 2 ^ 64 + number) % 2 ^ 64
 abbrev pub with_text : ℕ → List ℕ → ℕ
 with_text mark text = fold marked (marked mark 256) text
 
+-- with a step: its node's number, then its keys
 abbrev pub with_step : ℕ → Step → ℕ
 with_step mark step = fold with_text (marked mark step.node) step.keys
 

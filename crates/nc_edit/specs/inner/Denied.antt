@@ -14,9 +14,11 @@ use Rattle.nc_protocol.specs.Edited.{Change, change_at, earlier, gives_way}
 use Rattle.nc_protocol.specs.declared.access.Decision.{Decision}
 use Rattle.nc_edit.specs.declared.asked.Asking.{Asking}
 
+-- the change that the code's own stands for
 abbrev pub meaning : Asking → Change
 meaning asking = record { path = asking.path; right = asking.right }
 
+-- the change that comes first, of a change and the first one so far, if there is one
 abbrev pub first_of : Tables → List Row → Option Change → Change → Option Change
 first_of tables rows None change = Some change
 first_of tables rows (Some first) change = Some (earlier tables rows first change)
@@ -39,6 +41,7 @@ abbrev pub dropped_of : Tables → List Row → List Row → List Change
 dropped_of tables block rows =
     map (λ row. record { path = row.path; right = Delete }) (filter (is_dropped tables block) rows)
 
+-- the changes of those rows at a path and below it that an edit deletes
 abbrev pub dropped : Tables → List Row → Path → List Row → List Change
 dropped tables rows path block = dropped_of tables block (block_at rows path.steps)
 

@@ -7,6 +7,7 @@ use Rattle.nc_schema.specs.Tables.{Tables}
 use Rattle.nc_protocol.specs.declared.edit.Action.{Action}
 use Rattle.nc_protocol.specs.declared.edit.Action.TheVariants.{Nothing, Merge, Create, Replace, Delete, Remove}
 
+-- the rows that an action brings: those of a merged node, those of a new one, or none
 abbrev pub own_block : Tables → Path → Action → List Row
 own_block tables path Nothing = []
 own_block tables path (Merge value) = rows_of_node tables path value

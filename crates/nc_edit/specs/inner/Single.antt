@@ -20,6 +20,7 @@ rises_from depth steps [] = true
 rises_from depth steps (row ∷ rows) =
     is_lt (steps_order steps (drop depth row.path.steps)) && rises_from depth (drop depth row.path.steps) rows
 
+-- rows come in the strict order of their steps from a depth on, whatever stood before
 abbrev pub rises : ℕ → List Row → Bool
 rises depth [] = true
 rises depth (row ∷ rows) = rises_from depth (drop depth row.path.steps) rows

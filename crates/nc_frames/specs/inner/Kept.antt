@@ -17,9 +17,11 @@ pub data Kept : Type 0 where
   Chunking : (place : ℕ) (reading : Reading) (bytes : List ℕ) → Kept
   Failed : (fault : FrameFault) → Kept
 
+-- how far a reader has come in a message of chunks
 abbrev pub reading_of : Reader → Reading
 reading_of r = record { header = r.header; left = r.left; message = r.message }
 
+-- what a reader stands for, with the bytes that are to be read again, which come in chunks alone, and those that wait
 abbrev pub kept_of : State → Reader → List ℕ → List ℕ → Kept
 kept_of Marked r earlier waiting = Marking r.place (r.message ++ waiting)
 kept_of Chunked r earlier waiting = Chunking r.place (reading_of r) (earlier ++ waiting)
@@ -31,9 +33,11 @@ IsSound Marked r = IsOpen r.message × (r.header ≡ Start) × (r.left ≡ 0)
 IsSound Chunked r = Unit {0}
 IsSound (Faulty fault) r = Unit {0}
 
+-- messages end with the mark, and no fault was answered
 abbrev pub IsMarking : Kept → Type 0
 IsMarking kept = (place : ℕ) × (bytes : List ℕ) × (kept ≡ Marking place bytes)
 
+-- messages come in chunks, and no fault was answered
 abbrev pub IsChunking : Kept → Type 0
 IsChunking kept = (place : ℕ) × (reading : Reading) × (bytes : List ℕ) × (kept ≡ Chunking place reading bytes)
 

@@ -15,6 +15,7 @@ use Rattle.nc_frames.specs.declared.header.Stop.TheVariants.{End, Bad, TooBig}
 abbrev pub digit_zero : ℕ
 digit_zero = 48
 
+-- the last of them
 abbrev pub digit_nine : ℕ
 digit_nine = 57
 
@@ -51,9 +52,11 @@ pub record Reading : Type 0 where
   pub left : ℕ
   pub message : List ℕ
 
+-- a chunk's header is to come, after these octets of the message
 abbrev pub start_of : List ℕ → Reading
 start_of message = record { header = Start; left = 0; message = message }
 
+-- a message is to come, of which nothing is read
 abbrev pub start : Reading
 start = start_of []
 
@@ -63,11 +66,13 @@ stepped (On header) message = Some (record { header = header; left = 0; message 
 stepped (Octets left) message = Some (record { header = Start; left = left; message = message })
 stepped (Stops why) message = None
 
+-- a byte further: within a header, or within the octets of a chunk, of which one less is to come
 abbrev pub step_at : Header → ℕ → List ℕ → ℕ → Option Reading
 step_at header zero message byte = stepped (header_step header (length message) byte) message
 step_at header (suc left) message byte =
     Some (record { header = header; left = left; message = message ++ byte ∷ [] })
 
+-- the same, from how far the reading has come
 unfoldable pub step : Reading → ℕ → Option Reading
 step s byte = step_at s.header s.left s.message byte
 

@@ -40,6 +40,7 @@ pub record EndsMessage (old : Reader) (bytes : List ℕ) (new : Reader) (left : 
   pub none : new.left ≡ 0
   pub further : IsFurther old.place new.place (length taken + 1)
 
+-- bytes are read up to a stop, if there was one: the end of a message, or a byte that leads nowhere
 abbrev pub Turned : Option Stop → Reader → List ℕ → Reader → List ℕ → Type 0
 Turned None old bytes new left = Advances old bytes new left
 Turned (Some End) old bytes new left = EndsMessage old bytes new left

@@ -30,6 +30,7 @@ with_text o text =
           ++ text;
     }
 
+-- a child, before which the text that came so far is a part
 abbrev pub with_child : Open → Elem → Open
 with_child o child =
     record {

@@ -14,6 +14,7 @@ use Rattle.nc_message_read.specs.declared.open.Open.{Open}
 use Rattle.nc_message_read.specs.inner.Opened.{open_of, elem_of, with_text, with_child, ends}
 use Rattle.nc_message_read.specs.inner.State.{State}
 
+-- what stands before a place where the declaration may no longer come
 abbrev pub state : List Open → Option Elem → State
 state above root = record { above = above; root = root; fresh = false }
 
@@ -31,9 +32,11 @@ abbrev pub closed : Elem → List Open → State
 closed e [] = state [] (Some e)
 closed e (o ∷ above) = state (with_child o e ∷ above) None
 
+-- an element was opened, and has ended too where its tag stands alone
 abbrev pub entered : Open → (alone : Bool) → List Open → State
 entered o alone above = if alone then closed (elem_of o) above else state (o ∷ above) None
 
+-- where a start tag leads, if it opens an element
 abbrev pub start_fits : List Open → Tag → Option Open → Result State Why
 start_fits above tag None = Err NotWellFormed
 start_fits above tag (Some o) = Ok (entered o tag.alone above)
@@ -46,6 +49,7 @@ start s tag =
     else if is_some s.root then Err NotWellFormed
     else start_fits s.above tag (option_map open_of (opened (bounds_in s.above) tag))
 
+-- where a token leads, or that the message is not well-formed there
 abbrev pub fits : Option State → Result State Why
 fits None = Err NotWellFormed
 fits (Some s) = Ok s
@@ -60,6 +64,7 @@ abbrev pub add_text : List Open → Option (List ℕ) → Option State
 add_text [] text = None
 add_text (o ∷ above) text = option_map (λ t. state (with_text o t ∷ above) None) text
 
+-- no element is open
 abbrev pub is_outside : List Open → Bool
 is_outside above = length above == 0
 

@@ -9,6 +9,7 @@ use Rattle.nc_names.specs.declared.name.QName.{QName}
 use Rattle.nc_message.specs.Tokens.{Name, Attribute}
 use Rattle.nc_message.specs.Resolved.{is_declared_by, is_xmlns}
 
+-- whether the set has a text
 abbrev pub has : BTreeSet (List ℕ) → List ℕ → Bool
 has set text = contains (slice_cmp nat_cmp) set text
 

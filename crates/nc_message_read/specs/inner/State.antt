@@ -11,5 +11,6 @@ pub record State : Type 0 where
   pub root : Option Elem
   pub fresh : Bool
 
+-- what the code's stack stands for, whose last element is the nearest
 abbrev pub state_of : Stack → State
 state_of s = record { above = reverse s.«open»; root = s.root; fresh = s.fresh }

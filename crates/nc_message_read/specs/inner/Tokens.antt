@@ -3,6 +3,7 @@ use Rattle.nc_message.specs.Tokens as tokens
 use Rattle.nc_message_read.specs.declared.written.Token.{Token}
 use Rattle.nc_message_read.specs.declared.written.Token.TheVariants.{Start, End, Run, Section, Comment, Instruction, Declaration}
 
+-- the token that one of the code stands for
 abbrev pub token_of : Token → tokens.Token
 token_of (Start tag) = tokens.Start tag
 token_of (End name) = tokens.End name

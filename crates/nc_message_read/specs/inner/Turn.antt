@@ -22,6 +22,7 @@ Refuses s text why = (k : Token) × (next : List ℕ) × (token text ≡ Some (k
 abbrev pub IsTorn : List ℕ → Why → Type 0
 IsTorn rest why = (token rest ≡ None) × (why ≡ torn_why (begins_doctype rest))
 
+-- reading stops with so many bytes left, as the next token does not fit or there is none
 abbrev pub Stops : State → List ℕ → Stop → Type 0
 Stops s text stop = (stop.left ≡ length text) × (0 < length text) × (Refuses s text stop.why ⊎ IsTorn text stop.why)
 

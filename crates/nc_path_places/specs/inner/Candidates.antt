@@ -32,6 +32,7 @@ spells s node bound =
 abbrev pub spelling : Node → Bound → List ℕ
 spelling node bound = bound.prefix ++ colon ∷ node.name.name
 
+-- the name of the data node of a number can be written, by one of the bindings
 abbrev pub is_nameable : Reading → ℕ → Bool
 is_nameable s number = option_map_or (λ node. list_any (spells s node) s.bounds) (slice_get s.tables.nodes number) false
 
@@ -90,6 +91,7 @@ far_of_node s node text [] = 0
 far_of_node s node text (bound ∷ bounds) =
     max (if spells s node bound then common text (spelling node bound) else 0) (far_of_node s node text bounds)
 
+-- the same of the data node of a number, by all the bindings
 abbrev pub far_of : Reading → List ℕ → ℕ → ℕ
 far_of s text number = option_map_or (λ node. far_of_node s node text s.bounds) (slice_get s.tables.nodes number) 0
 

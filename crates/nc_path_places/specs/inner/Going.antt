@@ -69,9 +69,11 @@ Goes s (suc most) (AtKeys number left) text =
 unfoldable pub GoesOn : Reading → Spot → List ℕ → Type 0
 GoesOn s spot text = (most : ℕ) × Goes s most spot text
 
+-- so a path goes on before a step to a child of the node, or from the top
 abbrev pub Steps : Reading → Option ℕ → List ℕ → Type 0
 Steps s above = GoesOn s (AtStep above)
 
+-- so a path goes on where predicates of these keys of an entry may come
 abbrev pub Keys : Reading → ℕ → List ℕ → List ℕ → Type 0
 Keys s number left = GoesOn s (AtKeys number left)
 

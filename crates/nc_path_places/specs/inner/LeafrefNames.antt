@@ -35,6 +35,7 @@ abbrev pub place_of : Option ℕ → ℕ
 place_of None = 0
 place_of (Some number) = number + 1
 
+-- names lead down from the top or from a data node, as its mark says
 abbrev pub goes_down : List Bool → Option ℕ → Bool
 goes_down marks above = get_or marks (place_of above) false
 

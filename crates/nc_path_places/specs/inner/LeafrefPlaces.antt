@@ -15,12 +15,15 @@ use Rattle.nc_path_places.specs.inner.Leafrefs.{Down, From, IsOpen, LeafrefPath,
 abbrev pub Downs : Ways → Option ℕ → List ℕ → Type 0
 Downs ways above = Down (reading_of ways.names) ways.own.now above
 
+-- how a path goes on after `../` that led to a node, or to the top
 abbrev pub Froms : Ways → Option ℕ → List ℕ → Type 0
 Froms ways above = From (reading_of ways.names) ways.own.now above
 
+-- how it goes on with one `../` more, from that node
 abbrev pub Rises : Ways → Option ℕ → List ℕ → Type 0
 Rises ways above = Rise (reading_of ways.names) ways.own.now above
 
+-- the whole paths of a leaf
 abbrev pub Paths : Ways → (leaf : ℕ) → List ℕ → Type 0
 Paths ways leaf = LeafrefPath (reading_of ways.names) leaf
 

@@ -21,6 +21,7 @@ pub record IsStep (s : Reading) (above : Option ℕ) (text : List ℕ) (number :
 abbrev pub KeyThen : Reading → ℕ → List ℕ → ℕ → List ℕ → Type 0
 KeyThen s number left key = Signed equals (Valued (Keys s number (without key left)))
 
+-- no key is left
 abbrev pub is_empty : List ℕ → Bool
 is_empty [] = true
 is_empty (n ∷ ns) = false

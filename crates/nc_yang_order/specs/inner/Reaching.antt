@@ -5,6 +5,7 @@ use Rattle.nc_yang_order.specs.Orders.{EachAfter, targets}
 use Rattle.nc_yang_order.specs.Reaching.{IsLed, IsMarked}
 use Rattle.nc_yang_order.specs.declared.reach.Reach.{Reach}
 
+-- with a number, by its mark: there is none past the last, and one that is set was found before
 abbrev pub added_at : Option Bool → Reach → ℕ → Reach
 added_at (Some false) reach number =
     record { marks = slice_set reach.marks number true; found = reach.found ++ number ∷ [] }

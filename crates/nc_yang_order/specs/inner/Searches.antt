@@ -7,9 +7,11 @@ use Rattle.nc_yang_order.specs.declared.order.Ordered.{Ordered}
 use Rattle.nc_yang_order.specs.declared.search.Search.{Search}
 use Rattle.nc_yang_order.specs.Orders.{targets, Reaches, IsCircle, EachAfter, IsInPlace, Answers}
 
+-- a number has that mark
 abbrev pub HasMark : List Mark → ℕ → Mark → Type 0
 HasMark marks number mark = slice_get marks number ≡ Some mark
 
+-- a number is none of those that have yet to be met
 abbrev pub IsSeen : List Mark → ℕ → Type 0
 IsSeen marks number = HasMark marks number Unseen → ⊥
 
@@ -17,6 +19,7 @@ IsSeen marks number = HasMark marks number Unseen → ⊥
 abbrev pub KeepsSeen : List Mark → List Mark → Type 0
 KeepsSeen old new = (number : ℕ) → HasMark new number Unseen → HasMark old number Unseen
 
+-- the numbers of some turns, in their order
 abbrev pub numbers : List Turn → List ℕ
 numbers turns = map (λ turn. turn.number) turns
 
@@ -51,6 +54,7 @@ unseen graph marks = 0
 abbrev pub unlooked : List (List ℕ) → List Turn → ℕ
 unlooked graph turns = sum_by (λ turn. length (targets graph turn.number) - turn.next + 1) turns
 
+-- what is left of a search: of numbers that were not seen, and of edges of open ones
 abbrev pub weight : List (List ℕ) → Search → ℕ
 weight graph search = unseen graph search.marks + unlooked graph search.stack
 
@@ -78,6 +82,7 @@ with_turn search turn = record search { stack = search.stack ++ turn ∷ [] }
 abbrev pub passed : Search → Turn → Search
 passed search turn = with_turn search (record turn { next = turn.next + 1 })
 
+-- a search went on by a step: less is left, and what was seen is kept
 pub record Moves (graph : List (List ℕ)) (old new : Search) : Type 0 where
   pub search : IsSearch graph new
   pub less : weight graph new < weight graph old
@@ -88,6 +93,7 @@ abbrev pub Steps : List (List ℕ) → Search → Search → ℕ → Option ℕ 
 Steps graph old new number None = Moves graph old new
 Steps graph old new number (Some place) = IsCircle graph number place
 
+-- a search ended: nothing is open, and what was seen is kept
 pub record Ends (graph : List (List ℕ)) (old new : Search) : Type 0 where
   pub search : IsSearch graph new
   pub empty : new.stack ≡ []

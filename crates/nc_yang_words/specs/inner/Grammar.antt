@@ -40,6 +40,7 @@ pub record State : Type 0 where
   pub expect : Expect
   pub above : List Begun
 
+-- what is to come, below statements that are open
 abbrev pub state : Expect → List Begun → State
 state expect above = record { expect = expect; above = above }
 
@@ -94,6 +95,7 @@ at_join keyword text line above Close = None
 at_join keyword text line above End = None
 at_join keyword text line above Torn = None
 
+-- after a `+` comes a quoted string, and nothing else
 abbrev pub at_quote : List ℕ → List ℕ → ℕ → List Begun → Kind → Option State
 at_quote keyword text line above (Word w) = None
 at_quote keyword text line above (Quoted q) = Some (state (Joins keyword (text ++ q) line) above)

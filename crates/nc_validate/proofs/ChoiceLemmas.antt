@@ -1,25 +1,28 @@
 -- The first data node of each choice, and the choices without data nodes.
-use Rattle.std.proofs.Common.{◌≡◌, ◌≢◌, ◌==◌, ◌&&◌, ◌||◌, ◌++◌, ◌+◌, ◌<◌, ◌≤◌, ℕ, zero, suc, Bool, true, false, cond, not, List, [], ◌∷◌, length, drop, take, get_or, set, refl, sym, ap, subst, ◌∙◌, arith, append_assoc, if◌then◌else◌}
+use Rattle.std.proofs.Common.{◌≡◌, ◌≢◌, ◌==◌, ◌&&◌, ◌||◌, ◌++◌, ◌+◌, ◌<◌, ◌≤◌, ℕ, zero, suc, Bool, true, false, cond, not, List, [], ◌∷◌, length, drop, take, get_or, set, refl, sym, ap, subst, ◌∙◌, arith, append_assoc, if◌then◌else◌, Bor, map}
 use Rattle.std.specs.Prelude.{Option, Some, None, slice_get, is_none, is_some, ltb, replicate, unwrap_or}
 use Rattle.std.specs.List.{enumerate_from, flat_map, list_any, position_from}
 use Rattle.std.specs.Option.{option_map_or}
 use Rattle.std.proofs.lemmas.Bool.Decides.{Decides-eqb, nat_tests}
-use Rattle.std.proofs.lemmas.List.{append-nil, drop_all, get_or-set_other, get_or-set_same, length-replicate, length-set, take_all, take_more}
-use Rattle.std.proofs.lemmas.List.Folds.{list_any-append}
+use Rattle.std.proofs.lemmas.List.{append-nil, drop_all, drop_more, map-append, get_or-set_other, get_or-set_same, length-replicate, length-set, take_all, take_more}
+use Rattle.std.proofs.lemmas.List.Folds.{flat_map-map, list_any-append}
 use Rattle.std.proofs.lemmas.Option.{slice_get_within, unwrap_or-slice_get}
+use Rattle.nc_names.specs.declared.cause.CauseKind.TheVariants.{MandatoryChoice}
+use Rattle.nc_names.specs.declared.path.Step.{Step}
 use Rattle.nc_schema.specs.Children.{is_same_number}
 use Rattle.nc_schema.specs.InUse.{stands_in}
-use Rattle.nc_schema.specs.Places.{Place, is_made, node_there}
+use Rattle.nc_schema.specs.Places.{Part, Place, is_made, node_there, parts_there}
+use Rattle.nc_schema.specs.Standing.{cases_of}
 use Rattle.nc_schema.specs.Tables.{Tables}
-use Rattle.nc_schema.specs.Violations.{bare_violations, child_violations, choice_violations, is_choice_before, is_required}
+use Rattle.nc_schema.specs.Violations.{child_violations, choice_violations, is_choice_before, is_required, violated}
 use Rattle.nc_schema.specs.declared.node.Case.{Case}
 use Rattle.nc_schema.specs.declared.node.Choice.{Choice}
 use Rattle.nc_schema.specs.declared.node.Node.{Node}
 use Rattle.nc_schema.specs.declared.violation.Violation.{Violation}
 use Rattle.nc_defaults.specs.Children.{children_among, children_of}
 use Rattle.nc_defaults.proofs.ListLemmas.{among_next, here_of, later_of, none_dropped}
-use Rattle.nc_validate.specs.inner.Children.{bare_at, bare_from, begun_violations, child_at, choice_lacks, node_at, nodes_from}
-use Rattle.nc_validate.specs.inner.Choices.{AreFirstsFrom, HasFirsts, bare_of, first_at, first_from, is_below, is_in, nones_from}
+use Rattle.nc_validate.specs.inner.Children.{bare_at, bare_from, child_at, choice_lacks, node_at, nodes_from}
+use Rattle.nc_validate.specs.inner.Choices.{AreFirstsFrom, HasFirsts, bare_of, bares_from, first_at, first_from, is_below, is_in}
 use Rattle.nc_validate.specs.inner.First.{first}
 use Rattle.nc_validate.proofs.ChildrenLemmas.{cut_at, none_later, none_left}
 
@@ -161,15 +164,12 @@ lacks_known tables place choice lacks =
     known_at (λ (one : Choice). one.mandatory && not (is_made tables place choice) && is_required tables place one.within) tables.choices choice lacks
 
 -- ---- the choices without data nodes
-pub none_more : (number : ℕ) (firsts : List (Option ℕ)) (o : Option ℕ) → slice_get firsts number ≡ Some o →
-    nones_from number (drop number firsts) ≡ (if is_none o then number ∷ [] else []) ++ nones_from (number + 1) (drop (number + 1) firsts)
-none_more number firsts o found = ap (nones_from number) (cut_at firsts number o found) ∙ by o
-  where
-    by : (one : Option ℕ) → nones_from number (one ∷ drop (number + 1) firsts) ≡ (if is_none one then number ∷ [] else []) ++ nones_from (number + 1) (drop (number + 1) firsts)
-    by None = refl
-    by (Some other) = refl
-
 -- one more is gathered, or passed
+bare_next : (firsts : List (Option ℕ)) (choices : List Choice) (i : ℕ) (choice : Choice) → i < length choices → choice ≡ get_or choices i choice →
+    bares_from firsts i (drop i choices) ≡ (if is_none (first_at firsts i) then choice ∷ [] else []) ++ bares_from firsts (i + 1) (drop (i + 1) choices)
+bare_next firsts choices i choice within at =
+    ap (bares_from firsts i) (drop_more choices i choice within ∙ ap (λ (one : Choice). one ∷ drop (i + 1) choices) (sym at))
+
 none_if : (o : Option ℕ) → is_some o ≡ false → is_none o ≡ true
 none_if None e = refl
 none_if (Some other) e = absurd (let clash : true ≡ false = e in cc)
@@ -178,23 +178,33 @@ some_if : (o : Option ℕ) → is_some o ≡ true → is_none o ≡ false
 some_if None e = absurd (let clash : false ≡ true = e in cc)
 some_if (Some other) e = refl
 
-pub bare_more : (number : ℕ) (firsts : List (Option ℕ)) (o : Option ℕ) (before now whole : List ℕ) → slice_get firsts number ≡ Some o → is_some o ≡ false → now ≡ before ++ number ∷ [] →
-    before ++ nones_from number (drop number firsts) ≡ whole → now ++ nones_from (number + 1) (drop (number + 1) firsts) ≡ whole
-bare_more number firsts o before now whole found none is so_far =
-    ap (λ ns. ns ++ nones_from (number + 1) (drop (number + 1) firsts)) is
-    ∙ append_assoc before (number ∷ []) (nones_from (number + 1) (drop (number + 1) firsts))
-    ∙ ap (λ ns. before ++ ns) (sym (none_more number firsts o found ∙ ap (λ b. (if b then number ∷ [] else []) ++ nones_from (number + 1) (drop (number + 1) firsts)) (none_if o none)))
+pub bare_more : (firsts : List (Option ℕ)) (choices : List Choice) (i : ℕ) (choice : Bor Choice) (before now : List (Bor Choice)) (whole : List Choice) → i < length choices →
+    choice.now ≡ get_or choices i choice.now → is_some (first_at firsts i) ≡ false → now ≡ before ++ choice ∷ [] →
+    map (λ one. one.now) before ++ bares_from firsts i (drop i choices) ≡ whole → map (λ one. one.now) now ++ bares_from firsts (i + 1) (drop (i + 1) choices) ≡ whole
+bare_more firsts choices i choice before now whole within at none is so_far =
+    let rest : List Choice = bares_from firsts (i + 1) (drop (i + 1) choices) in
+    let old : List Choice = map (λ one. one.now) before in
+    ap (λ (cs : List (Bor Choice)). map (λ one. one.now) cs ++ rest) is
+    ∙ ap (λ (cs : List Choice). cs ++ rest) (map-append (λ (one : Bor Choice). one.now) before (choice ∷ []))
+    ∙ append_assoc old (choice.now ∷ []) rest
+    ∙ ap (λ (cs : List Choice). old ++ cs) (sym (bare_next firsts choices i choice.now within at ∙ ap (λ b. (if b then choice.now ∷ [] else []) ++ rest) (none_if (first_at firsts i) none)))
     ∙ so_far
 
-pub bare_passed : (number : ℕ) (firsts : List (Option ℕ)) (o : Option ℕ) (before whole : List ℕ) → slice_get firsts number ≡ Some o → is_some o ≡ true →
-    before ++ nones_from number (drop number firsts) ≡ whole → before ++ nones_from (number + 1) (drop (number + 1) firsts) ≡ whole
-bare_passed number firsts o before whole found some so_far =
-    ap (λ ns. before ++ ns) (sym (none_more number firsts o found ∙ ap (λ b. (if b then number ∷ [] else []) ++ nones_from (number + 1) (drop (number + 1) firsts)) (some_if o some)))
+pub bare_passed : (firsts : List (Option ℕ)) (choices : List Choice) (i : ℕ) (choice : Choice) (before : List (Bor Choice)) (whole : List Choice) → i < length choices →
+    choice ≡ get_or choices i choice → is_some (first_at firsts i) ≡ true →
+    map (λ one. one.now) before ++ bares_from firsts i (drop i choices) ≡ whole → map (λ one. one.now) before ++ bares_from firsts (i + 1) (drop (i + 1) choices) ≡ whole
+bare_passed firsts choices i choice before whole within at some so_far =
+    let rest : List Choice = bares_from firsts (i + 1) (drop (i + 1) choices) in
+    ap (λ (cs : List Choice). map (λ one. one.now) before ++ cs)
+    (sym (bare_next firsts choices i choice within at ∙ ap (λ b. (if b then choice ∷ [] else []) ++ rest) (some_if (first_at firsts i) some)))
     ∙ so_far
 
-pub bares_end : (number : ℕ) (firsts : List (Option ℕ)) (bares whole : List ℕ) → slice_get firsts number ≡ None → bares ++ nones_from number (drop number firsts) ≡ whole → bares ≡ whole
-bares_end number firsts bares whole none so_far =
-    sym (append-nil bares) ∙ ap (λ ns. bares ++ ns) (sym (ap (nones_from number) (none_left firsts number none))) ∙ so_far
+pub bares_end : (firsts : List (Option ℕ)) (choices : List Choice) (i : ℕ) (before : List (Bor Choice)) (whole : List Choice) → length choices ≤ i →
+    map (λ one. one.now) before ++ bares_from firsts i (drop i choices) ≡ whole → map (λ one. one.now) before ≡ whole
+bares_end firsts choices i before whole past so_far =
+    sym (append-nil (map (λ one. one.now) before))
+    ∙ ap (λ (cs : List Choice). map (λ one. one.now) before ++ cs) (sym (ap (bares_from firsts i) (drop_all i choices past)))
+    ∙ so_far
 
 -- ---- what is broken in a place
 -- the data nodes of a place are the children of its data node
@@ -246,34 +256,83 @@ not_bare tables place number lowest choice is =
     by true = refl
     by false = refl
 
-bares_on : (tables : Tables) (place : Place) (firsts : List (Option ℕ)) (at : ℕ) (cs : List Choice) (fs : List (Option ℕ)) → AreFirstsFrom tables 0 firsts →
-    drop at tables.choices ≡ cs → drop at firsts ≡ fs → length cs ≡ length fs →
-    flat_map (bare_of tables place) (nones_from at fs) ≡ flat_map (bare_at tables place) (enumerate_from at cs)
-bares_on tables place firsts at [] [] are is_c is_f same = refl
-bares_on tables place firsts at [] (f ∷ fs) are is_c is_f same = absurd (omega (arith, same))
-bares_on tables place firsts at (c ∷ cs) [] are is_c is_f same = absurd (omega (arith, same))
-bares_on tables place firsts at (c ∷ cs) (f ∷ fs) are is_c is_f same =
-    let rest = bares_on tables place firsts (at + 1) cs fs are (later_of tables.choices at c cs is_c) (later_of firsts at f fs is_f) (omega (arith, same)) in
-    by f first_is rest
+-- no node of a choice without data nodes is anywhere
+none_in : {X : Type 0} (t : X → Bool) (xs : List X) (from at : ℕ) → position_from t from xs ≡ None → option_map_or t (slice_get xs at) false ≡ false
+none_in t [] from zero none = refl
+none_in t [] from (suc at) none = refl
+none_in t (x ∷ xs) from at none = by (t x) refl none (λ k rest. none_in t xs (from + 1) k rest) at
+  where
+    by : (b : Bool) → t x ≡ b → cond b (Some from) (position_from t (from + 1) xs) ≡ None →
+        ((k : ℕ) → position_from t (from + 1) xs ≡ None → option_map_or t (slice_get xs k) false ≡ false) →
+        (k : ℕ) → option_map_or t (slice_get (x ∷ xs) k) false ≡ false
+    by true is some further k = absurd (let clash = some in cc)
+    by false is rest further zero = is
+    by false is rest further (suc k) = further k rest
+
+not_of : (tables : Tables) (choice number : ℕ) → first_from tables.nodes choice 0 ≡ None → is_in choice (cases_of tables number) ≡ false
+not_of tables choice number none =
+    by (slice_get tables.nodes number)
+    (none_in (λ (node : Node). is_in choice node.cases) tables.nodes 0 number
+    (ap (position_from (λ (node : Node). is_in choice node.cases) 0) (sym (none_dropped tables.nodes)) ∙ none))
+  where
+    by : (o : Option Node) → option_map_or (λ (node : Node). is_in choice node.cases) o false ≡ false → is_in choice (option_map_or (λ (node : Node). node.cases) o []) ≡ false
+    by None e = refl
+    by (Some node) e = e
+
+never_made : (tables : Tables) (place : Place) (choice : ℕ) → first_from tables.nodes choice 0 ≡ None → is_made tables place choice ≡ false
+never_made tables place choice none = all (parts_there place)
+  where
+    cases_at : Part → List Case
+    cases_at part = option_map_or (λ (step : Step). cases_of tables step.node) part.step []
+
+    each : (o : Option Step) → is_in choice (option_map_or (λ (step : Step). cases_of tables step.node) o []) ≡ false
+    each None = refl
+    each (Some step) = not_of tables choice step.node none
+
+    all : (ps : List Part) → is_in choice (flat_map cases_at ps) ≡ false
+    all [] = refl
+    all (p ∷ ps) = list_any-append (λ (one : Case). one.choice == choice) (cases_at p) (flat_map cases_at ps) ∙ (λ i. each p.step i || all ps i)
+
+-- what is broken of it is what is broken of a choice without data nodes
+bare_is : (tables : Tables) (place : Place) (at : ℕ) (choice : Choice) → slice_get tables.choices at ≡ Some choice → first_from tables.nodes at 0 ≡ None →
+    bare_of tables place choice ≡ bare_at tables place (at, choice)
+bare_is tables place at choice here none =
+    by (stands_in choice.parent place) choice.mandatory
+    ∙ ap (λ made. wanted (choice.mandatory && not made && is_required tables place choice.within)) (sym (never_made tables place at none))
+    ∙ ap (λ (o : Option Choice). wanted (option_map_or (λ (one : Choice). one.mandatory && not (is_made tables place at) && is_required tables place one.within) o false)) (sym here)
+    ∙ ap (λ b. if stands_in choice.parent place then (if b then [] else choice_violations tables place at) else []) (sym (has_nodes tables at ∙ ap is_some none))
+  where
+    wanted : Bool → List Violation
+    wanted b = if stands_in choice.parent place then violated b MandatoryChoice place.steps else []
+
+    by : (s m : Bool) → violated (s && m && is_required tables place choice.within) MandatoryChoice place.steps
+        ≡ (if s then violated (m && not false && is_required tables place choice.within) MandatoryChoice place.steps else [])
+    by true true = refl
+    by true false = refl
+    by false true = refl
+    by false false = refl
+
+bares_on : (tables : Tables) (place : Place) (firsts : List (Option ℕ)) (at : ℕ) (cs : List Choice) → AreFirstsFrom tables 0 firsts → drop at tables.choices ≡ cs →
+    flat_map (bare_of tables place) (bares_from firsts at cs) ≡ flat_map (bare_at tables place) (enumerate_from at cs)
+bares_on tables place firsts at [] are is = refl
+bares_on tables place firsts at (c ∷ cs) are is =
+    by (first_at firsts at) (sym (are.exact at (slice_get_within tables.choices at c here))) (bares_on tables place firsts (at + 1) cs are (later_of tables.choices at c cs is))
   where
     here : slice_get tables.choices at ≡ Some c
-    here = here_of tables.choices at c cs is_c
-
-    first_is : first_from tables.nodes at 0 ≡ f
-    first_is = sym (are.exact at (slice_get_within tables.choices at c here)) ∙ ap (λ o. unwrap_or o None) (here_of firsts at f fs is_f)
-
-    these : bare_of tables place at ≡ bare_at tables place (at, c)
-    these = ap (λ (o : Option Choice). option_map_or (λ choice. if stands_in choice.parent place then bare_violations tables place at else []) o []) here
+    here = here_of tables.choices at c cs is
 
     by : (o : Option ℕ) → first_from tables.nodes at 0 ≡ o →
-        flat_map (bare_of tables place) (nones_from (at + 1) fs) ≡ flat_map (bare_at tables place) (enumerate_from (at + 1) cs) →
-        flat_map (bare_of tables place) (nones_from at (o ∷ fs)) ≡ bare_at tables place (at, c) ++ flat_map (bare_at tables place) (enumerate_from (at + 1) cs)
-    by None e rest = λ i. these i ++ rest i
+        flat_map (bare_of tables place) (bares_from firsts (at + 1) cs) ≡ flat_map (bare_at tables place) (enumerate_from (at + 1) cs) →
+        flat_map (bare_of tables place) ((if is_none o then c ∷ [] else []) ++ bares_from firsts (at + 1) cs) ≡ bare_at tables place (at, c) ++ flat_map (bare_at tables place) (enumerate_from (at + 1) cs)
+    by None e rest = λ i. bare_is tables place at c here e i ++ rest i
     by (Some lowest) e rest = rest ∙ ap (λ vs. vs ++ flat_map (bare_at tables place) (enumerate_from (at + 1) cs)) (sym (not_bare tables place at lowest c e))
 
-pub bares_listed : (tables : Tables) (place : Place) (firsts : List (Option ℕ)) → AreFirstsFrom tables 0 firsts → flat_map (bare_of tables place) (nones_from 0 firsts) ≡ bare_from tables place 0
-bares_listed tables place firsts are =
-    bares_on tables place firsts 0 tables.choices firsts are (none_dropped tables.choices) (none_dropped firsts) (sym are.long)
+pub bares_listed : (tables : Tables) (place : Place) (firsts : List (Option ℕ)) (bares : List (Bor Choice)) → AreFirstsFrom tables 0 firsts →
+    map (λ one. one.now) bares ≡ bares_from firsts 0 tables.choices → flat_map (λ one. bare_of tables place one.now) bares ≡ bare_from tables place 0
+bares_listed tables place firsts bares are is =
+    sym (flat_map-map (bare_of tables place) (λ (one : Bor Choice). one.now) bares)
+    ∙ ap (flat_map (bare_of tables place)) is
+    ∙ bares_on tables place firsts 0 tables.choices are (none_dropped tables.choices)
     ∙ ap (λ (cs : List Choice). flat_map (bare_at tables place) (enumerate_from 0 cs)) (sym (none_dropped tables.choices))
 
 -- ---- one data node, one choice
@@ -285,21 +344,3 @@ child_found tables place number node o found is =
 pub no_child : (tables : Tables) (place : Place) (number : ℕ) → slice_get tables.nodes number ≡ None → None ≡ first (child_at tables place number)
 no_child tables place number none =
     ap (λ (n : Option Node). first (option_map_or (child_violations tables place number) n [])) (sym none)
-
-pub bare_found : (tables : Tables) (place : Place) (number count : ℕ) (choice : Choice) (o : Option Violation) → slice_get tables.choices number ≡ Some choice →
-    is_same_number choice.parent (node_there place) ≡ true → count ≡ length tables.nodes → o ≡ first (begun_violations tables place count number) → o ≡ first (bare_of tables place number)
-bare_found tables place number count choice o found same all is =
-    is
-    ∙ ap (λ n. first (begun_violations tables place n number)) all
-    ∙ ap (λ b. first (if b then bare_violations tables place number else [])) (sym same)
-    ∙ ap (λ (c : Option Choice). first (option_map_or (λ one. if stands_in one.parent place then bare_violations tables place number else []) c [])) (sym found)
-
-pub bare_elsewhere : (tables : Tables) (place : Place) (number : ℕ) (choice : Choice) → slice_get tables.choices number ≡ Some choice →
-    is_same_number choice.parent (node_there place) ≡ false → None ≡ first (bare_of tables place number)
-bare_elsewhere tables place number choice found differs =
-    ap (λ b. first (if b then bare_violations tables place number else [])) (sym differs)
-    ∙ ap (λ (c : Option Choice). first (option_map_or (λ one. if stands_in one.parent place then bare_violations tables place number else []) c [])) (sym found)
-
-pub no_bare : (tables : Tables) (place : Place) (number : ℕ) → slice_get tables.choices number ≡ None → None ≡ first (bare_of tables place number)
-no_bare tables place number none =
-    ap (λ (c : Option Choice). first (option_map_or (λ one. if stands_in one.parent place then bare_violations tables place number else []) c [])) (sym none)

@@ -1,16 +1,18 @@
 //! Mandatory choices (RFC 7950 7.9.4).
-ghost use Rattle.std.specs.Prelude.{◌≡◌, IfOk};
+ghost use Rattle.std.specs.Prelude.{◌≡◌, ◌&&◌, IfOk};
+ghost use Rattle.nc_schema.specs.InUse.{stands_in};
 ghost use Rattle.nc_schema.specs.Violations as violations;
 ghost use Rattle.nc_defaults.specs.Within.{IsWithin, place_here};
+ghost use Rattle.nc_validate.specs.inner.Choices.{bare_of};
 ghost use Rattle.nc_validate.specs.inner.First.{first};
 ghost use Rattle.nc_validate.specs.inner.Children.{begun_violations, choice_lacks};
 ghost use Rattle.nc_validate.specs.inner.Outlines.{IsOutline};
 
 use crate::faults::violation;
 use crate::outline::{Outline, is_choice_before};
-use nc_defaults::{Here, all_chosen, is_made};
+use nc_defaults::{Here, all_chosen, is_made, is_same_number, node_there};
 use nc_names::{CauseKind, Memory, Step};
-use nc_schema::{Case, Schema, Violation};
+use nc_schema::{Case, Choice, Schema, Violation};
 use nc_tree::Listed;
 use std::alloc::Global;
 
@@ -62,6 +64,37 @@ pub(crate) fn first_of_choice(
         return Ok(None);
     }
     if is_choice_before(outline, number, choice) {
+        return Ok(None);
+    }
+    Ok(Some(violation(alloc, CauseKind::MandatoryChoice, steps)?))
+}
+
+// Whether a choice without data nodes is mandatory in a place.
+fn is_wanted(schema: &Schema, config: &Listed, steps: &[Step], here: Here, choice: &Choice) -> bool
+    requires { IsWithin config.now here }
+    ensures { result ≡ (stands_in choice.now.parent (place_here config.now steps.now here)
+        && choice.now.mandatory
+        && violations.is_required schema.now (place_here config.now steps.now here) choice.now.within) }
+{
+    is_same_number(choice.parent, node_there(steps))
+        && choice.mandatory
+        && is_required(schema, config, steps, here, choice.within.as_slice())
+}
+
+/// The violation of a choice without data nodes, of which no node can be there.
+pub(crate) fn first_of_bare(
+    alloc: Global,
+    schema: &Schema,
+    config: &Listed,
+    steps: &[Step],
+    here: Here,
+    choice: &Choice,
+) -> Result<Option<Violation>, Memory>
+    requires { IsWithin config.now here }
+    ensures { IfOk result (λ it. it ≡ first (bare_of schema.now (place_here config.now steps.now here)
+        choice.now)) }
+{
+    if !is_wanted(schema, config, steps, here, choice) {
         return Ok(None);
     }
     Ok(Some(violation(alloc, CauseKind::MandatoryChoice, steps)?))

@@ -1,13 +1,14 @@
 //! What the walk looks up in a schema. It is found once, so that in each place only the children of its
 //! data node and the choices without data nodes are looked at.
-ghost use Rattle.std.specs.Prelude.{◌≡◌, ◌+◌, ◌<◌, None, Some, length, replicate, slice_set, IfOk};
+ghost use Rattle.std.specs.Prelude.{◌≡◌, ◌+◌, ◌<◌};
+ghost use Rattle.std.specs.Prelude.{None, Some, is_some, length, map, replicate, slice_set, IfOk};
 ghost use Rattle.nc_schema.specs.Violations as violations;
 ghost use Rattle.nc_validate.specs.inner.Choices as choices;
 ghost use Rattle.nc_validate.specs.inner.Outlines.{IsOutline};
 
 use nc_defaults::Children;
 use nc_names::{Many, Memory};
-use nc_schema::{Case, Schema};
+use nc_schema::{Case, Choice, Schema};
 use std::alloc::Global;
 
 /// A schema, with what is looked up in it.
@@ -19,7 +20,7 @@ pub(crate) struct Outline<'a> {
     /// The number of the first data node of each choice, or `None` where it has none.
     pub(crate) firsts: Many<Option<u32>>,
     /// The choices without data nodes.
-    pub(crate) bares: Many<u32>,
+    pub(crate) bares: Many<&'a Choice>,
 }
 
 // So many choices without a data node.
@@ -76,21 +77,33 @@ fn firsts_of(alloc: Global, schema: &Schema) -> Result<Many<Option<u32>>, Memory
     Ok(firsts)
 }
 
-// The choices without data nodes. A schema has fewer than 2^32 choices.
-fn bares_of(alloc: Global, firsts: &Many<Option<u32>>) -> Result<Many<u32>, Memory>
-    ensures { IfOk result (λ it. it ≡ choices.nones_from 0 firsts.now) }
+// Whether a choice has a first data node.
+fn has_first(firsts: &[Option<u32>], choice: usize) -> bool
+    ensures { result ≡ is_some (choices.first_at firsts.now choice) }
+{
+    match firsts.get(choice) {
+        Some(first) => first.is_some(),
+        None => false,
+    }
+}
+
+// Those of the choices that have no data nodes.
+fn bares_of<'a>(
+    alloc: Global,
+    among: &'a [Choice],
+    firsts: &[Option<u32>],
+) -> Result<Many<&'a Choice>, Memory>
+    ensures { IfOk result (λ it. map (λ choice. choice.now) it
+        ≡ choices.bares_from firsts.now 0 among.now) }
 {
     let mut bares = Many::new(alloc);
-    for choice in 0..u32::MAX {
-        let Some(first) = firsts.get(choice as usize) else {
-            return Ok(bares);
-        };
-        if first.is_some() {
+    for (number, choice) in among.iter().enumerate() {
+        if has_first(firsts, number) {
             continue;
         }
         bares.push(choice)?;
     }
-    Err(Memory)
+    Ok(bares)
 }
 
 /// A schema with what is looked up in it.
@@ -100,7 +113,7 @@ pub(crate) fn outline_of<'a>(alloc: Global, schema: &'a Schema) -> Result<Outlin
 {
     let children = Children::of(alloc, schema)?;
     let firsts = firsts_of(alloc, schema)?;
-    let bares = bares_of(alloc, &firsts)?;
+    let bares = bares_of(alloc, schema.choices(), firsts.as_slice())?;
     Ok(Outline {
         schema,
         children,

@@ -6,17 +6,17 @@ ghost use Rattle.nc_schema.specs.Violations as violations;
 ghost use Rattle.std.specs.List.{flat_map};
 ghost use Rattle.nc_defaults.specs.Within.{AreWithin, IsWithin, place_here, places_in};
 ghost use Rattle.nc_validate.specs.inner.First.{first};
-ghost use Rattle.nc_validate.specs.inner.Children.{bare_from, begun_choices, child_at, nodes_from, uniques_of};
-ghost use Rattle.nc_validate.specs.inner.Choices.{bare_of};
+ghost use Rattle.nc_validate.specs.inner.Children.{bare_from, begun_choices};
+ghost use Rattle.nc_validate.specs.inner.Children.{child_at, nodes_from, uniques_of};
 ghost use Rattle.nc_validate.specs.inner.Outlines.{IsOutline};
 
-use crate::choices::first_of_choice;
+use crate::choices::{first_of_bare, first_of_choice};
 use crate::counts::{first_of_counts, is_bounded};
 use crate::entries::entries;
 use crate::faults::is_found;
 use crate::outline::{Outline, outline_of};
 use crate::unique::first_repeated;
-use nc_defaults::{Children, Here, Spot, has_places, is_same_number, node_there, places_from, top};
+use nc_defaults::{Children, Here, Spot, has_places, node_there, places_from, top};
 use nc_names::{Many, Memory, Step};
 use nc_schema::{Node, Schema, Violation};
 use nc_tree::Listed;
@@ -191,33 +191,6 @@ fn first_of_nodes<'a>(
     Ok(None)
 }
 
-// The violation of the choice of a number that has no data nodes, where it stands in the place.
-fn first_of_bare(
-    alloc: Global,
-    outline: &Outline<'_>,
-    config: &Listed,
-    steps: &[Step],
-    here: Here,
-    number: u32,
-) -> Result<Option<Violation>, Memory>
-    requires here { IsWithin config.now here }
-    requires outline { IsOutline outline.now }
-    ensures { IfOk result (λ it. it ≡ first (bare_of outline.now.schema.now
-        (place_here config.now steps.now here) number)) }
-{
-    match outline.schema.choice(number) {
-        Some(choice) => {
-            if !is_same_number(choice.parent, node_there(steps)) {
-                return Ok(None);
-            }
-            let which = (outline.schema.nodes(), number);
-            let found = first_of_choice(alloc, outline, config, steps, here, which)?;
-            Ok(found)
-        }
-        None => Ok(None),
-    }
-}
-
 // The first violation of the choices of a place that have no data nodes.
 fn first_of_bares(
     alloc: Global,
@@ -231,8 +204,8 @@ fn first_of_bares(
     ensures { IfOk result (λ it. it ≡ first (bare_from outline.now.schema.now
         (place_here config.now steps.now here) 0)) }
 {
-    for number in outline.bares.as_slice() {
-        let found = first_of_bare(alloc, outline, config, steps, here, *number)?;
+    for choice in outline.bares.as_slice() {
+        let found = first_of_bare(alloc, outline.schema, config, steps, here, choice)?;
         if is_found(&found) {
             return Ok(found);
         }

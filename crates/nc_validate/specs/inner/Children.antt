@@ -16,11 +16,11 @@ use Rattle.nc_schema.specs.declared.node.Choice.{Choice}
 use Rattle.nc_schema.specs.declared.node.Node.{Node}
 use Rattle.nc_schema.specs.declared.violation.Violation.{Violation}
 
--- those of the data nodes from a number on
+-- those of a data node, where it stands in the place
 abbrev pub node_at : Tables → Place → ℕ × Node → List Violation
 node_at tables place one = if stands_in one.1.parent place then child_violations tables place one.0 one.1 else []
 
--- those of all these data nodes, in the order of their numbers
+-- those of the data nodes from a number on
 abbrev pub nodes_from : Tables → Place → ℕ → List Violation
 nodes_from tables place number = flat_map (node_at tables place) (enumerate_from number (drop number tables.nodes))
 
@@ -28,11 +28,11 @@ nodes_from tables place number = flat_map (node_at tables place) (enumerate_from
 abbrev pub child_at : Tables → Place → ℕ → List Violation
 child_at tables place number = option_map_or (child_violations tables place number) (slice_get tables.nodes number) []
 
--- those of the choices without data nodes, from a number on
+-- those of a choice without data nodes, where it stands in the place
 abbrev pub bare_at : Tables → Place → ℕ × Choice → List Violation
 bare_at tables place one = if stands_in one.1.parent place then bare_violations tables place one.0 else []
 
--- those of all these choices, in the order of their numbers
+-- those of the choices without data nodes, from a number on
 abbrev pub bare_from : Tables → Place → ℕ → List Violation
 bare_from tables place number = flat_map (bare_at tables place) (enumerate_from number (drop number tables.choices))
 

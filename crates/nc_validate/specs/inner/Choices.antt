@@ -1,13 +1,14 @@
 -- The first data node of each choice, and the choices without data nodes.
-use Rattle.std.specs.Prelude.{◌≡◌, ◌<◌, ◌==◌, ℕ, Bool, false, if◌then◌else◌, is_none, ltb, length, drop, map}
-use Rattle.std.specs.Prelude.{List, [], Option, None, Some, slice_get, unwrap_or}
-use Rattle.std.specs.List.{enumerate_from, filter, list_any, position_from}
-use Rattle.std.specs.Option.{option_map_or}
+use Rattle.std.specs.Prelude.{◌≡◌, ◌<◌, ◌==◌, ◌&&◌, ◌+◌, ◌++◌, ℕ, Bool, false, if◌then◌else◌, is_none, ltb}
+use Rattle.std.specs.Prelude.{length, drop, List, [], ◌∷◌, Option, None, Some, slice_get, unwrap_or}
+use Rattle.std.specs.List.{list_any, position_from}
+use Rattle.nc_names.specs.declared.cause.CauseKind.TheVariants.{MandatoryChoice}
 use Rattle.nc_schema.specs.InUse.{stands_in}
 use Rattle.nc_schema.specs.Places.{Place}
 use Rattle.nc_schema.specs.Tables.{Tables}
-use Rattle.nc_schema.specs.Violations.{bare_violations}
+use Rattle.nc_schema.specs.Violations.{is_required, violated}
 use Rattle.nc_schema.specs.declared.node.Case.{Case}
+use Rattle.nc_schema.specs.declared.node.Choice.{Choice}
 use Rattle.nc_schema.specs.declared.node.Node.{Node}
 use Rattle.nc_schema.specs.declared.violation.Violation.{Violation}
 
@@ -40,12 +41,14 @@ abbrev pub is_below : Option ℕ → ℕ → Bool
 is_below None number = false
 is_below (Some first) number = ltb first number
 
--- the numbers of the choices that have no first data node
-abbrev pub nones_from : ℕ → List (Option ℕ) → List ℕ
-nones_from number firsts = map (λ one. one.0) (filter (λ one. is_none one.1) (enumerate_from number firsts))
+-- the choices from a number on that have no first data node
+abbrev pub bares_from : List (Option ℕ) → ℕ → List Choice → List Choice
+bares_from firsts number [] = []
+bares_from firsts number (choice ∷ later) =
+    (if is_none (first_at firsts number) then choice ∷ [] else []) ++ bares_from firsts (number + 1) later
 
--- what is broken of a choice where it stands in the place and has no data node
-abbrev pub bare_of : Tables → Place → ℕ → List Violation
-bare_of tables place number =
-    option_map_or (λ choice. if stands_in choice.parent place then bare_violations tables place number else [])
-    (slice_get tables.choices number) []
+-- what is broken of a choice without data nodes: of those no node can be there
+abbrev pub bare_of : Tables → Place → Choice → List Violation
+bare_of tables place choice =
+    violated (stands_in choice.parent place && choice.mandatory && is_required tables place choice.within)
+    MandatoryChoice place.steps

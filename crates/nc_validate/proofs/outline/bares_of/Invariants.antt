@@ -1,6 +1,7 @@
-use Rattle.std.proofs.Common.{◌≡◌, ◌++◌, drop}
-use Rattle.nc_validate.specs.inner.Choices.{nones_from}
+-- The choices so far, and those to come.
+use Rattle.std.proofs.Common.{◌≡◌, ◌++◌, drop, map}
+use Rattle.nc_validate.specs.inner.Choices.{bares_from}
 use Rattle.nc_validate.proofs.outline.bares_of.Given as goal
 
-abbrev pub invariant-loop-choice : goal.invariant-loop-choice
-invariant-loop-choice l = l.bares ++ nones_from l.choice (drop l.choice l.firsts) ≡ nones_from 0 l.firsts
+abbrev pub invariant-loop-number : goal.invariant-loop-number
+invariant-loop-number l = map (λ one. one.now) l.bares ++ bares_from l.firsts l.number (drop l.number l.among) ≡ bares_from l.firsts 0 l.among

@@ -5,7 +5,7 @@ use Rattle.nc_validate.specs.inner.Choices.{bare_of}
 use Rattle.nc_validate.specs.inner.First.{first}
 use Rattle.nc_validate.proofs.structural.first_of_bares.Given as goal
 
-abbrev pub invariant-loop-number : goal.invariant-loop-number
-invariant-loop-number l =
-    first (flat_map (bare_of l.outline.schema.now (place_here l.config l.steps l.here)) (drop l.number-index l.number-items))
-    ≡ first (flat_map (bare_of l.outline.schema.now (place_here l.config l.steps l.here)) l.number-items)
+abbrev pub invariant-loop-choice : goal.invariant-loop-choice
+invariant-loop-choice l =
+    first (flat_map (λ one. bare_of l.outline.schema.now (place_here l.config l.steps l.here) one.now) (drop l.choice-index l.choice-items))
+    ≡ first (flat_map (λ one. bare_of l.outline.schema.now (place_here l.config l.steps l.here) one.now) l.choice-items)

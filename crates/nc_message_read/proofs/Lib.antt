@@ -7,6 +7,7 @@ pub mod Faulty
 pub mod Fronts
 pub mod Goes
 pub mod Going
+pub mod Marking
 pub mod Numbered
 pub mod Opened
 pub mod Opening

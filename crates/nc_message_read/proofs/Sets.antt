@@ -1,5 +1,5 @@
 -- Sets of texts and of names.
-use Rattle.std.proofs.Common.{◌≡◌, ℕ, suc, ◌+◌, ◌<◌, Bool, true, false, not, cond, ◌||◌, List, [], ◌∷◌, ◌++◌, length, drop, get_or, drop-cons, refl, sym, ap, ◌∙◌, arith}
+use Rattle.std.proofs.Common.{◌≡◌, ℕ, suc, ◌+◌, ◌<◌, Bool, true, false, not, cond, ◌||◌, List, [], ◌∷◌, ◌++◌, length, drop, get_or, drop-cons, refl, sym, ap, subst, ◌∙◌, arith}
 use Rattle.std.specs.Prelude.{◌&&◌, if◌then◌else◌, Result, Ok, Err, IfOk}
 use Rattle.std.specs.List.{list_any}
 use Rattle.std.specs.BTreeSet.{BTreeSet, contains}
@@ -9,10 +9,14 @@ use Rattle.std.specs.Ordering.{nat_cmp, ordering_then, is_eq}
 use Rattle.std.specs.Cmp.Lexicographic.{slice_cmp, bytes_decides}
 use Rattle.std.proofs.lemmas.Map.Text.{is_eq-slice_cmp}
 use Rattle.nc_names.specs.Same.{is_same_text, is_same_name}
+use Rattle.nc_names.specs.declared.name.Bound.{Bound}
 use Rattle.nc_names.specs.declared.name.QName.{QName}
 use Rattle.nc_message.specs.declared.tree.Attr.{Attr}
 use Rattle.nc_message.specs.Resolved.{differ_from}
-use Rattle.nc_message_read.specs.inner.Sets.{has_name, IsNameAdded, swapped}
+use Rattle.nc_message_read.specs.declared.marks.Marks.{Marks}
+use Rattle.nc_message_read.specs.inner.Marks.{key_of, attr_mark, mark_of, AreMarked}
+use Rattle.nc_message_read.specs.inner.Sets.{has_name, IsNameAdded}
+use Rattle.nc_message_read.proofs.Marking.{same_keys}
 
 pub ok_as : {A E : Type 0} (r : Result A E) (x y : A) → x ≡ y → IfOk r (λ it. it ≡ x) → IfOk r (λ it. it ≡ y)
 ok_as (Ok it) x y e h = h ∙ e
@@ -51,27 +55,18 @@ any_same : (f g : QName → Bool) → ((x : QName) → f x ≡ g x) → (xs : Li
 any_same f g e [] = refl
 any_same f g e (x ∷ xs) = ap (λ b. b || list_any f xs) (e x) ∙ ap (λ b. g x || b) (any_same f g e xs)
 
-contains_is : (set : BTreeSet QName) (name : QName) → contains name_cmp set (swapped name) ≡ has_name set name
-contains_is set name = any_same (λ x. is_eq (name_cmp (swapped name) x)) (is_same_name (swapped name)) (name_test (swapped name)) set.keys
+contains_is : (m : Marks) (set : BTreeSet QName) (name : QName) → contains name_cmp set (key_of m name) ≡ has_name m set name
+contains_is m set name = any_same (λ x. is_eq (name_cmp (key_of m name) x)) (is_same_name (key_of m name)) (name_test (key_of m name)) set.keys
 
-and_swapped : (x y : Bool) → (x && y) ≡ (y && x)
-and_swapped true true = refl
-and_swapped true false = refl
-and_swapped false true = refl
-and_swapped false false = refl
-
-same_if_swapped : (a b : QName) → is_same_name (swapped a) (swapped b) ≡ is_same_name a b
-same_if_swapped a b = and_swapped (is_same_text a.name b.name) (is_same_text a.space b.space)
-
-pub name_added : (before after : BTreeSet QName) (name : QName) (added : Bool) → added ≡ not (contains name_cmp before (swapped name))
-    → ((other : QName) → contains name_cmp after other ≡ cond (is_eq (name_cmp (swapped name) other)) true (contains name_cmp before other))
-    → IsNameAdded before after name added
-name_added before after name added new updates = (
-  new ∙ ap not (contains_is before name),
+pub name_added : (m : Marks) (before after : BTreeSet QName) (name : QName) (added : Bool) → added ≡ not (contains name_cmp before (key_of m name))
+    → ((other : QName) → contains name_cmp after other ≡ cond (is_eq (name_cmp (key_of m name) other)) true (contains name_cmp before other))
+    → IsNameAdded m before after name added
+name_added m before after name added new updates = (
+  new ∙ ap not (contains_is m before name),
   λ other.
-      sym (contains_is after other) ∙ updates (swapped other)
-      ∙ ap (λ t. cond t true (contains name_cmp before (swapped other))) (name_test (swapped name) (swapped other) ∙ same_if_swapped name other)
-      ∙ ap (λ x. cond (is_same_name name other) true x) (contains_is before other),
+      sym (contains_is m after other) ∙ updates (key_of m other)
+      ∙ ap (λ t. cond t true (contains name_cmp before (key_of m other))) (name_test (key_of m name) (key_of m other) ∙ same_keys m name other)
+      ∙ ap (λ x. cond (is_same_name name other) true x) (contains_is m before other),
 )
 
 name_turned : (a b : QName) → is_same_name a b ≡ is_same_name b a
@@ -90,9 +85,9 @@ any_more q n (s ∷ names) = ap (λ b. is_same_name q s || b) (any_more q n name
   split false true c = refl
   split false false c = refl
 
-pub names_more : (old new : BTreeSet QName) (name : QName) (added : Bool) (before : List QName) → IsNameAdded old new name added
-    → ((q : QName) → has_name old q ≡ list_any (is_same_name q) before) → (q : QName) → has_name new q ≡ list_any (is_same_name q) (before ++ name ∷ [])
-names_more old new name added before is has q = is.1 q ∙ ap (λ b. if is_same_name name q then true else b) (has q) ∙ sym (any_more q name before)
+pub names_more : (m : Marks) (old new : BTreeSet QName) (name : QName) (added : Bool) (before : List QName) → IsNameAdded m old new name added
+    → ((q : QName) → has_name m old q ≡ list_any (is_same_name q) before) → (q : QName) → has_name m new q ≡ list_any (is_same_name q) (before ++ name ∷ [])
+names_more m old new name added before is has q = is.1 q ∙ ap (λ b. if is_same_name name q then true else b) (has q) ∙ sym (any_more q name before)
 
 -- the next attribute has another name than those before it
 pub differ_more : (xs : List Attr) (i : ℕ) (a : Attr) (before : List QName) → i < length xs → a ≡ get_or xs i a
@@ -101,3 +96,11 @@ differ_more xs i a before less at new =
     let next : suc i ≡ i + 1 = omega arith in
     let here : drop i xs ≡ a ∷ drop (i + 1) xs = drop-cons xs i a less ∙ ap (λ y. y ∷ drop (suc i) xs) (sym at) ∙ ap (λ k. a ∷ drop k xs) next in
     ap (differ_from before) here ∙ ap (λ b. b && differ_from (before ++ a.name ∷ []) (drop (i + 1) xs)) new
+
+-- the attributes that are left are marked too
+pub marked_left : (m : Marks) (bound : List Bound) (xs : List Attr) (i : ℕ) (a : Attr) → i < length xs → a ≡ get_or xs i a → AreMarked m bound (drop i xs)
+    → (attr_mark m bound a.prefix ≡ mark_of m a.name.space) × AreMarked m bound (drop (i + 1) xs)
+marked_left m bound xs i a less at marked =
+    let next : suc i ≡ i + 1 = omega arith in
+    let here : drop i xs ≡ a ∷ drop (i + 1) xs = drop-cons xs i a less ∙ ap (λ y. y ∷ drop (suc i) xs) (sym at) ∙ ap (λ k. a ∷ drop k xs) next in
+    subst (AreMarked m bound) here marked

@@ -1,4 +1,5 @@
 pub mod Fits
+pub mod Marks
 pub mod Numbers
 pub mod Opened
 pub mod Reads

@@ -3,8 +3,9 @@ ghost use Rattle.std.specs.Prelude.{◌≡◌, ◌++◌, IfOk, OnOk};
 ghost use Rattle.nc_message.specs.Spells as spells;
 ghost use Rattle.nc_message_read.specs.inner.Opened as opened;
 
+use crate::scope::Scope;
 use crate::written::Name;
-use nc_message::{Attr, Bounds, Elem, Part};
+use nc_message::{Attr, Elem, Part};
 use nc_names::{Boxed, Many, Memory, QName, Text};
 
 /// An element whose end tag is still to come: the prefix of its name, the element so far, and the
@@ -13,7 +14,7 @@ use nc_names::{Boxed, Many, Memory, QName, Text};
 pub(crate) struct Open {
     pub(crate) prefix: Text,
     pub(crate) name: QName,
-    pub(crate) bounds: Bounds,
+    pub(crate) bounds: Scope,
     pub(crate) attrs: Many<Attr>,
     pub(crate) parts: Many<Part>,
     pub(crate) text: Text,
@@ -42,7 +43,7 @@ impl Open {
         push_text(&mut parts, text)?;
         Ok(Elem {
             name,
-            bounds,
+            bounds: bounds.into_bounds(),
             attrs,
             parts,
         })

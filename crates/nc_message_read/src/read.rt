@@ -8,11 +8,12 @@ ghost use Rattle.nc_message_read.specs.Reading.{IsReadFault};
 ghost use Rattle.nc_message_read.specs.inner.Turn.{IsStop};
 ghost use Rattle.nc_message_read.specs.inner.Turn.{Takes, Stops, Went, Halts};
 
+use crate::marks::marks_in;
 use crate::reader::{Reader, chars_of};
 use crate::stack::Stack;
 use crate::stop::{MessageFault, Stop};
 use nc_message::{Tree, Why};
-use nc_names::Memory;
+use nc_names::{Memory, Shared};
 use std::alloc::Global;
 
 /// The tokens that are left, and the elements that are open before them.
@@ -75,9 +76,10 @@ fn read_all(alloc: Global, bytes: &[u8]) -> Result<Result<Tree, Stop>, Memory>
     ensures { IfOk result (λ it. MatchResult it (λ tree. SpellsTree bytes.now tree)
         (λ stop. IsStop bytes.now stop)) }
 {
+    let marks = Shared::new(alloc, marks_in(alloc, bytes)?)?;
     let mut parser = Parser {
         reader: Reader { alloc, rest: bytes },
-        stack: Stack::new(alloc),
+        stack: Stack::new(alloc, marks),
     };
     if let Some(stop) = parser.take_all()? {
         return Ok(Err(stop));

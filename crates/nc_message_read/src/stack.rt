@@ -8,12 +8,14 @@ ghost use Rattle.nc_message_read.specs.inner.State.{state_of};
 ghost use Rattle.nc_message_read.specs.inner.Tokens.{token_of};
 
 use crate::known::Known;
+use crate::marks::Marks;
 use crate::open::Open;
+use crate::scope::Scope;
 use crate::start::{has_unbound, opened};
 use crate::text::{is_allowed, section_of, text_of};
 use crate::written::{Name, Tag, Token};
-use nc_message::{Bounds, Elem, Why};
-use nc_names::{Copies, ELEMENT_DEPTH, Many, Memory, Text, is_white};
+use nc_message::{Elem, Why};
+use nc_names::{Copies, ELEMENT_DEPTH, Many, Memory, Shared, Text, is_white};
 use std::alloc::Global;
 
 /// The elements that are open, the nearest last, and the root where it has ended.
@@ -24,11 +26,12 @@ pub(crate) struct Stack {
     root: Option<Elem>,
     fresh: bool,
     known: Known,
+    marks: Shared<Marks>,
 }
 
 impl Stack {
-    /// Before the first token.
-    pub(crate) fn new(alloc: Global) -> Stack
+    /// Before the first token of a message whose long namespaces have these numbers.
+    pub(crate) fn new(alloc: Global, marks: Shared<Marks>) -> Stack
         ensures { state_of result ≡ reads.begin }
     {
         Stack {
@@ -37,16 +40,17 @@ impl Stack {
             root: None,
             fresh: true,
             known: Known::new(alloc),
+            marks,
         }
     }
 
     /// The bindings in force where the next child would stand.
-    fn bounds(&self) -> Result<Bounds, Memory>
+    fn scope(&self) -> Result<Scope, Memory>
         ensures { IfOk result (λ it. it ≡ reads.bounds_in (state_of self.now).above) }
     {
         match self.open.as_slice().last() {
             Some(nearest) => nearest.bounds.copy(),
-            None => Ok(Bounds::new()),
+            None => Ok(Scope::new(self.marks.copy()?)),
         }
     }
 
@@ -89,8 +93,8 @@ impl Stack {
         if self.open.len() >= ELEMENT_DEPTH {
             return Ok(Some(Why::Depth));
         }
-        let outer = self.bounds()?;
-        if has_unbound(self.alloc, &outer, tag)? {
+        let outer = self.scope()?;
+        if has_unbound(self.alloc, outer.bounds(), tag)? {
             return Ok(Some(Why::UnboundPrefix));
         }
         if self.root.is_some() {

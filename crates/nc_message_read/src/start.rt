@@ -7,14 +7,15 @@ ghost use Rattle.nc_names.specs.Same.{is_same_text};
 ghost use Rattle.nc_names.specs.Bindings.{space_of};
 ghost use Rattle.nc_message.specs.Bindings as bindings;
 ghost use Rattle.nc_message_read.specs.inner.Opened.{open_of};
-ghost use Rattle.nc_message_read.specs.inner.Sets.{DeclaredPrefixes, IsDeclaredToo, IsNameAdded, swapped};
+ghost use Rattle.nc_message_read.specs.inner.Sets.{DeclaredPrefixes, IsDeclaredToo};
 ghost use Rattle.nc_message.specs.Resolved as resolved;
 
 use crate::known::Known;
 use crate::open::Open;
+use crate::scope::{Said, Scope};
 use crate::text::{all_chars, value_of};
 use crate::written::{Attribute, Name, Tag, Word};
-use nc_message::{Attr, Bounds, Level};
+use nc_message::{Attr, Bounds};
 use nc_names::{Copies, Many, Memory, QName, Text};
 use std::alloc::Global;
 use std::collections::BTreeSet;
@@ -33,7 +34,7 @@ fn is_xml(word: &Word<'_>) -> bool
 
 /// The namespace of the prefix `xml`.
 #[tactic(auto, unfolding(nc_message::specs::Resolved::xml_space))]
-fn xml_space() -> &'static str
+pub(crate) fn xml_space() -> &'static str
     ensures { result.now ≡ resolved.xml_space }
 {
     "http://www.w3.org/XML/1998/namespace"
@@ -76,42 +77,40 @@ fn is_reserved(prefix: &Text, space: &Text) -> bool
 }
 
 /// Whether a prefix may not be declared for a namespace, after what was declared.
-fn is_refused(level: &Level, prefix: &Text, space: &Text) -> bool
-    ensures { result ≡ (bindings.declares level.now prefix.now || resolved.is_reserved prefix.now space.now) }
+fn is_refused(said: &Said, prefix: &Text, space: &Text) -> bool
+    ensures { result ≡ (bindings.declares said.now prefix.now || resolved.is_reserved prefix.now space.now) }
 {
-    level.declares(prefix) || is_reserved(prefix, space)
+    said.declares(prefix) || is_reserved(prefix, space)
 }
 
 /// Declares a prefix, where it may be.
-fn bind(level: Level, prefix: Text, space: Text) -> Result<Option<Level>, Memory>
-    ensures { IfOk result (λ it. it ≡ resolved.bind level prefix space) }
+fn bind(said: Said, prefix: Text, space: Text) -> Result<Option<Said>, Memory>
+    ensures { IfOk result (λ it. it ≡ resolved.bind said prefix space) }
 {
-    let mut level = level;
-    if is_refused(&level, &prefix, &space) {
+    if is_refused(&said, &prefix, &space) {
         return Ok(None);
     }
     if space.is_empty() {
         if !prefix.is_empty() {
             return Ok(None);
         }
-        level.undeclare();
-        return Ok(Some(level));
+        return Ok(Some(said.undeclare()));
     }
-    Ok(Some(level.declare(prefix, space)?))
+    Ok(Some(said.declare(prefix, space)?))
 }
 
 /// Declares what an attribute declares.
 fn declare(
     alloc: Global,
     known: &mut Known,
-    level: Level,
+    said: Said,
     attribute: &Attribute<'_>,
-) -> Result<Option<Level>, Memory>
-    ensures { IfOk result (λ it. it ≡ resolved.declare level attribute.now) }
+) -> Result<Option<Said>, Memory>
+    ensures { IfOk result (λ it. it ≡ resolved.declare said attribute.now) }
 {
     let prefix = declared_prefix(alloc, known, &attribute.name)?;
     match value_of(alloc, attribute.value.bytes)? {
-        Some(space) => bind(level, prefix, space),
+        Some(space) => bind(said, prefix, space),
         None => Ok(None),
     }
 }
@@ -121,21 +120,21 @@ fn declared(
     alloc: Global,
     known: &mut Known,
     attributes: &[Attribute<'_>],
-) -> Result<Option<Level>, Memory>
+) -> Result<Option<Said>, Memory>
     ensures { IfOk result (λ found. MatchOption found
         (resolved.declared resolved.nothing attributes.now ≡ None)
-        (λ level. resolved.declared resolved.nothing attributes.now ≡ Some level)) }
+        (λ said. resolved.declared resolved.nothing attributes.now ≡ Some said)) }
 {
-    let mut level = Level::new(alloc);
+    let mut said = Said::new(alloc);
     for attribute in attributes {
         if is_declaration(&attribute.name) {
-            let Some(more) = declare(alloc, known, level, attribute)? else {
+            let Some(more) = declare(alloc, known, said, attribute)? else {
                 return Ok(None);
             };
-            level = more;
+            said = more;
         }
     }
-    Ok(Some(level))
+    Ok(Some(said))
 }
 
 // The prefixes that the attributes of a tag declare.
@@ -353,38 +352,6 @@ fn attrs_of(
     Ok(Some(attrs))
 }
 
-/// Whether no attribute has the name of one before it.
-fn differ(alloc: Global, attrs: &[Attr]) -> Result<bool, Memory>
-    ensures { IfOk result (λ it. it ≡ resolved.differ_from [] attrs.now) }
-{
-    let mut names = BTreeSet::new(alloc);
-    for attr in attrs {
-        if !add_name(&mut names, &attr.name)? {
-            return Ok(false);
-        }
-    }
-    Ok(true)
-}
-
-// A name with its local name in the first place. A long namespace may stand in many names under a short
-// prefix, and is not to be read for each comparison.
-fn local_first(name: &QName) -> Result<QName, Memory>
-    ensures { IfOk result (λ it. it ≡ swapped name.now) }
-{
-    Ok(QName {
-        space: name.name.copy()?,
-        name: name.space.copy()?,
-    })
-}
-
-// Puts a name into a set, and answers whether it is new.
-fn add_name(names: &mut BTreeSet<QName>, name: &QName) -> Result<bool, Memory>
-    ensures { IfOk result (λ added. IsNameAdded names.old names.new name.now added) }
-{
-    let added = names.insert(local_first(name)?)?;
-    Ok(added)
-}
-
 fn is_allowed_name(name: &Name<'_>) -> bool
     ensures { result ≡ resolved.is_allowed_name name.now }
 {
@@ -412,26 +379,26 @@ fn are_allowed_names(tag: &Tag<'_>) -> bool
 fn opened_in(
     alloc: Global,
     known: &mut Known,
-    bounds: Bounds,
+    scope: &Scope,
     tag: &Tag<'_>,
 ) -> Result<Option<Open>, Memory>
-    ensures { IfOk result (λ it. it ≡ option_map open_of (resolved.opened_in bounds tag.now)) }
+    ensures { IfOk result (λ it. it ≡ option_map open_of (resolved.opened_in scope.now tag.now)) }
 {
     let prefix = known.name(tag.name.prefix.chars)?;
     let name = known.name(tag.name.local.chars)?;
-    let Some(space) = elem_space(&bounds, &prefix)? else {
+    let Some(space) = elem_space(scope.bounds(), &prefix)? else {
         return Ok(None);
     };
-    let Some(attrs) = attrs_of(alloc, known, &bounds, tag.attributes.as_slice())? else {
+    let Some(attrs) = attrs_of(alloc, known, scope.bounds(), tag.attributes.as_slice())? else {
         return Ok(None);
     };
-    if !differ(alloc, attrs.as_slice())? {
+    if !scope.differ(alloc, attrs.as_slice())? {
         return Ok(None);
     }
     Ok(Some(Open {
         prefix,
         name: QName { space, name },
-        bounds,
+        bounds: scope.copy()?,
         attrs,
         parts: Many::new(alloc),
         text: Text::new(alloc),
@@ -442,7 +409,7 @@ fn opened_in(
 pub(crate) fn opened(
     alloc: Global,
     known: &mut Known,
-    outer: &Bounds,
+    outer: &Scope,
     tag: &Tag<'_>,
 ) -> Result<Option<Open>, Memory>
     ensures { IfOk result (λ it. it ≡ option_map open_of (resolved.opened outer.now tag.now)) }
@@ -451,7 +418,7 @@ pub(crate) fn opened(
         return Ok(None);
     }
     match declared(alloc, known, tag.attributes.as_slice())? {
-        Some(level) => opened_in(alloc, known, outer.below(alloc, level)?, tag),
+        Some(said) => opened_in(alloc, known, &outer.below(alloc, said)?, tag),
         None => Ok(None),
     }
 }

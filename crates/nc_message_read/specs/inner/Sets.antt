@@ -8,6 +8,8 @@ use Rattle.nc_names.specs.Same.{is_same_text, is_same_name}
 use Rattle.nc_names.specs.declared.name.QName.{QName}
 use Rattle.nc_message.specs.Tokens.{Name, Attribute}
 use Rattle.nc_message.specs.Resolved.{is_declared_by, is_xmlns}
+use Rattle.nc_message_read.specs.declared.marks.Marks.{Marks}
+use Rattle.nc_message_read.specs.inner.Marks.{key_of}
 
 -- whether the set has a text
 abbrev pub has : BTreeSet (List ℕ) → List ℕ → Bool
@@ -19,20 +21,15 @@ IsDeclaredToo before after name =
     (prefix : List ℕ) → has after prefix ≡ ((is_xmlns name.prefix && is_same_text prefix name.local)
     || has before prefix)
 
--- a name with its texts the other way round: so names are ordered by their local names first, and those of one
--- namespace are told apart without a look at it
-abbrev pub swapped : QName → QName
-swapped name = record { space = name.name; name = name.space }
-
--- whether the set has a name, with its texts so
-abbrev pub has_name : BTreeSet QName → QName → Bool
-has_name set name = list_any (is_same_name (swapped name)) set.keys
+-- whether the set has a name, as it is kept there
+abbrev pub has_name : Marks → BTreeSet QName → QName → Bool
+has_name marks set name = list_any (is_same_name (key_of marks name)) set.keys
 
 -- the name was put into the set, where it was not yet
-abbrev pub IsNameAdded : BTreeSet QName → BTreeSet QName → QName → Bool → Type 0
-IsNameAdded before after name added =
-    (added ≡ not (has_name before name)) × ((other : QName) → has_name after other
-    ≡ (if is_same_name name other then true else has_name before other))
+abbrev pub IsNameAdded : Marks → BTreeSet QName → BTreeSet QName → QName → Bool → Type 0
+IsNameAdded marks before after name added =
+    (added ≡ not (has_name marks before name)) × ((other : QName) → has_name marks after other
+    ≡ (if is_same_name name other then true else has_name marks before other))
 
 -- the set has the prefixes that attributes declare
 abbrev pub DeclaredPrefixes : BTreeSet (List ℕ) → List Attribute → Type 0

@@ -12,6 +12,7 @@ pub mod NamingLemmas
 pub mod AlikeNames
 pub mod ReadyLemmas
 pub mod DepthLemmas
+pub mod CountLemmas
 pub mod Reading
 pub mod Bare
 pub mod Outcomes

@@ -40,7 +40,7 @@ use Rattle.nc_yang_leafs.specs.Defaults.{BreaksDefault, KeepsDefaults}
 use Rattle.nc_yang_leafs.specs.Readings.{value_of}
 use Rattle.nc_yang_leafs.proofs.AlikeLemmas.{TakesAlike, canonical_alike, defaults_kept, keep_alike, path_tables, value_alike}
 use Rattle.nc_yang.specs.Access.{in_file}
-use Rattle.nc_yang.specs.Depths.{BreaksDepth, KeepsDepth, depth_fault, too_deep_at}
+use Rattle.nc_yang.specs.Depths.{BreaksDepth, KeepsDepth, depth_fault, too_many_at}
 use Rattle.nc_yang.specs.Features.{is_given}
 use Rattle.nc_yang.specs.Laws.{NeverBoth, reference_at}
 use Rattle.nc_yang.specs.Schemas.{AreNames, Breaks, BreaksBare, BreaksPlan, BreaksSchema, BreaksTypedefs, Defines, GivesSchema, IsBareOf, IsBegun, IsSchemaOf, KeepsTypedefs, basis, basis_of, by_pattern, by_types, circle, deep, default, identity_name, ill_typed, in_place, in_plan, in_schema, leafref, of_typedef, past, suits_none, text, typedef_basis, unadmitted, unread}
@@ -137,7 +137,7 @@ module _ (scoping : Scoping) (on : FeatureTest) where
       depths_keep : (found : TextFault) → KeepsDepth scoping plan t → BreaksDepth scoping plan u found → ⊥
       depths_keep found good (number, is) =
           let same : depth_fault scoping plan t number ≡ depth_fault scoping plan u number =
-          ap (λ b. cond b (option_map too_deep_at (type_of scoping plan number)) None) (deep_alike derived names_one stands_on t u alike named other agree kinds number) in
+          ap (λ b. cond b (option_map too_many_at (type_of scoping plan number)) None) (deep_alike derived names_one stands_on t u alike named other agree kinds number) in
           let gone : None ≡ Some found = sym (good number) ∙ same ∙ is in
           absurd (cc)
 

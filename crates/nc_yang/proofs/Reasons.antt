@@ -25,7 +25,7 @@ use Rattle.nc_yang_leafs.specs.Bases.{type_of}
 use Rattle.nc_yang_leafs.specs.Patterns.{Refusals, without_patterns}
 use Rattle.nc_yang_leafs.specs.Defaults.{IsBroken}
 use Rattle.nc_yang.specs.Access.{in_file}
-use Rattle.nc_yang.specs.Depths.{is_too_deep, too_deep_at}
+use Rattle.nc_yang.specs.Depths.{reads_too_many, too_many_at}
 use Rattle.nc_yang.specs.Schemas.{Breaks, BreaksBare, BreaksPlan, BreaksSchema, BreaksTypedefs, GivesNone, IsCompiled, by_pattern, by_types, circle, deep, default, ill_typed, in_place, in_plan, in_schema, leafref, of_typedef, past, suits_none, text, unadmitted, unread}
 use Rattle.nc_yang.specs.Typedefs.{typedef_plan, typedef_tables}
 use Rattle.nc_yang.specs.declared.texts.Compilation.{Compilation}
@@ -44,10 +44,10 @@ of_one on texts l fault (inr (inr (inl defaults))) = subst OfRule (sym defaults.
 of_one on texts l fault (inr (inr (inr taken))) = subst OfRule (sym taken.at) refl
 
 -- a value that is read through too many types
-of_depth : (b : Bool) (o : Option Located) (found : TextFault) → cond b (option_map too_deep_at o) None ≡ Some found → OfTextRule found
+of_depth : (b : Bool) (o : Option Located) (found : TextFault) → cond b (option_map too_many_at o) None ≡ Some found → OfTextRule found
 of_depth false o found e = absurd (cc)
 of_depth true None found e = absurd (cc)
-of_depth true (Some l) found e = let same : too_deep_at l ≡ found = cc in subst OfTextRule same refl
+of_depth true (Some l) found e = let same : too_many_at l ≡ found = cc in subst OfTextRule same refl
 
 -- a default without a value, or with that of one before it
 of_default : (earlier : List (List ℕ)) (value : Option (List ℕ)) (why : ModuleWhy) → IsBroken earlier value why → is_of_rule why ≡ true
@@ -57,7 +57,7 @@ of_default earlier (Some value) why is = ap is_of_rule is.1
 of_bare : (scoping : Scoping) (on : FeatureTest) (plan : Plan) (given : Tables) (found : TextFault) → BreaksBare scoping on plan given found → OfTextRule found
 of_bare scoping on plan given _ (circle found breaks) = subst OfTextRule (sym breaks.at) refl
 of_bare scoping on plan given _ (leafref found breaks) = subst OfTextRule (sym breaks.at) refl
-of_bare scoping on plan given _ (deep found typed straight types breaks) = of_depth (is_too_deep (without_patterns typed) breaks.0) (type_of scoping plan breaks.0) found breaks.1
+of_bare scoping on plan given _ (deep found typed straight types breaks) = of_depth (reads_too_many (without_patterns typed) breaks.0) (type_of scoping plan breaks.0) found breaks.1
 of_bare scoping on plan given _ (default found typed straight types breaks) = subst OfTextRule (sym breaks.fault_is) (of_default breaks.breaks.stops.earlier _ breaks.breaks.stops.why breaks.breaks.stops.broken)
 
 of_plan : (scoping : Scoping) (on : FeatureTest) (plan : Plan) (found : TextFault) → BreaksPlan scoping on plan found → OfTextRule found

@@ -18,7 +18,7 @@ use Rattle.nc_yang_leafs.specs.Faults.{BreaksLeafref}
 use Rattle.nc_yang_leafs.specs.Typings.{HasItsType, HasTypings, IsInUse, IsOfType, IsSameNode}
 use Rattle.nc_yang_leafs.specs.Circles.{BreaksCircle, HasPath, Reaches, Refers, itself, through}
 use Rattle.nc_yang_leafs.specs.Defaults.{BreaksDefault, HasDefaults, KeepsDefaults}
-use Rattle.nc_yang.specs.Depths.{BreaksDepth, is_too_deep, too_deep_at}
+use Rattle.nc_yang.specs.Depths.{BreaksDepth, reads_too_many, too_many_at}
 
 some_more : {A : Type 0} (P Q : A → Type 0) (o : Option A) → ((x : A) → P x → Q x) → IsSomeAnd o P → IsSomeAnd o Q
 some_more P Q None more h = absurd h
@@ -29,7 +29,7 @@ module _ (scoping : Scoping) (one other : Plan) (alike : AreAlike scoping one ot
   types_same n = ap (option_and_then (part_of TypeName)) (statements_alike scoping one other alike n)
 
   pub deep_here : (tables : Tables) (fault : TextFault) → BreaksDepth scoping other tables fault → BreaksDepth scoping one tables fault
-  deep_here tables fault (number, is) = (number, ap (λ o. cond (is_too_deep tables number) (option_map too_deep_at o) None) (types_same number) ∙ is)
+  deep_here tables fault (number, is) = (number, ap (λ o. cond (reads_too_many tables number) (option_map too_many_at o) None) (types_same number) ∙ is)
 
   pub default_here : (tables : Tables) (fault : TextFault) → BreaksDefault scoping other tables fault → BreaksDefault scoping one tables fault
   default_here tables fault h = record {

@@ -1,5 +1,5 @@
 //! Through how many types values are read (RFC 7950 9.9, 9.12).
-ghost use Rattle.std.specs.Prelude.{◌≡◌, true, map, replicate, option_map, slice_get, IfOk, MatchOption, MatchResult};
+ghost use Rattle.std.specs.Prelude.{◌≡◌, ◌||◌, true, map, nat_lt, replicate, option_map, slice_get, IfOk, MatchOption, MatchResult};
 ghost use Rattle.std.specs.List.{list_any};
 ghost use Rattle.nc_schema.specs.Values.{type_of as kind_at};
 ghost use Rattle.nc_yang_scopes.specs.Numbers.{IsNumber};
@@ -8,15 +8,16 @@ ghost use Rattle.nc_yang_statements.specs.Stops.{OnBroken};
 ghost use Rattle.nc_yang.specs.Depths as words;
 ghost use Rattle.nc_yang.specs.inner.Marked as marked;
 
+use crate::counts::{MOST_ASKED, count_at, counts_of, type_at};
 use nc_names::{Many, Memory};
-use nc_schema::{Kind, Schema, ValueType};
+use nc_schema::{Schema, ValueType};
 use nc_yang_nodes::Plan;
 use nc_yang_scopes::{Scopes, TextFault, part_of};
 use nc_yang_statements::{Fault, Keyword, ModuleWhy, Stop};
 use std::alloc::Global;
 
-/// How many types a value is read through after the first.
-const MORE_TYPES: usize = 64;
+/// How many types a value is read through, one after another.
+const MOST_TYPES: usize = 64;
 
 // The mark of a type.
 fn is_marked(marks: &[bool], number: u32) -> bool
@@ -40,20 +41,9 @@ fn has_marked(marks: &[bool], members: &[u32]) -> bool
     false
 }
 
-// The number of the type of a leaf or leaf-list.
-fn type_at(schema: &Schema, number: u32) -> Option<u32>
-    ensures { result ≡ kind_at schema.now number }
-{
-    let node = schema.node(number)?;
-    match node.kind {
-        Kind::Leaf | Kind::LeafList => Some(node.kind_of_value),
-        Kind::Container { .. } | Kind::List => None,
-    }
-}
-
 // Whether a type asks one that is marked.
 fn asks(schema: &Schema, marks: &[bool], found: &ValueType) -> bool
-    ensures { result ≡ words.asks schema.now (marked.is_marked marks.now) found.now }
+    ensures { result ≡ list_any (marked.is_marked marks.now) (words.asked_of schema.now found.now) }
 {
     match found {
         ValueType::Union { members } => has_marked(marks, members.as_slice()),
@@ -67,8 +57,8 @@ fn asks(schema: &Schema, marks: &[bool], found: &ValueType) -> bool
 
 // A mark for each type that asks one that is marked.
 fn asking(alloc: Global, schema: &Schema, marks: &[bool]) -> Result<Many<bool>, Memory>
-    ensures { IfOk result (λ it. it ≡ map (words.asks schema.now
-        (marked.is_marked marks.now)) schema.now.types) }
+    ensures { IfOk result (λ it. it ≡ map (λ found. list_any (marked.is_marked marks.now)
+        (words.asked_of schema.now found)) schema.now.types) }
 {
     let types = schema.types();
     let mut out = Many::new(alloc);
@@ -110,8 +100,8 @@ fn type_statement(scopes: &Scopes, plan: &Plan, number: u32) -> Option<usize>
 }
 
 // The fault at a `type` statement.
-fn too_deep_at(scopes: &Scopes, number: usize) -> Option<TextFault>
-    ensures { result ≡ option_map words.too_deep_at (slice_get scopes.now.located number) }
+fn too_many_at(scopes: &Scopes, number: usize) -> Option<TextFault>
+    ensures { result ≡ option_map words.too_many_at (slice_get scopes.now.located number) }
 {
     let Some(text) = scopes.text(number) else {
         return None;
@@ -126,53 +116,71 @@ fn too_deep_at(scopes: &Scopes, number: usize) -> Option<TextFault>
     Some(TextFault { text, fault })
 }
 
-// Whether the type of a data node is marked.
-fn is_deep(schema: &Schema, marks: &[bool], number: u32) -> bool
-    requires { marked.AreDeep schema.now 64 marks.now }
-    ensures { result ≡ words.is_too_deep schema.now number }
+// Whether the type of a number asks too many.
+fn asks_too_many(marks: &[bool], counts: &[u32], number: u32) -> bool
+    ensures { result ≡ marked.is_marked marks.now number || nat_lt 4096 (marked.count_at counts.now number) }
+{
+    is_marked(marks, number) || count_at(counts, number) > MOST_ASKED
+}
+
+// Whether a value of the type of a data node is read through too many types.
+#[tactic(auto, using(crate::proofs::CountLemmas::too_many_by))]
+fn reads_too_many(schema: &Schema, marks: &[bool], counts: &[u32], number: u32) -> bool
+    requires deep { marked.AreDeep schema.now 64 marks.now }
+    requires counts { marked.AreCounts schema.now 64 counts.now }
+    ensures { result ≡ words.reads_too_many schema.now number }
 {
     match type_at(schema, number) {
-        Some(one) => is_marked(marks, one),
+        Some(one) => asks_too_many(marks, counts, one),
         None => false,
     }
 }
 
-// The fault of a data node whose value is read through too many types.
+// The fault of a data node whose value is.
 fn depth_fault(
     scopes: &Scopes,
     plan: &Plan,
     schema: &Schema,
     marks: &[bool],
+    counts: &[u32],
     number: u32,
 ) -> Option<TextFault>
-    requires { marked.AreDeep schema.now 64 marks.now }
+    requires deep { marked.AreDeep schema.now 64 marks.now }
+    requires counts { marked.AreCounts schema.now 64 counts.now }
     ensures { result ≡ words.depth_fault scopes.now plan.now schema.now number }
 {
-    if !is_deep(schema, marks, number) {
+    if !reads_too_many(schema, marks, counts, number) {
         return None;
     }
     match type_statement(scopes, plan, number) {
-        Some(found) => too_deep_at(scopes, found),
+        Some(found) => too_many_at(scopes, found),
         None => None,
     }
 }
 
 // The first of those faults.
-fn first_fault(scopes: &Scopes, plan: &Plan, schema: &Schema, marks: &[bool]) -> Option<TextFault>
-    requires { marked.AreDeep schema.now 64 marks.now }
+fn first_fault(
+    scopes: &Scopes,
+    plan: &Plan,
+    schema: &Schema,
+    marks: &[bool],
+    counts: &[u32],
+) -> Option<TextFault>
+    requires deep { marked.AreDeep schema.now 64 marks.now }
+    requires counts { marked.AreCounts schema.now 64 counts.now }
     ensures { MatchOption result (words.KeepsDepth scopes.now plan.now schema.now)
         (words.BreaksDepth scopes.now plan.now schema.now) }
 {
     for number in 0..schema.nodes() {
-        if let Some(found) = depth_fault(scopes, plan, schema, marks, number) {
+        if let Some(found) = depth_fault(scopes, plan, schema, marks, counts, number) {
             return Some(found);
         }
     }
     None
 }
 
-/// Nothing where no value is read through more than 64 types, one after another; else TooMany at the `type`
-/// statement of the first data node whose value is.
+/// Nothing where no value is read through more than 64 types, one after another, or through more than 4,096
+/// in all; else TooMany at the `type` statement of the first data node whose value is.
 pub(crate) fn keep_depth(
     alloc: Global,
     scopes: &Scopes,
@@ -182,8 +190,9 @@ pub(crate) fn keep_depth(
     ensures { MatchResult result (λ _. words.KeepsDepth scopes.now plan.now schema.now)
         (OnBroken (words.BreaksDepth scopes.now plan.now schema.now)) }
 {
-    let marks = deep(alloc, schema, MORE_TYPES)?;
-    match first_fault(scopes, plan, schema, marks.as_slice()) {
+    let marks = deep(alloc, schema, MOST_TYPES)?;
+    let counts = counts_of(alloc, schema, MOST_TYPES)?;
+    match first_fault(scopes, plan, schema, marks.as_slice(), counts.as_slice()) {
         Some(found) => Err(Stop::Broken(found)),
         None => Ok(()),
     }

@@ -26,6 +26,7 @@
 #![tactic(auto)]
 
 mod access;
+mod counts;
 mod depth;
 mod fault;
 mod features;

@@ -160,10 +160,10 @@ def timed(peer, session, times, work, before=None):
     for at in range(times):
         if before:
             before(at)
-        begun, used = time.perf_counter(), peer.spent(session)
+        used, begun = peer.spent(session), time.perf_counter()
         work(at)
-        spent += peer.spent(session) - used
         clocks.append(time.perf_counter() - begun)
+        spent += peer.spent(session) - used
     return cell(statistics.median(clocks), spent / times)
 
 

@@ -1,11 +1,13 @@
 -- Defaults that name conditional enums and bits.
 use Rattle.std.proofs.Common.{◌≡◌, ◌<◌, ◌≤◌, ◌+◌, ◌⊎◌, ◌&&◌, ◌||◌, ℕ, Bool, true, false, List, [], ◌∷◌, length, map, take, drop, get_or, inl, inr, refl, sym, ap, subst, ◌∙◌, arith}
-use Rattle.std.specs.Prelude.{Option, Some, None, slice_get, option_map, IsSomeAnd, Contains}
+use Rattle.std.specs.Prelude.{Option, Some, None, slice_get, option_map, unwrap_or, IsSomeAnd, Contains}
 use Rattle.std.specs.List.{list_any, position_or_len}
 use Rattle.std.specs.Option.{option_map_or}
 use Rattle.std.proofs.lemmas.Bool.{cases_lt}
-use Rattle.std.proofs.lemmas.List.Elements.{Contains-append_cases, Contains-append_right}
+use Rattle.std.proofs.lemmas.List.{length-map}
+use Rattle.std.proofs.lemmas.List.Elements.{Contains-append_right}
 use Rattle.std.proofs.lemmas.List.Folds.{list_any-append}
+use Rattle.std.proofs.lemmas.Option.{slice_get-map, slice_get_within}
 use Rattle.nc_names.proofs.SameLemmas.{first_true, second_true}
 use Rattle.nc_names.specs.Signs.{is_white}
 use Rattle.nc_schema.specs.Values.{words_of}
@@ -16,17 +18,20 @@ use Rattle.nc_yang_statements.specs.declared.fault.ModuleWhy.TheVariants.{BadArg
 use Rattle.nc_yang_statements.specs.declared.keyword.Keyword.TheVariants.{Default, TypeName}
 use Rattle.nc_yang_statements.specs.Keywords.{is_same_keyword}
 use Rattle.nc_yang_statements.specs.Statements.{below, kind, line, name}
-use Rattle.nc_yang_order.proofs.Lists.{contains_at, contains_none, contains_one}
+use Rattle.nc_yang_order.proofs.Lists.{contains_none}
+use Rattle.nc_yang_order.specs.Orders.{Reaches, further as onwards, here as at_once, targets}
 use Rattle.nc_yang_scopes.specs.Numbers.{AreNumbers, IsNumber}
 use Rattle.nc_yang_scopes.specs.Parts.{part_of}
 use Rattle.nc_yang_scopes.specs.Scopes.{Located, Scoping, child, inside as inside_of}
 use Rattle.nc_yang_scopes.specs.inner.Naming.{HasNumber}
+use Rattle.nc_yang_scopes.proofs.LinkLists.{contains_cases, contains_first}
 use Rattle.nc_yang_scopes.proofs.Lists.{get_within}
 use Rattle.nc_yang_scopes.proofs.PartLemmas.{statement_is}
 use Rattle.nc_yang_types.specs.Faults.{DefaultsToConditional, ListsConditional, TakesConditional, listed, names_conditional, of_member}
-use Rattle.nc_yang_types.specs.Meanings.{DerivedFrom, Entry, Meaning, Means, OneOf, Refers, names_of, shape}
+use Rattle.nc_yang_types.specs.Meanings.{Meaning, Means, OneOf, names_of, shape}
 use Rattle.nc_yang_types.specs.Plans.{AreMeanings, IsFinding, IsPlan}
-use Rattle.nc_yang_types.specs.inner.Judging.{is_conditional_default, names_at, names_by, plan_takes, some_word, takes_at, takes_by}
+use Rattle.nc_yang_types.specs.inner.Judging.{is_conditional_default, names_at, names_by, some_word, takes_at}
+use Rattle.nc_yang_types.specs.inner.Nested.{AreReached, member_graph, members_by, members_in}
 use Rattle.nc_yang_types.specs.inner.Planning.{names_in, shape_of}
 use Rattle.nc_yang_types.specs.declared.planned.Finding.{Finding}
 use Rattle.nc_yang_types.specs.declared.planned.Finding.TheVariants.{Broken, Nothing, Plan}
@@ -101,93 +106,163 @@ module _ (scoping : Scoping) (meanings : Meanings) (on : ℕ → List ℕ → Bo
       by (Some (Plan place)) h f = listed_not h.plan h.meaning (h.is, h.means) (sym (ap (plan_names text) h.there) ∙ f) lists
 
 -- ---- members
-module _ (scoping : Scoping) (meanings : Meanings) (on : ℕ → List ℕ → Bool) (are : AreMeanings on scoping meanings) (text : List ℕ) where
-  abbrev OneLists : List Located → Type 0
-  OneLists members = (one : Located) × Contains members one × ListsConditional on scoping.texts one text
-
-  any_member : (numbers : List ℕ) (members : List Located) → AreNumbers scoping.located numbers members → list_any (λ n. names_at meanings n text) numbers ≡ true → OneLists members
-  any_member [] members is e = absurd (cc)
-  any_member (n ∷ ns) [] is e = absurd (cc)
-  any_member (n ∷ ns) (l ∷ ls) is e =
-      let here : slice_get scoping.located n ≡ Some l = cc in
+module _ (scoping : Scoping) where
+  -- the statement of one of several numbers, and the number of one of their statements
+  member_at : (ns : List ℕ) (ls : List Located) → AreNumbers scoping.located ns ls → (n : ℕ) → Contains ns n → (one : Located) × Contains ls one × (slice_get scoping.located n ≡ Some one)
+  member_at [] ls is n h = absurd (contains_none n h)
+  member_at (m ∷ ns) [] is n h = absurd (cc)
+  member_at (m ∷ ns) (l ∷ ls) is n h =
+      let first : slice_get scoping.located m ≡ Some l = cc in
       let rest : map (slice_get scoping.located) ns ≡ map Some ls = cc in
-      by here (names_at meanings n text) refl e (any_member ns ls rest)
-    where
-      by : slice_get scoping.located n ≡ Some l → (b : Bool) → names_at meanings n text ≡ b → (b || list_any (λ m. names_at meanings m text) ns) ≡ true →
-          (list_any (λ m. names_at meanings m text) ns ≡ true → OneLists ls) → OneLists (l ∷ ls)
-      by here true f e further = (l, contains_at (l ∷ ls) 0 l refl, lists_there scoping meanings on are n l here text f)
-      by here false f e further = let r = further e in (r.0, Contains-append_right (l ∷ []) ls r.0 r.1, r.2)
-
-  none_member : (numbers : List ℕ) (members : List Located) → AreNumbers scoping.located numbers members → list_any (λ n. names_at meanings n text) numbers ≡ false →
-      (one : Located) → Contains members one → ListsConditional on scoping.texts one text → ⊥
-  none_member [] [] is e one among lists = contains_none one among
-  none_member [] (l ∷ ls) is e one among lists = absurd (cc)
-  none_member (n ∷ ns) [] is e one among lists = contains_none one among
-  none_member (n ∷ ns) (l ∷ ls) is e one among lists =
-      let here : slice_get scoping.located n ≡ Some l = cc in
-      let rest : map (slice_get scoping.located) ns ≡ map Some ls = cc in
-      by here (names_at meanings n text) refl e (λ f later. none_member ns ls rest f one later lists)
-    where
-      by : slice_get scoping.located n ≡ Some l → (b : Bool) → names_at meanings n text ≡ b → (b || list_any (λ m. names_at meanings m text) ns) ≡ false →
-          (list_any (λ m. names_at meanings m text) ns ≡ false → Contains ls one → ⊥) → ⊥
-      by here true f e further = absurd (cc)
-      by here false f e further = elim (Contains-append_cases (l ∷ []) ls one among) [
-        | inl now ↦ lists_not scoping meanings on are n one (here ∙ ap Some (contains_one l one now)) text f lists
-        | inr later ↦ further e later
+      elim (contains_cases m ns n h) [
+        | inl same ↦ (l, contains_first l ls, subst (λ z. slice_get scoping.located z ≡ Some l) same first)
+        | inr later ↦ (let r = member_at ns ls rest n later in (r.0, Contains-append_right (l ∷ []) ls r.0 r.1, r.2))
       ]
 
--- ---- what a type or a member of it lists
+  number_of : (ns : List ℕ) (ls : List Located) → AreNumbers scoping.located ns ls → (one : Located) → Contains ls one → (n : ℕ) × Contains ns n × (slice_get scoping.located n ≡ Some one)
+  number_of ns [] is one h = absurd (contains_none one h)
+  number_of [] (l ∷ ls) is one h = absurd (cc)
+  number_of (n ∷ ns) (l ∷ ls) is one h =
+      let first : slice_get scoping.located n ≡ Some l = cc in
+      let rest : map (slice_get scoping.located) ns ≡ map Some ls = cc in
+      elim (contains_cases l ls one h) [
+        | inl same ↦ (n, contains_first n ns, subst (λ z. slice_get scoping.located n ≡ Some z) same first)
+        | inr later ↦ (let r = number_of ns ls rest one later in (r.0, Contains-append_right (n ∷ []) ns r.0 r.1, r.2))
+      ]
+
+module _ (scoping : Scoping) (meanings : Meanings) (on : ℕ → List ℕ → Bool) (are : AreMeanings on scoping meanings) where
+  abbrev graph : List (List ℕ)
+  graph = member_graph meanings
+
+  abbrev edges_by : Option Finding → List ℕ
+  edges_by o = option_map_or (members_by meanings.plans) o []
+
+  edges_are : (n : ℕ) → targets graph n ≡ edges_by (slice_get meanings.findings n)
+  edges_are n = ap (λ o. unwrap_or o []) (slice_get-map (members_by meanings.plans) meanings.findings n) ∙ by (slice_get meanings.findings n)
+    where
+      by : (o : Option Finding) → unwrap_or (option_map (members_by meanings.plans) o) [] ≡ edges_by o
+      by None = refl
+      by (Some found) = refl
+
+  -- an edge leads to a member
+  record LeadsTo (l : Located) (n : ℕ) : Type 0 where
+    members : List Located
+    one : Located
+    means : Means on scoping.texts l (OneOf members)
+    among : Contains members one
+    at : slice_get scoping.located n ≡ Some one
+
+  edge_leads : (l : Located) (plan : Planned) (m : Meaning) → IsPlan scoping.located plan m → Means on scoping.texts l m → (n : ℕ) → Contains (members_in plan) n → LeadsTo l n
+  edge_leads l (Members ns) (OneOf ls) is means n h = let r = member_at scoping ns ls is n h in record { members = ls; one = r.0; means = means; among = r.1; at = r.2 }
+  edge_leads l (Members ns) m is means n h = absurd is
+  edge_leads l (Finished entry ns names) m is means n h = absurd (contains_none n h)
+  edge_leads l (Bases ns) m is means n h = absurd (contains_none n h)
+  edge_leads l (Leafref path need) m is means n h = absurd (contains_none n h)
+
+  leads_to : (k : ℕ) (l : Located) → slice_get scoping.located k ≡ Some l → (n : ℕ) → Contains (targets graph k) n → LeadsTo l n
+  leads_to k l at n edge = by (slice_get meanings.findings k) (are k l at) (subst (λ ns. Contains ns n) (edges_are k) edge)
+    where
+      by : (o : Option Finding) → IsSomeAnd o (IsFinding on scoping meanings.plans l) → Contains (edges_by o) n → LeadsTo l n
+      by None h e = absurd h
+      by (Some Nothing) h e = absurd (contains_none n e)
+      by (Some (Broken fault)) h e = absurd (contains_none n e)
+      by (Some (Plan place)) h e = edge_leads l h.plan h.meaning h.is h.means n (subst (λ o. Contains (option_map_or members_in o []) n) h.there e)
+
+  -- to each member an edge leads
+  member_edge : (l : Located) (members : List Located) (one : Located) → Contains members one → (plan : Planned) → IsPlan scoping.located plan (OneOf members) →
+      (n : ℕ) × Contains (members_in plan) n × (slice_get scoping.located n ≡ Some one)
+  member_edge l members one among (Members ns) is = number_of scoping ns members is one among
+  member_edge l members one among (Finished entry ns names) is = absurd is
+  member_edge l members one among (Bases ns) is = absurd is
+  member_edge l members one among (Leafref path need) is = absurd is
+
+  edge_to : (k : ℕ) (l : Located) → slice_get scoping.located k ≡ Some l → (members : List Located) → Means on scoping.texts l (OneOf members) → (one : Located) → Contains members one →
+      (n : ℕ) × Contains (targets graph k) n × (slice_get scoping.located n ≡ Some one)
+  edge_to k l at members means one among = by (slice_get meanings.findings k) refl (are k l at)
+    where
+      by : (o : Option Finding) → slice_get meanings.findings k ≡ o → IsSomeAnd o (IsFinding on scoping meanings.plans l) → (n : ℕ) × Contains (targets graph k) n × (slice_get scoping.located n ≡ Some one)
+      by None f h = absurd h
+      by (Some Nothing) f h = absurd (h.1 (OneOf members) means)
+      by (Some (Broken fault)) f h = absurd (h.1 (OneOf members) means)
+      by (Some (Plan place)) f h =
+          let same = means_one on scoping.texts l h.meaning (OneOf members) h.means means in
+          let r = member_edge l members one among h.plan (subst (IsPlan scoping.located h.plan) same h.is) in
+          let row : targets graph k ≡ members_in h.plan = edges_are k ∙ ap edges_by f ∙ ap (λ o. option_map_or members_in o []) h.there in
+          (r.0, subst (λ ns. Contains ns r.0) (sym row) r.1, r.2)
+
+  -- ---- what a type, or one to which it leads, lists
+  takes_along : (k last : ℕ) → Reaches graph k last → (l : Located) → slice_get scoping.located k ≡ Some l → (text : List ℕ) → names_at meanings last text ≡ true → TakesConditional on scoping.texts l text
+  takes_along _ _ (at_once k) l at text e = listed l text (lists_there scoping meanings on are k l at text e)
+  takes_along _ _ (onwards k n last edge rest) l at text e =
+      let m = leads_to k l at n edge in of_member l m.one m.members text m.means m.among (takes_along n last rest m.one m.at text e)
+
+  names_it : (k : ℕ) (l : Located) → slice_get scoping.located k ≡ Some l → (text : List ℕ) → ListsConditional on scoping.texts l text → names_at meanings k text ≡ true
+  names_it k l at text lists = by (names_at meanings k text) refl
+    where
+      by : (b : Bool) → names_at meanings k text ≡ b → names_at meanings k text ≡ true
+      by true e = e
+      by false e = absurd (lists_not scoping meanings on are k l at text e lists)
+
+  takes_leads : (l : Located) (text : List ℕ) → TakesConditional on scoping.texts l text → (k : ℕ) → slice_get scoping.located k ≡ Some l → (last : ℕ) × Reaches graph k last × (names_at meanings last text ≡ true)
+  takes_leads _ _ (listed l text lists) k at = (k, at_once k, names_it k l at text lists)
+  takes_leads _ _ (of_member l one members text means among rest) k at =
+      let e = edge_to k l at members means one among in
+      let r = takes_leads one text rest e.0 e.2 in
+      (r.0, onwards k e.0 r.0 e.1 r.1, r.2)
+
+  found_within : (k : ℕ) (text : List ℕ) → names_at meanings k text ≡ true → k < length graph
+  found_within k text e = by (slice_get meanings.findings k) refl e
+    where
+      by : (o : Option Finding) → slice_get meanings.findings k ≡ o → names_by meanings.plans text o ≡ true → k < length graph
+      by None f h = absurd (cc)
+      by (Some found) f h = let less = slice_get_within meanings.findings k found f in let same = length-map meanings.findings (members_by meanings.plans) in omega (arith, less, same)
+
+any_there : (test : ℕ → Bool) (ns : List ℕ) → list_any test ns ≡ true → (n : ℕ) × Contains ns n × (test n ≡ true)
+any_there test [] e = absurd (cc)
+any_there test (m ∷ ns) e = by (test m) refl e (any_there test ns)
+  where
+    by : (b : Bool) → test m ≡ b → (b || list_any test ns) ≡ true → (list_any test ns ≡ true → (n : ℕ) × Contains ns n × (test n ≡ true)) → (n : ℕ) × Contains (m ∷ ns) n × (test n ≡ true)
+    by true f e later = (m, contains_first m ns, f)
+    by false f e later = let r = later e in (r.0, Contains-append_right (m ∷ []) ns r.0 r.1, r.2)
+
+any_not : (test : ℕ → Bool) (ns : List ℕ) → list_any test ns ≡ false → (n : ℕ) → Contains ns n → test n ≡ true → ⊥
+any_not test [] e n h f = contains_none n h
+any_not test (m ∷ ns) e n h f = by (test m) refl e (any_not test ns)
+  where
+    by : (b : Bool) → test m ≡ b → (b || list_any test ns) ≡ false → (list_any test ns ≡ false → (n : ℕ) → Contains ns n → test n ≡ true → ⊥) → ⊥
+    by true g e later = absurd (cc)
+    by false g e later = elim (contains_cases m ns n h) [
+      | inl same ↦ (let both : test m ≡ true = ap test same ∙ f in absurd (cc))
+      | inr rest ↦ later e n rest f
+    ]
+
+-- what a type means that takes something
 pub means_some : (on : ℕ → List ℕ → Bool) (texts : List Statement) (l : Located) (text : List ℕ) → TakesConditional on texts l text → (m : Meaning) × Means on texts l m
-means_some on texts l text (listed lists) = (lists.meaning, lists.means)
-means_some on texts l text (of_member members one means among lists) = (OneOf members, means)
+means_some on texts _ _ (listed l text lists) = (lists.meaning, lists.means)
+means_some on texts _ _ (of_member l one members text means among rest) = (OneOf members, means)
 
-module _ (scoping : Scoping) (meanings : Meanings) (on : ℕ → List ℕ → Bool) (are : AreMeanings on scoping meanings) (k : ℕ) (c : Located) (at : slice_get scoping.located k ≡ Some c) (text : List ℕ) where
-  abbrev takes_plan : Option Planned → Bool
-  takes_plan o = option_map_or (plan_takes meanings text) o false
+module _ (scoping : Scoping) (meanings : Meanings) (nested : List (List ℕ)) (known : AreReached (member_graph meanings) nested) (on : ℕ → List ℕ → Bool) (are : AreMeanings on scoping meanings) (k : ℕ) (c : Located) (at : slice_get scoping.located k ≡ Some c) (text : List ℕ) where
+  abbrev inner_takes : Bool
+  inner_takes = list_any (λ n. names_at meanings n text) (targets nested k)
 
-  abbrev by_list : (plan : Planned) (m : Meaning) → IsPlan scoping.located plan m → Means on scoping.texts c m → names_conditional (shape_of plan) (names_in plan) text ≡ true → TakesConditional on scoping.texts c text
-  by_list plan m is means f = listed (record { meaning = m; means = means; conditional = sym (meant_names scoping meanings on are k c at text plan m is) ∙ f })
-
-  plan_lists : (plan : Planned) (m : Meaning) → IsPlan scoping.located plan m → Means on scoping.texts c m → plan_takes meanings text plan ≡ true → TakesConditional on scoping.texts c text
-  plan_lists (Finished entry ns names) m is means f = by_list (Finished entry ns names) m is means f
-  plan_lists (Bases ns) m is means f = by_list (Bases ns) m is means f
-  plan_lists (Leafref n b) m is means f = by_list (Leafref n b) m is means f
-  plan_lists (Members ns) (OneOf ls) is means f = let a = any_member scoping meanings on are text ns ls is f in of_member ls a.0 means a.1 a.2
-  plan_lists (Members ns) (Entry other ps others) is means f = absurd is
-  plan_lists (Members ns) (DerivedFrom ls) is means f = absurd is
-  plan_lists (Members ns) (Refers path need) is means f = absurd is
-
-  pub takes_there : takes_at meanings k text ≡ true → TakesConditional on scoping.texts c text
-  takes_there e = by (slice_get meanings.findings k) (are k c at) e
+  pub takes_there : takes_at meanings nested k text ≡ true → TakesConditional on scoping.texts c text
+  takes_there e = by (names_at meanings k text) refl e
     where
-      by : (o : Option Finding) → IsSomeAnd o (IsFinding on scoping meanings.plans c) → takes_by meanings text o ≡ true → TakesConditional on scoping.texts c text
-      by None h f = absurd h
-      by (Some Nothing) h f = absurd (cc)
-      by (Some (Broken fault)) h f = absurd (cc)
-      by (Some (Plan place)) h f = plan_lists h.plan h.meaning h.is h.means (sym (ap takes_plan h.there) ∙ f)
+      by : (b : Bool) → names_at meanings k text ≡ b → (b || inner_takes) ≡ true → TakesConditional on scoping.texts c text
+      by true f g = listed c text (lists_there scoping meanings on are k c at text f)
+      by false f g =
+          let r = any_there (λ n. names_at meanings n text) (targets nested k) g in
+          takes_along scoping meanings on are k r.0 ((known k).only r.0 r.1) c at text r.2
 
-  abbrev not_of_member : (plan : Planned) (m : Meaning) → IsPlan scoping.located plan m → Means on scoping.texts c m → (members : List Located) → Means on scoping.texts c (OneOf members) → IsPlan scoping.located plan (OneOf members)
-  not_of_member plan m is means members other = subst (IsPlan scoping.located plan) (means_one on scoping.texts c m (OneOf members) means other) is
-
-  not_planned : (plan : Planned) (m : Meaning) → IsPlan scoping.located plan m → Means on scoping.texts c m → plan_takes meanings text plan ≡ false → TakesConditional on scoping.texts c text → ⊥
-  not_planned (Finished entry ns names) m is means f (listed lists) = listed_not scoping meanings on are k c at text (Finished entry ns names) m (is, means) f lists
-  not_planned (Finished entry ns names) m is means f (of_member members one other among lists) = not_of_member (Finished entry ns names) m is means members other
-  not_planned (Bases ns) m is means f (listed lists) = listed_not scoping meanings on are k c at text (Bases ns) m (is, means) f lists
-  not_planned (Bases ns) m is means f (of_member members one other among lists) = not_of_member (Bases ns) m is means members other
-  not_planned (Leafref n b) m is means f (listed lists) = listed_not scoping meanings on are k c at text (Leafref n b) m (is, means) f lists
-  not_planned (Leafref n b) m is means f (of_member members one other among lists) = not_of_member (Leafref n b) m is means members other
-  not_planned (Members ns) m is means f (listed lists) = listed_not scoping meanings on are k c at text (Members ns) m (is, means) refl lists
-  not_planned (Members ns) m is means f (of_member members one other among lists) =
-      none_member scoping meanings on are text ns members (not_of_member (Members ns) m is means members other) f one among lists
-
-  pub takes_not : takes_at meanings k text ≡ false → TakesConditional on scoping.texts c text → ⊥
-  takes_not e takes = by (slice_get meanings.findings k) (are k c at) e
+  pub takes_not : takes_at meanings nested k text ≡ false → TakesConditional on scoping.texts c text → ⊥
+  takes_not e takes = let r = takes_leads scoping meanings on are c text takes k at in by k r.0 r.1 refl r.2 (names_at meanings k text) refl e
     where
-      by : (o : Option Finding) → IsSomeAnd o (IsFinding on scoping meanings.plans c) → takes_by meanings text o ≡ false → ⊥
-      by None h f = absurd h
-      by (Some Nothing) h f = let m = means_some on scoping.texts c text takes in h.1 m.0 m.1
-      by (Some (Broken fault)) h f = let m = means_some on scoping.texts c text takes in h.1 m.0 m.1
-      by (Some (Plan place)) h f = not_planned h.plan h.meaning h.is h.means (sym (ap takes_plan h.there) ∙ f) takes
+      by : (n last : ℕ) → Reaches (member_graph meanings) n last → n ≡ k → names_at meanings last text ≡ true → (b : Bool) → names_at meanings k text ≡ b → (b || inner_takes) ≡ false → ⊥
+      by n last way same h true f g = absurd (cc)
+      by _ _ (at_once n) same h false f g = let both : names_at meanings k text ≡ true = ap (λ z. names_at meanings z text) (sym same) ∙ h in absurd (cc)
+      by _ _ (onwards n t last edge rest) same h false f g =
+          any_not (λ z. names_at meanings z text) (targets nested k) g last
+          ((known k).all t last (subst (λ z. Contains (targets (member_graph meanings) z) t) same edge) rest (found_within scoping meanings on are last text h)) h
 
 -- ---- the `default` statements beside a type
 module _ (scoping : Scoping) (meanings : Meanings) (n : ℕ) (s : Statement) (number : HasNumber scoping n s) (on : ℕ → List ℕ → Bool) (are : AreMeanings on scoping meanings) (l : Located) (here : slice_get scoping.located n ≡ Some l) where
@@ -208,17 +283,17 @@ module _ (scoping : Scoping) (meanings : Meanings) (n : ℕ) (s : Statement) (nu
         by None none e = absurd (cc)
         by (Some c) is e = (c, is, (let f : slice_get scoping.located k ≡ Some c = cc in f))
 
-    pub default_found : (among : List Statement) → among ≡ below s → (place : ℕ) (t : Statement) (fault : Fault) → place < length among → t ≡ get_or among place t →
-        is_conditional_default meanings k t ≡ true → fault ≡ record { line = line t; why = BadArgument } → DefaultsToConditional on scoping.texts l fault
-    default_found among among_is place t fault less is conditional fault_is =
+    pub default_found : (nested : List (List ℕ)) → AreReached (member_graph meanings) nested → (among : List Statement) → among ≡ below s → (place : ℕ) (t : Statement) (fault : Fault) → place < length among → t ≡ get_or among place t →
+        is_conditional_default meanings nested k t ≡ true → fault ≡ record { line = line t; why = BadArgument } → DefaultsToConditional on scoping.texts l fault
+    default_found nested known among among_is place t fault less is conditional fault_is =
         record {
           of_type = type_there.0;
           is_type = type_there.1;
           place = place;
           default = put t;
           there = child_is scoping meanings n s number on are l here among among_is place t less is;
-          is_default = first_true (is_same_keyword Default (kind t)) (takes_at meanings k (name t)) conditional;
-          takes = takes_there scoping meanings on are k type_there.0 type_there.2 (name t) (second_true (is_same_keyword Default (kind t)) (takes_at meanings k (name t)) conditional);
+          is_default = first_true (is_same_keyword Default (kind t)) (takes_at meanings nested k (name t)) conditional;
+          takes = takes_there scoping meanings nested known on are k type_there.0 type_there.2 (name t) (second_true (is_same_keyword Default (kind t)) (takes_at meanings nested k (name t)) conditional);
           at = fault_is;
         }
 
@@ -226,9 +301,9 @@ module _ (scoping : Scoping) (meanings : Meanings) (n : ℕ) (s : Statement) (nu
     abbrev pub IsPassed : ℕ → Type 0
     IsPassed i = (c of_type : Located) → child i l ≡ Some c → part_of TypeName l ≡ Some of_type → is_same_keyword Default (kind c.statement) ≡ true → TakesConditional on scoping.texts of_type (name c.statement) → ⊥
 
-    pub default_step : (among : List Statement) → among ≡ below s → (place : ℕ) (t : Statement) → place < length among → t ≡ get_or among place t →
-        is_conditional_default meanings k t ≡ false → ((i : ℕ) → i < place → IsPassed i) → (i : ℕ) → i < place + 1 → IsPassed i
-    default_step among among_is place t less is none before i lt c of_type one typed_by is_default takes = by (cases_lt i place)
+    pub default_step : (nested : List (List ℕ)) → AreReached (member_graph meanings) nested → (among : List Statement) → among ≡ below s → (place : ℕ) (t : Statement) → place < length among → t ≡ get_or among place t →
+        is_conditional_default meanings nested k t ≡ false → ((i : ℕ) → i < place → IsPassed i) → (i : ℕ) → i < place + 1 → IsPassed i
+    default_step nested known among among_is place t less is none before i lt c of_type one typed_by is_default takes = by (cases_lt i place)
       where
         by : (i < place) ⊎ (place ≤ i) → ⊥
         by (inl earlier) = before i earlier c of_type one typed_by is_default takes
@@ -238,10 +313,10 @@ module _ (scoping : Scoping) (meanings : Meanings) (n : ℕ) (s : Statement) (nu
             let both : Some (put t) ≡ Some c = sym own ∙ ap (λ z. child z l) (sym equal) ∙ one in
             let it : c ≡ put t = cc in
             let default : is_same_keyword Default (kind t) ≡ true = ap (λ z. is_same_keyword Default (kind z.statement)) (sym it) ∙ is_default in
-            let names : takes_at meanings k (name t) ≡ false = sym (ap (λ b. b && takes_at meanings k (name t)) default) ∙ none in
+            let names : takes_at meanings nested k (name t) ≡ false = sym (ap (λ b. b && takes_at meanings nested k (name t)) default) ∙ none in
             let two : Some of_type ≡ Some type_there.0 = sym typed_by ∙ type_there.1 in
             let same_type : of_type ≡ type_there.0 = cc in
-            takes_not scoping meanings on are k type_there.0 type_there.2 (name t) names
+            takes_not scoping meanings nested known on are k type_there.0 type_there.2 (name t) names
             (subst (λ z. TakesConditional on scoping.texts z (name t)) same_type (subst (λ z. TakesConditional on scoping.texts of_type (name z.statement)) it takes))
 
     pub defaults_all : (among : List Statement) → among ≡ below s → (count : ℕ) → length among ≤ count → ((i : ℕ) → i < count → IsPassed i) →

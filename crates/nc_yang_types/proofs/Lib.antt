@@ -16,5 +16,6 @@ pub mod CheckLemmas
 pub mod FoundLemmas
 pub mod DefaultLemmas
 pub mod MemberLemmas
+pub mod NestedLemmas
 pub mod ConditionalLemmas
 pub mod TakenLemmas

@@ -16,6 +16,7 @@ use Rattle.nc_yang_types.specs.Defaults.{AreDefaults, Brings, IsDefault, default
 use Rattle.nc_yang_types.specs.Faults.{TakesConditional, TakesOver, takes_over}
 use Rattle.nc_yang_types.specs.Plans.{AreMeanings}
 use Rattle.nc_yang_types.specs.inner.Judging.{is_taken, takes_at}
+use Rattle.nc_yang_types.specs.inner.Nested.{AreReached, member_graph}
 use Rattle.nc_yang_types.specs.declared.planned.Meanings.{Meanings}
 use Rattle.nc_yang_types.proofs.ConditionalLemmas.{means_some, takes_not, takes_there, type_there}
 use Rattle.nc_yang_types.proofs.DefaultLemmas.{one_default}
@@ -33,12 +34,12 @@ module _ (scoping : Scoping) (meanings : Meanings) (n : ℕ) (s : Statement) (nu
   pub takes_untyped : IsNumber scoping.located None (part_of TypeName l) → (fault : Fault) → TakesOver on scoping.texts l fault → ⊥
   takes_untyped none fault h = let e : None ≡ Some (Some h.of_type) = none ∙ ap (option_map Some) h.is_type in cc
 
-  module _ (k : ℕ) (typed : IsNumber scoping.located (Some k) (part_of TypeName l)) (defaults : List (Option ℕ)) (known : AreDefaults scoping defaults) where
+  module _ (k : ℕ) (typed : IsNumber scoping.located (Some k) (part_of TypeName l)) (nested : List (List ℕ)) (reached : AreReached (member_graph meanings) nested) (defaults : List (Option ℕ)) (known : AreDefaults scoping defaults) where
     abbrev its_type : (c : Located) × (part_of TypeName l ≡ Some c) × (slice_get scoping.located k ≡ Some c)
     its_type = type_there scoping meanings n s number on are l here k typed
 
     abbrev names_it : Option Located → Bool
-    names_it o = option_map_or (λ (d : Located). takes_at meanings k (name d.statement)) o false
+    names_it o = option_map_or (λ (d : Located). takes_at meanings nested k (name d.statement)) o false
 
     -- the default that the type brings, which means something where it lists something
     brought : (text : List ℕ) → TakesConditional on scoping.texts its_type.0 text → IsDefault scoping its_type.0 (default_at defaults k)
@@ -48,7 +49,7 @@ module _ (scoping : Scoping) (meanings : Meanings) (n : ℕ) (s : Statement) (nu
         (o : Option Located) → slice_get scoping.located d ≡ o → names_it o ≡ true → TakesOver on scoping.texts l fault
     found_at fault takes fault_is d is None none f = absurd (cc)
     found_at fault takes fault_is d is (Some default) there f =
-        let conditional = takes_there scoping meanings on are k its_type.0 its_type.2 (name default.statement) f in
+        let conditional = takes_there scoping meanings nested reached on are k its_type.0 its_type.2 (name default.statement) f in
         let b : IsDefault scoping its_type.0 (Some d) = subst (IsDefault scoping its_type.0) is (brought (name default.statement) conditional) in
         let both : Some b.0 ≡ Some default = sym b.1 ∙ there in
         let one : b.0 ≡ default = cc in
@@ -62,14 +63,14 @@ module _ (scoping : Scoping) (meanings : Meanings) (n : ℕ) (s : Statement) (nu
           at = fault_is ∙ ap (λ z. record { line = line z; why = BadArgument }) (sym same);
         }
 
-    pub taken_found : (fault : Fault) → takes_over (kind s) (below s) ≡ true → is_taken scoping meanings defaults k ≡ true → fault ≡ record { line = line s; why = BadArgument } → TakesOver on scoping.texts l fault
+    pub taken_found : (fault : Fault) → takes_over (kind s) (below s) ≡ true → is_taken scoping meanings nested defaults k ≡ true → fault ≡ record { line = line s; why = BadArgument } → TakesOver on scoping.texts l fault
     taken_found fault takes taken fault_is = by (default_at defaults k) refl taken
       where
         by : (o : Option ℕ) → default_at defaults k ≡ o → names_it (option_and_then (slice_get scoping.located) o) ≡ true → TakesOver on scoping.texts l fault
         by None e f = absurd (cc)
         by (Some d) e f = found_at fault takes fault_is d e (slice_get scoping.located d) refl f
 
-    pub taken_not : is_taken scoping meanings defaults k ≡ false → (fault : Fault) → TakesOver on scoping.texts l fault → ⊥
+    pub taken_not : is_taken scoping meanings nested defaults k ≡ false → (fault : Fault) → TakesOver on scoping.texts l fault → ⊥
     taken_not none fault h =
         let two : Some h.of_type ≡ Some its_type.0 = sym h.is_type ∙ its_type.1 in
         let same_type : h.of_type ≡ its_type.0 = cc in
@@ -82,7 +83,7 @@ module _ (scoping : Scoping) (meanings : Meanings) (n : ℕ) (s : Statement) (nu
         by default conditional brings None e b = b default brings
         by default conditional brings (Some d) e b =
             let one : b.0 ≡ default = one_default scoping.texts its_type.0 b.0 default b.2 brings in
-            let named : is_taken scoping meanings defaults k ≡ takes_at meanings k (name b.0.statement) =
+            let named : is_taken scoping meanings nested defaults k ≡ takes_at meanings nested k (name b.0.statement) =
             ap (λ o. names_it (option_and_then (slice_get scoping.located) o)) e ∙ ap names_it b.1 in
-            takes_not scoping meanings on are k its_type.0 its_type.2 (name default.statement)
-            (sym (ap (λ (z : Located). takes_at meanings k (name z.statement)) one) ∙ sym named ∙ none) conditional
+            takes_not scoping meanings nested reached on are k its_type.0 its_type.2 (name default.statement)
+            (sym (ap (λ (z : Located). takes_at meanings nested k (name z.statement)) one) ∙ sym named ∙ none) conditional

@@ -64,12 +64,11 @@ pub record ListsConditional (on : ℕ → List ℕ → Bool) (texts : List State
   pub means : Means on texts l meaning
   pub conditional : names_conditional (shape meaning) (names_of meaning) text ≡ true
 
--- or that a member type of the union lists which it means (RFC 7950 9.12). Of unions in unions nothing is asked
-pub data TakesConditional (on : ℕ → List ℕ → Bool) (texts : List Statement) (l : Located)
-    (text : List ℕ) : Type 0 where
-  listed : ListsConditional on texts l text → TakesConditional on texts l text
-  of_member : (members : List Located) (one : Located) → Means on texts l (OneOf members) → Contains members one
-      → ListsConditional on texts one text → TakesConditional on texts l text
+-- or that a member of the union lists which it means, or a member of a union among these (RFC 7950 9.12)
+pub data TakesConditional (on : ℕ → List ℕ → Bool) (texts : List Statement) : Located → List ℕ → Type 0 where
+  listed : (l : Located) (text : List ℕ) → ListsConditional on texts l text → TakesConditional on texts l text
+  of_member : (l one : Located) (members : List Located) (text : List ℕ) → Means on texts l (OneOf members)
+      → Contains members one → TakesConditional on texts one text → TakesConditional on texts l text
 
 -- a `default` beside a `type` names an enum or a bit that is conditional, whether its feature is on or off; so it is
 -- with typedefs, leafs and leaf-lists (RFC 7950 7.3.4, 7.6.4, 7.7.4)

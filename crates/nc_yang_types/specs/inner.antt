@@ -4,4 +4,5 @@ pub mod Known
 pub mod Footings
 pub mod Planning
 pub mod Judging
+pub mod Nested
 pub mod KnownTypes

@@ -7,6 +7,7 @@ ghost use Rattle.nc_yang_statements.specs.Stops.{OnBroken};
 use crate::check::first_ill_typed;
 use crate::defaults::defaults_of;
 use crate::features::Features;
+use crate::nested::nested_members;
 use crate::planned::Meanings;
 use crate::table::table;
 use nc_yang_scopes::{Scopes, TextFault};
@@ -29,7 +30,8 @@ pub fn meanings_of<'a, F: Features<'a>>(
 {
     let found = table(alloc, scopes, features)?;
     let defaults = defaults_of(alloc, scopes)?;
-    match first_ill_typed(scopes, &found, defaults.as_slice()) {
+    let nested = nested_members(alloc, &found)?;
+    match first_ill_typed(scopes, &found, nested.as_slice(), defaults.as_slice()) {
         Some(fault) => Err(Stop::Broken(fault)),
         None => Ok(found),
     }

@@ -8,12 +8,14 @@ ghost use Rattle.nc_yang_statements.specs.Statements.{line};
 ghost use Rattle.nc_yang_statements.specs.declared.fault.ModuleWhy.TheVariants.{BadArgument as Misfit};
 ghost use Rattle.nc_yang_types.specs.Faults as faults;
 ghost use Rattle.nc_yang_types.specs.inner.Judging as words;
+ghost use Rattle.nc_yang_types.specs.inner.Nested.{AreReached, member_graph};
 ghost use Rattle.nc_yang_types.specs.inner.Planning.{names_in, shape_of};
 
 use crate::Named;
 use crate::planned::{Finding, Meanings, Planned};
-use nc_names::{is_white, tail, trimmed};
+use nc_names::{Many, is_white, tail, trimmed};
 use nc_schema::ValueType;
+use nc_yang_order::row;
 use nc_yang_scopes::{Scopes, part_of};
 use nc_yang_statements::{Fault, Keyword, ModuleWhy, is_same_keyword, kind, name};
 use nc_yang_words::Statement;
@@ -107,37 +109,30 @@ fn any_names(meanings: &Meanings, members: &[usize], text: &str) -> bool
     false
 }
 
-// The same for those of a plan, or of one of its members.
-fn plan_takes(meanings: &Meanings, planned: &Planned, text: &str) -> bool
-    ensures { result ≡ words.plan_takes meanings.now text.now planned.now }
+/// Whether a text has a conditional one of the names in it that the type of a number or a member of it lists,
+/// whose numbers `nested` has.
+pub(crate) fn takes_at(
+    meanings: &Meanings,
+    nested: &[Many<usize>],
+    number: usize,
+    text: &str,
+) -> bool
+    ensures { result ≡ words.takes_at meanings.now nested.now number text.now }
 {
-    match planned {
-        Planned::Members(members) => any_names(meanings, members.as_slice(), text),
-        Planned::Finished { .. } | Planned::Bases(_) | Planned::Leafref { .. } => {
-            plan_names(planned, text)
-        }
-    }
-}
-
-/// Whether a text has a conditional one of the names in it that the type of a number or a member of it lists.
-pub(crate) fn takes_at(meanings: &Meanings, number: usize, text: &str) -> bool
-    ensures { result ≡ words.takes_at meanings.now number text.now }
-{
-    let Some(Finding::Plan(place)) = meanings.findings.get(number) else {
-        return false;
-    };
-    match meanings.plans.get(*place) {
-        Some(planned) => plan_takes(meanings, planned, text),
-        None => false,
-    }
+    names_at(meanings, number, text) || any_names(meanings, row(nested, number), text)
 }
 
 // Whether a statement beside the type of a number is a `default` that names what is conditional.
-fn is_conditional_default(meanings: &Meanings, of_type: usize, statement: &Statement) -> bool
-    ensures { result ≡ words.is_conditional_default meanings.now of_type statement.now }
+fn is_conditional_default(
+    meanings: &Meanings,
+    nested: &[Many<usize>],
+    of_type: usize,
+    statement: &Statement,
+) -> bool
+    ensures { result ≡ words.is_conditional_default meanings.now nested.now of_type statement.now }
 {
     is_same_keyword(Keyword::Default, kind(statement))
-        && takes_at(meanings, of_type, name(statement))
+        && takes_at(meanings, nested, of_type, name(statement))
 }
 
 /// The fault of a `default`, or of a statement that takes one over.
@@ -154,10 +149,12 @@ pub(crate) fn fault(statement: &Statement) -> Fault
 pub(crate) fn conditional_default(
     scopes: &Scopes,
     meanings: &Meanings,
+    nested: &[Many<usize>],
     number: usize,
     statement: &Statement,
 ) -> Option<Fault>
-    requires { HasNumber scopes.now number statement.now }
+    requires statement { HasNumber scopes.now number statement.now }
+    requires nested { AreReached (member_graph meanings.now) nested.now }
     ensures { words.JudgesDefaults scopes.now meanings.now number result }
 {
     let Some(of_type) = part_of(scopes, number, Keyword::TypeName) else {
@@ -165,7 +162,7 @@ pub(crate) fn conditional_default(
     };
     let among = statement.below.as_slice();
     for part in among {
-        if is_conditional_default(meanings, of_type, part) {
+        if is_conditional_default(meanings, nested, of_type, part) {
             return Some(fault(part));
         }
     }

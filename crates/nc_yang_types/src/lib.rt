@@ -20,10 +20,10 @@
 //!
 //! `meanings_of` promises what every type means where none breaks a rule, and else a rule that is broken. One
 //! rule is that no member of a union is a leafref or an instance identifier, through typedefs too: the server
-//! does not have such unions. Another is that no `default` beside a type names an enum or bit of it that an
-//! `if-feature` makes conditional (RFC 7950 7.3.4, 7.6.4). `defaults_of` and `leaf_default` promise the nearest
-//! default along the typedefs (RFC 7950 7.3.4, 7.6.1). No call recurses along a chain of typedefs, and each
-//! type is looked at once.
+//! does not have such unions. Another is that no `default` beside a type names an enum or bit that an
+//! `if-feature` makes conditional in it, or in a member of it, down to the last (RFC 7950 7.3.4, 7.6.4).
+//! `defaults_of` and `leaf_default` promise the nearest default along the typedefs (RFC 7950 7.3.4, 7.6.1).
+//! No call recurses along a chain of typedefs, and each type is looked at once.
 #![tactic(auto)]
 
 mod all;
@@ -45,6 +45,7 @@ mod listed;
 mod meaning_laws;
 mod member;
 mod names;
+mod nested;
 mod numbers;
 mod over;
 mod over_built_in;

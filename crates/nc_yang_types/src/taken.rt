@@ -9,10 +9,12 @@ ghost use Rattle.nc_yang_statements.specs.declared.keyword.Keyword.TheVariants.{
 ghost use Rattle.nc_yang_types.specs.Defaults.{AreDefaults};
 ghost use Rattle.nc_yang_types.specs.Faults as faults;
 ghost use Rattle.nc_yang_types.specs.inner.Judging as words;
+ghost use Rattle.nc_yang_types.specs.inner.Nested.{AreReached, member_graph};
 
 use crate::conditional::{fault, takes_at};
 use crate::defaults::kept;
 use crate::planned::Meanings;
+use nc_names::Many;
 use nc_yang_scopes::{Scopes, part_of};
 use nc_yang_statements::{Fault, Keyword, has, kind, name, part};
 use nc_yang_words::Statement;
@@ -75,16 +77,17 @@ fn takes_over(statement: &Statement) -> bool
 fn is_taken(
     scopes: &Scopes,
     meanings: &Meanings,
+    nested: &[Many<usize>],
     defaults: &[Option<usize>],
     of_type: usize,
 ) -> bool
-    ensures { result ≡ words.is_taken scopes.now meanings.now defaults.now of_type }
+    ensures { result ≡ words.is_taken scopes.now meanings.now nested.now defaults.now of_type }
 {
     let Some(default) = kept(defaults, of_type) else {
         return false;
     };
     match scopes.statement(default) {
-        Some(found) => takes_at(meanings, of_type, name(found)),
+        Some(found) => takes_at(meanings, nested, of_type, name(found)),
         None => false,
     }
 }
@@ -93,12 +96,14 @@ fn is_taken(
 pub(crate) fn taken_over(
     scopes: &Scopes,
     meanings: &Meanings,
+    nested: &[Many<usize>],
     defaults: &[Option<usize>],
     number: usize,
     statement: &Statement,
 ) -> Option<Fault>
     requires statement { HasNumber scopes.now number statement.now }
     requires defaults { AreDefaults scopes.now defaults.now }
+    requires nested { AreReached (member_graph meanings.now) nested.now }
     ensures { words.JudgesTaken scopes.now meanings.now number result }
 {
     if !takes_over(statement) {
@@ -107,7 +112,7 @@ pub(crate) fn taken_over(
     let Some(of_type) = part_of(scopes, number, Keyword::TypeName) else {
         return None;
     };
-    if is_taken(scopes, meanings, defaults, of_type) {
+    if is_taken(scopes, meanings, nested, defaults, of_type) {
         return Some(fault(statement));
     }
     None

@@ -1,5 +1,5 @@
 -- What an answer says of the statement of a number and of those in it.
-use Rattle.std.specs.Prelude.{◌≡◌, ℕ, ◌&&◌, Bool, true, false, List, [], ◌∷◌, filter, length, nat_lt, Option, Some, None, slice_get, option_and_then, MatchOption}
+use Rattle.std.specs.Prelude.{◌≡◌, ℕ, ◌&&◌, ◌||◌, Bool, true, false, List, [], ◌∷◌, filter, length, nat_lt, Option, Some, None, slice_get, option_and_then, MatchOption}
 use Rattle.std.specs.List.{list_any}
 use Rattle.std.specs.Option.{option_map_or}
 use Rattle.nc_yang_words.specs.declared.statement.Statement.{Statement}
@@ -11,6 +11,7 @@ use Rattle.nc_yang_statements.specs.Keywords.{is_same_keyword}
 use Rattle.nc_yang_statements.specs.Statements.{kind, name}
 use Rattle.nc_yang_statements.specs.declared.fault.Fault.{Fault}
 use Rattle.nc_yang_scopes.specs.Scopes.{Located, Scoping}
+use Rattle.nc_yang_order.specs.Orders.{targets}
 use Rattle.nc_yang_types.specs.Defaults.{default_at}
 use Rattle.nc_yang_types.specs.Faults.{BreaksOne, BreaksType, BreaksTypes, DefaultsToConditional, RefersInUnion, TakesOver, is_reference, names_conditional}
 use Rattle.nc_yang_types.specs.Plans.{AreMeanings}
@@ -18,7 +19,6 @@ use Rattle.nc_yang_types.specs.declared.planned.Finding.{Finding}
 use Rattle.nc_yang_types.specs.declared.planned.Finding.TheVariants.{Broken, Plan}
 use Rattle.nc_yang_types.specs.declared.planned.Meanings.{Meanings}
 use Rattle.nc_yang_types.specs.declared.planned.Planned.{Planned}
-use Rattle.nc_yang_types.specs.declared.planned.Planned.TheVariants.{Members}
 use Rattle.nc_yang_types.specs.inner.Planning.{names_in, shape_of}
 
 -- the fault that was found of a statement, if one was
@@ -69,27 +69,20 @@ names_by plans text finding = false
 abbrev pub names_at : Meanings → ℕ → List ℕ → Bool
 names_at meanings number text = names_by meanings.plans text (slice_get meanings.findings number)
 
--- so it is with a type of a plan, or with one of its members
-abbrev pub plan_takes : Meanings → List ℕ → Planned → Bool
-plan_takes meanings text (Members numbers) = list_any (λ number. names_at meanings number text) numbers
-plan_takes meanings text planned = names_conditional (shape_of planned) (names_in planned) text
-
-abbrev pub takes_by : Meanings → List ℕ → Option Finding → Bool
-takes_by meanings text (Some (Plan place)) =
-    option_map_or (plan_takes meanings text) (slice_get meanings.plans place) false
-takes_by meanings text finding = false
-
-abbrev pub takes_at : Meanings → ℕ → List ℕ → Bool
-takes_at meanings number text = takes_by meanings text (slice_get meanings.findings number)
+-- so it is with it, or with one of its members, whose numbers are at its own
+abbrev pub takes_at : Meanings → (nested : List (List ℕ)) → ℕ → List ℕ → Bool
+takes_at meanings nested number text =
+    names_at meanings number text || list_any (λ member. names_at meanings member text) (targets nested number)
 
 -- a `default` beside the type of that number
-abbrev pub is_conditional_default : Meanings → ℕ → Statement → Bool
-is_conditional_default meanings number s = is_same_keyword Default (kind s) && takes_at meanings number (name s)
+abbrev pub is_conditional_default : Meanings → (nested : List (List ℕ)) → ℕ → Statement → Bool
+is_conditional_default meanings nested number s =
+    is_same_keyword Default (kind s) && takes_at meanings nested number (name s)
 
 -- the default that the type of that number brings names what is conditional in it
-abbrev pub is_taken : Scoping → Meanings → List (Option ℕ) → (of_type : ℕ) → Bool
-is_taken scoping meanings defaults of_type =
-    option_map_or (λ l. takes_at meanings of_type (name l.statement))
+abbrev pub is_taken : Scoping → Meanings → (nested : List (List ℕ)) → List (Option ℕ) → (of_type : ℕ) → Bool
+is_taken scoping meanings nested defaults of_type =
+    option_map_or (λ l. takes_at meanings nested of_type (name l.statement))
     (option_and_then (slice_get scoping.located) (default_at defaults of_type)) false
 
 -- a default that the statement of a number takes over, or that there is none

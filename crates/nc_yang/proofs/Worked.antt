@@ -1,10 +1,18 @@
--- One module worked by hand for each reason for which modules break a rule: its text, and the fault at its line.
-use Rattle.std.proofs.Common.{inr, ◌≡◌, ℕ, true, false, List, [], ◌∷◌, ◌++◌, Bool, Result, Ok, Err, Some, None, refl, sym, ap, subst, zero, suc, lit<, lit≤}
+-- One module worked by hand for each reason for which modules break a rule: its text, and the fault at its line; and one
+-- with a pattern that a maker refused.
+use Rattle.std.proofs.Common.{inr, ◌≡◌, ℕ, true, false, List, [], ◌∷◌, ◌++◌, Bool, Result, Ok, Err, Some, None, ◌+◌, length, refl, sym, ap, subst, zero, suc, lit<, lit≤}
 use Rattle.std.specs.Prelude.{codes, slice_get, option_map, unwrap_or, replicate}
 use Rattle.std.specs.List.{flat_map, position}
 use Rattle.std.specs.Str.{chars, is_utf8}
 use Rattle.std.proofs.Math.Utf8.{encode}
 use denote.Hole.Carrier.{hidden, out, roll, shown}
+use Rattle.nc_patterns.specs.Reading.{allowed, front_at, may_end, next, reading as pattern_reading}
+use Rattle.nc_patterns.specs.Tokens.{inside as inside_class, member as class_member, one_character, outside, range_from, with_range}
+use Rattle.nc_patterns.specs.Translation.{anchored}
+use Rattle.nc_schema.specs.declared.node.Deny.TheVariants.{Nothing}
+use Rattle.nc_schema.specs.declared.node.Kind.TheVariants.{Leaf}
+use Rattle.nc_schema.specs.declared.node.Node.{Node}
+use Rattle.nc_schema.specs.declared.value_type.ValueType.TheVariants.{Chars as String}
 use Rattle.nc_yang_order.proofs.Lists.{contains_at}
 use Rattle.nc_yang_words.specs.Spelling.{TextSpells, statement}
 use Rattle.nc_yang_words.specs.Tokens.{tokens_of}
@@ -15,20 +23,32 @@ use Rattle.nc_yang_words.specs.declared.statement.Statement.TheBlock.{shown-the_
 use Rattle.nc_yang_words.specs.declared.statement.Statement.TheViews.{out-Statement, roll-Statement}
 use Rattle.nc_yang_words.proofs.Exact.{fault_of}
 use Rattle.nc_yang_words.proofs.Read.{the_read_is_spelled}
+use Rattle.nc_yang_statements.specs.Arguments.{is_true_text}
 use Rattle.nc_yang_statements.specs.Keywords.{is_closed, keyword_of, keywords, word_of}
 use Rattle.nc_yang_statements.specs.Rules.{broken}
 use Rattle.nc_yang_statements.specs.Statements.{Stands, below, inside as within, itself as stands_itself, kind, later, line}
 use Rattle.nc_yang_statements.specs.declared.fault.Fault.{Fault}
-use Rattle.nc_yang_statements.specs.declared.fault.ModuleWhy.TheVariants.{BadArgument, BadWords, Loop, Missing, NotText, TooMany, Twice, UnknownName, UnknownStatement, Unsupported}
+use Rattle.nc_yang_statements.specs.BuiltIns.{built_in_of, built_in_word, built_ins}
+use Rattle.nc_yang_statements.specs.declared.built_in.BuiltIn.TheVariants.{Chars}
+use Rattle.nc_yang_statements.specs.declared.fault.ModuleWhy.TheVariants.{BadArgument, BadWords, Loop, Missing, NotText, PatternRefused, TooMany, Twice, UnknownName, UnknownStatement, Unsupported}
 use Rattle.nc_yang_scopes.specs.Names.{StandsIn, inside, itself, misnamed}
-use Rattle.nc_yang_scopes.specs.Scopes.{Located, child, inside as place_inside}
+use Rattle.nc_yang_scopes.specs.Numbers.{Entry as Numbered, located as located_in, opened, roots}
+use Rattle.nc_yang_scopes.specs.Scopes.{Located, Scoping, child, inside as place_inside}
 use Rattle.nc_yang_scopes.specs.Loops.{IsDefinition, Names, itself as leads_itself}
 use Rattle.nc_yang_scopes.specs.declared.kinds.Defined.TheVariants.{Groupings}
+use Rattle.nc_yang_nodes.specs.Roles.{FeatureTest}
+use Rattle.nc_yang_nodes.specs.declared.planned.Plan.{Plan}
+use Rattle.nc_yang_data.specs.Drafts.{is_user_text}
+use Rattle.nc_yang_types.specs.Entries.{lengths}
+use Rattle.nc_yang_types.specs.Meanings.{Entry, Means, by_itself}
+use Rattle.nc_yang_leafs.specs.Conditions.{holds}
+use Rattle.nc_yang_leafs.specs.Patterns.{IsPatternInUse, IsRefused, refusing}
+use Rattle.nc_yang_leafs.specs.Typings.{itself as its_own}
 use Rattle.nc_yang.specs.Rules.{alone, looping, misnamed as misnames}
 use Rattle.nc_yang.specs.Texts.{bad_words, empty, is_long, many, not_utf8}
 use Rattle.nc_yang.specs.declared.text.ModuleText.{ModuleText}
 use Rattle.nc_yang.specs.Access.{HaveStatements, access_yang}
-use Rattle.nc_yang.specs.Schemas.{Breaks, text as of_text, unread}
+use Rattle.nc_yang.specs.Schemas.{Breaks, basis, text as of_text, unread}
 
 -- ---- texts
 -- lines, each of which ends by a line feed
@@ -320,3 +340,78 @@ loop = of_text (texts_of turning) 0 (record { line = 5; why = Loop }) (have turn
         is_fault = λ i. record { line = sym turn_line i; why = Loop };
       };
 }))
+
+-- ---- a pattern of a leaf's type that the maker refused, after another module
+abbrev before : List ℕ
+before = lines_of (codes "module n {" ∷ codes "  namespace 'urn:n';" ∷ codes "  prefix n;" ∷ codes "}" ∷ [])
+
+abbrev patterned : List ℕ
+patterned = module_of (codes "  leaf name {" ∷ codes "    type string {" ∷ codes "      pattern '[a-z]+';" ∷ codes "    }" ∷ codes "  }" ∷ [])
+
+-- the statements, in layers, each of what stands directly in those of the one before
+abbrev layers : (more : ℕ) → (number : ℕ) → List Numbered → List Numbered
+layers zero number layer = layer
+layers (suc more) number layer = layer ++ layers more (number + length layer) (opened number layer)
+
+abbrev texts : List Statement
+texts = root_of before ∷ root_of patterned ∷ []
+
+abbrev scoping : Scoping
+scoping = record { texts = texts; located = located_in (layers 3 0 (roots 0 texts)) }
+
+-- the leaf is the statement of the number 6, its type that of 7, and the pattern that of 8
+abbrev at : ℕ → Located
+at number = unwrap_or (slice_get scoping.located number) (top_of patterned)
+
+abbrev plan : Plan
+plan = record {
+  nodes = record { statement = 6; «module» = 1; parent = None; level = 0; cases = []; deny = Nothing } ∷ [];
+  choices = [];
+}
+
+abbrev off : FeatureTest
+off text word = false
+
+abbrev leaf : Node
+leaf = record {
+  name = record { space = codes "urn:m"; name = codes "name" };
+  «module» = 1;
+  parent = None;
+  kind = Leaf;
+  kind_of_value = 0;
+  keys = [];
+  uniques = [];
+  mandatory = false;
+  defaults = [];
+  least = 0;
+  most = None;
+  by_user = false;
+  cases = [];
+  deny = Nothing;
+}
+
+type_means : Means (holds texts off) texts (at 7) (Entry (String lengths false []) (at 8 ∷ []) [])
+unfolding chars encode out-Statement out roll-Statement roll shown-the_row-Statement-0 shown hidden keyword_of keywords word_of built_in_of built_ins built_in_word pattern_reading next allowed front_at may_end outside inside_class with_range class_member range_from one_character
+type_means = by_itself (at 7) Chars (Entry (String lengths false []) (at 8 ∷ []) []) refl refl refl
+
+in_use : IsPatternInUse (basis scoping off plan) (at 8)
+unfolding chars encode out-Statement out roll-Statement roll shown-the_row-Statement-0 shown hidden keyword_of keywords word_of is_true_text is_user_text
+in_use = record {
+  number = 0;
+  node = leaf;
+  there = refl;
+  valued = refl;
+  of_type = at 7;
+  is = refl;
+  one = at 7;
+  among = its_own;
+  entry = String lengths false [];
+  patterns = at 8 ∷ [];
+  names = [];
+  means = type_means;
+  holds = contains_at (at 8 ∷ []) 0 (at 8) refl;
+}
+
+pattern_refused : IsRefused (basis scoping off plan) (refusing 0 1 (Some (anchored (codes "[a-z]+")))) (record { text = 1; fault = record { line = 6; why = PatternRefused } })
+unfolding chars encode out-Statement out roll-Statement roll shown-the_row-Statement-0 shown hidden keyword_of keywords word_of
+pattern_refused = record { pattern = at 8; in_use = in_use; refuses = record { rose = lit≤ tt; last = refl }; at = refl }

@@ -1,6 +1,6 @@
 -- The rules on types over all statements.
 use Rattle.std.proofs.Common.{inl, inr, ◌≡◌, ◌<◌, ◌≤◌, ◌+◌, ◌⊎◌, ℕ, true, false, List, length, get_or, refl, sym, ap, subst, ◌∙◌, arith}
-use Rattle.std.specs.Prelude.{Bool, Option, Some, None, slice_get, option_map, option_and_then, IsSomeAnd, MatchOption}
+use Rattle.std.specs.Prelude.{Bool, Option, Some, None, Result, Ok, Err, slice_get, is_some, option_map, option_and_then, IfOk, IsSomeAnd, MatchOption}
 use Rattle.std.proofs.lemmas.Bool.{cases_lt}
 use Rattle.std.proofs.lemmas.Option.{slice_get-get_or}
 use Rattle.nc_yang_words.specs.declared.statement.Statement.{Statement}
@@ -12,10 +12,10 @@ use Rattle.nc_yang_scopes.specs.Names.{StandsIn, inside, itself}
 use Rattle.nc_yang_scopes.specs.inner.Naming.{HasNumber}
 use Rattle.nc_yang_scopes.proofs.Lists.{get_within}
 use Rattle.nc_yang_scopes.proofs.BookLemmas.{root_past}
-use Rattle.nc_yang_types.specs.Faults.{BreaksOne, BreaksType, BreaksTypes, KeepsTypes}
+use Rattle.nc_yang_types.specs.Faults.{BreaksOne, BreaksType, BreaksTypes, KeepsTypes, RefersInUnion}
 use Rattle.nc_yang_types.specs.Meanings.{Breaks}
 use Rattle.nc_yang_types.specs.Plans.{AreMeanings, IsFinding}
-use Rattle.nc_yang_types.specs.inner.Judging.{Judges, JudgesDefaults, JudgesMembers, JudgesTaken, JudgesText, fault_in}
+use Rattle.nc_yang_types.specs.inner.Judging.{Judges, JudgesDefaults, JudgesGiven, JudgesMembers, JudgesOne, JudgesPlain, JudgesTaken, JudgesText, fault_in}
 use Rattle.nc_yang_types.specs.declared.planned.Finding.{Finding}
 use Rattle.nc_yang_types.specs.declared.planned.Finding.TheVariants.{Broken, Nothing, Plan}
 use Rattle.nc_yang_types.specs.declared.planned.Meanings.{Meanings}
@@ -44,23 +44,11 @@ module _ (scoping : Scoping) (meanings : Meanings) (n : ℕ) (s : Statement) (nu
   pub fault_here : (fault : Fault) → BreaksOne on scoping.texts l fault → BreaksType on scoping.texts l fault
   fault_here fault e = record { statement = l; stands = itself l; breaks = e }
 
-  -- by itself, by its members, by its defaults and by one that it takes over
-  pub breaks_by_parts : (fault : Fault) → Some fault ≡ fault_in (slice_get meanings.findings n) → BreaksOne on scoping.texts l fault
-  breaks_by_parts fault e = inl (breaks_here fault e)
-
-  pub breaks_by_members : (fault : Fault) → JudgesMembers scoping meanings n (Some fault) → BreaksOne on scoping.texts l fault
-  breaks_by_members fault judged = inr (inl (judged on are l here))
-
-  pub breaks_by_defaults : (fault : Fault) → JudgesDefaults scoping meanings n (Some fault) → BreaksOne on scoping.texts l fault
-  breaks_by_defaults fault judged = inr (inr (inl (judged on are l here)))
-
-  pub judged_all : (result : Option Fault) → None ≡ fault_in (slice_get meanings.findings n) → JudgesMembers scoping meanings n None → JudgesDefaults scoping meanings n None → JudgesTaken scoping meanings n result →
-      MatchOption result ((fault : Fault) → BreaksOne on scoping.texts l fault → ⊥) (BreaksOne on scoping.texts l)
-  judged_all None none members defaults judged = λ fault h. elim h [
-    | inl b ↦ keeps_here none fault b
-    | inr more ↦ elim more [ inl r ↦ members on are l here fault r | inr rest ↦ elim rest [ inl d ↦ defaults on are l here fault d | inr t ↦ judged on are l here fault t ] ]
-  ]
-  judged_all (Some fault) none members defaults judged = inr (inr (inr (judged on are l here)))
+  -- by itself or by a member of it
+  pub plain_by_members : (result : Option Fault) → None ≡ fault_in (slice_get meanings.findings n) → JudgesMembers scoping meanings n result →
+      MatchOption result ((fault : Fault) → Breaks on scoping.texts l fault ⊎ RefersInUnion on scoping.texts l fault → ⊥) (λ fault. Breaks on scoping.texts l fault ⊎ RefersInUnion on scoping.texts l fault)
+  plain_by_members None none judged = λ fault h. elim h [ inl b ↦ keeps_here none fault b | inr r ↦ judged on are l here fault r ]
+  plain_by_members (Some fault) none judged = inr (judged on are l here)
 
   -- a statement by itself and those in it
   either : (u : Located) (fault : Fault) → ((fault : Fault) → BreaksOne on scoping.texts l fault → ⊥) →
@@ -126,6 +114,33 @@ module _ (scoping : Scoping) (meanings : Meanings) (n : ℕ) (s : Statement) (nu
           let same : i ≡ place = omega arith in
           judged on are c (at ∙ ap (option_and_then (child place)) here ∙ ap (λ z. child z l) (sym same) ∙ one) fault h
 
+-- what is wrong with the statement of a number by itself
+module _ (scoping : Scoping) (meanings : Meanings) (n : ℕ) where
+  -- by a default in it, or by one that it takes over
+  pub given_beside : (beside : Option Fault) → JudgesDefaults scoping meanings n beside → is_some beside ≡ true → JudgesGiven scoping meanings n beside
+  given_beside None judged some = absurd (cc)
+  given_beside (Some fault) judged some = λ on are l here. inl (judged on are l here)
+
+  pub given_over : {E : Type 0} (beside : Option Fault) (result : Result (Option Fault) E) → JudgesDefaults scoping meanings n beside → is_some beside ≡ false → IfOk result (JudgesTaken scoping meanings n) → IfOk result (JudgesGiven scoping meanings n)
+  given_over (Some fault) result judged none over = absurd (cc)
+  given_over None (Err fault) judged none over = tt
+  given_over None (Ok None) judged none over = λ on are l here fault h. elim h [ inl d ↦ judged on are l here fault d | inr t ↦ over on are l here fault t ]
+  given_over None (Ok (Some fault)) judged none over = λ on are l here. inr (over on are l here)
+
+  -- by its parts, or by these
+  pub one_plain : (plain : Option Fault) → JudgesPlain scoping meanings n plain → is_some plain ≡ true → JudgesOne scoping meanings n plain
+  one_plain None judged some = absurd (cc)
+  one_plain (Some fault) judged some = λ on are l here. elim (judged on are l here) [ inl b ↦ inl b | inr r ↦ inr (inl r) ]
+
+  pub one_given : {E : Type 0} (plain : Option Fault) (result : Result (Option Fault) E) → JudgesPlain scoping meanings n plain → is_some plain ≡ false → IfOk result (JudgesGiven scoping meanings n) → IfOk result (JudgesOne scoping meanings n)
+  one_given (Some fault) result judged none given = absurd (cc)
+  one_given None (Err fault) judged none given = tt
+  one_given None (Ok None) judged none given = λ on are l here fault h. elim h [
+    | inl b ↦ judged on are l here fault (inl b)
+    | inr more ↦ elim more [ inl r ↦ judged on are l here fault (inr r) | inr rest ↦ given on are l here fault rest ]
+  ]
+  one_given None (Ok (Some fault)) judged none given = λ on are l here. inr (inr (given on are l here))
+
 -- a text's statement
 pub none_in_text : (on : ℕ → List ℕ → Bool) (texts : List Statement) (text : ℕ) → None ≡ root texts text → (fault : Fault) → BreaksTypes on texts text fault → ⊥
 none_in_text on texts text none fault h = let e : None ≡ Some h.top = none ∙ h.is in cc
@@ -147,6 +162,11 @@ text_judged scoping meanings n text s result number is judged = λ on are. by on
         let same : h.top ≡ there.0 = let e : Some h.top ≡ Some there.0 = sym h.is ∙ sym is ∙ there.1 in cc in
         keeps fault (subst (λ z. BreaksType on scoping.texts z fault) same h.breaks)
     by on (Some fault) breaks = record { top = there.0; is = sym is ∙ there.1; breaks = breaks }
+
+pub text_told : {E : Type 0} (scoping : Scoping) (meanings : Meanings) (n text : ℕ) (s : Statement) (result : Result (Option Fault) E) → HasNumber scoping n s → slice_get scoping.located n ≡ root scoping.texts text →
+    IfOk result (Judges scoping meanings n) → IfOk result (JudgesText scoping meanings text)
+text_told scoping meanings n text s (Ok found) number is judged = text_judged scoping meanings n text s found number is judged
+text_told scoping meanings n text s (Err fault) number is judged = tt
 
 -- text after text
 pub texts_more : (on : ℕ → List ℕ → Bool) (texts : List Statement) (text : ℕ) → ((fault : Fault) → BreaksTypes on texts text fault → ⊥) → ((before : ℕ) (fault : Fault) → before < text → BreaksTypes on texts before fault → ⊥) →

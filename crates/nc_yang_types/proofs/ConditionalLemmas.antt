@@ -1,6 +1,6 @@
 -- Defaults that name conditional enums and bits.
-use Rattle.std.proofs.Common.{◌≡◌, ◌<◌, ◌≤◌, ◌+◌, ◌⊎◌, ◌&&◌, ◌||◌, ℕ, Bool, true, false, List, [], ◌∷◌, length, map, take, drop, get_or, inl, inr, refl, sym, ap, subst, ◌∙◌, arith}
-use Rattle.std.specs.Prelude.{Option, Some, None, slice_get, option_map, unwrap_or, IsSomeAnd, Contains}
+use Rattle.std.proofs.Common.{◌≡◌, ◌<◌, ◌≤◌, ◌+◌, ◌⊎◌, ◌||◌, ℕ, Bool, true, false, List, [], ◌∷◌, length, map, take, drop, get_or, inl, inr, refl, sym, ap, subst, ◌∙◌, arith}
+use Rattle.std.specs.Prelude.{Option, Some, None, Result, Ok, Err, slice_get, option_map, unwrap_or, Decides, IfOk, IsSomeAnd, Contains}
 use Rattle.std.specs.List.{list_any, position_or_len}
 use Rattle.std.specs.Option.{option_map_or}
 use Rattle.std.proofs.lemmas.Bool.{cases_lt}
@@ -8,7 +8,6 @@ use Rattle.std.proofs.lemmas.List.{length-map}
 use Rattle.std.proofs.lemmas.List.Elements.{Contains-append_right}
 use Rattle.std.proofs.lemmas.List.Folds.{list_any-append}
 use Rattle.std.proofs.lemmas.Option.{slice_get-map, slice_get_within}
-use Rattle.nc_names.proofs.SameLemmas.{first_true, second_true}
 use Rattle.nc_names.specs.Signs.{is_white}
 use Rattle.nc_schema.specs.Values.{words_of}
 use Rattle.nc_types.proofs.BitLemmas.{last_word, word_after}
@@ -30,8 +29,8 @@ use Rattle.nc_yang_scopes.proofs.PartLemmas.{statement_is}
 use Rattle.nc_yang_types.specs.Faults.{DefaultsToConditional, ListsConditional, TakesConditional, listed, names_conditional, of_member}
 use Rattle.nc_yang_types.specs.Meanings.{Meaning, Means, OneOf, names_of, shape}
 use Rattle.nc_yang_types.specs.Plans.{AreMeanings, IsFinding, IsPlan}
-use Rattle.nc_yang_types.specs.inner.Judging.{is_conditional_default, names_at, names_by, some_word, takes_at}
-use Rattle.nc_yang_types.specs.inner.Nested.{AreReached, member_graph, members_by, members_in}
+use Rattle.nc_yang_types.specs.inner.Judging.{TellsDefault, TellsTaking, names_among, names_at, names_by, some_word}
+use Rattle.nc_yang_types.specs.inner.Nested.{IsReachedFrom, member_graph, members_by, members_in}
 use Rattle.nc_yang_types.specs.inner.Planning.{names_in, shape_of}
 use Rattle.nc_yang_types.specs.declared.planned.Finding.{Finding}
 use Rattle.nc_yang_types.specs.declared.planned.Finding.TheVariants.{Broken, Nothing, Plan}
@@ -241,28 +240,51 @@ pub means_some : (on : ℕ → List ℕ → Bool) (texts : List Statement) (l : 
 means_some on texts _ _ (listed l text lists) = (lists.meaning, lists.means)
 means_some on texts _ _ (of_member l one members text means among rest) = (OneOf members, means)
 
-module _ (scoping : Scoping) (meanings : Meanings) (nested : List (List ℕ)) (known : AreReached (member_graph meanings) nested) (on : ℕ → List ℕ → Bool) (are : AreMeanings on scoping meanings) (k : ℕ) (c : Located) (at : slice_get scoping.located k ≡ Some c) (text : List ℕ) where
+module _ (scoping : Scoping) (meanings : Meanings) (k : ℕ) (members : List ℕ) (known : IsReachedFrom (member_graph meanings) k members) (on : ℕ → List ℕ → Bool) (are : AreMeanings on scoping meanings) (c : Located) (at : slice_get scoping.located k ≡ Some c) (text : List ℕ) where
   abbrev inner_takes : Bool
-  inner_takes = list_any (λ n. names_at meanings n text) (targets nested k)
+  inner_takes = list_any (λ n. names_at meanings n text) members
 
-  pub takes_there : takes_at meanings nested k text ≡ true → TakesConditional on scoping.texts c text
+  takes_there : names_among meanings members k text ≡ true → TakesConditional on scoping.texts c text
   takes_there e = by (names_at meanings k text) refl e
     where
       by : (b : Bool) → names_at meanings k text ≡ b → (b || inner_takes) ≡ true → TakesConditional on scoping.texts c text
       by true f g = listed c text (lists_there scoping meanings on are k c at text f)
       by false f g =
-          let r = any_there (λ n. names_at meanings n text) (targets nested k) g in
-          takes_along scoping meanings on are k r.0 ((known k).only r.0 r.1) c at text r.2
+          let r = any_there (λ n. names_at meanings n text) members g in
+          takes_along scoping meanings on are k r.0 (known.only r.0 r.1) c at text r.2
 
-  pub takes_not : takes_at meanings nested k text ≡ false → TakesConditional on scoping.texts c text → ⊥
+  takes_not : names_among meanings members k text ≡ false → TakesConditional on scoping.texts c text → ⊥
   takes_not e takes = let r = takes_leads scoping meanings on are c text takes k at in by k r.0 r.1 refl r.2 (names_at meanings k text) refl e
     where
       by : (n last : ℕ) → Reaches (member_graph meanings) n last → n ≡ k → names_at meanings last text ≡ true → (b : Bool) → names_at meanings k text ≡ b → (b || inner_takes) ≡ false → ⊥
       by n last way same h true f g = absurd (cc)
       by _ _ (at_once n) same h false f g = let both : names_at meanings k text ≡ true = ap (λ z. names_at meanings z text) (sym same) ∙ h in absurd (cc)
       by _ _ (onwards n t last edge rest) same h false f g =
-          any_not (λ z. names_at meanings z text) (targets nested k) g last
-          ((known k).all t last (subst (λ z. Contains (targets (member_graph meanings) z) t) same edge) rest (found_within scoping meanings on are last text h)) h
+          any_not (λ z. names_at meanings z text) members g last
+          (known.all t last (subst (λ z. Contains (targets (member_graph meanings) z) t) same edge) rest (found_within scoping meanings on are last text h)) h
+
+  told_so : (told : Bool) → told ≡ names_among meanings members k text → Decides told (TakesConditional on scoping.texts c text)
+  told_so told is = (λ e. takes_there (sym is ∙ e), λ takes. by told refl takes)
+    where
+      by : (b : Bool) → told ≡ b → TakesConditional on scoping.texts c text → told ≡ true
+      by true e takes = e
+      by false e takes = absurd (takes_not (sym is ∙ e) takes)
+
+-- what is told of a type is told by the numbers of its members
+pub tells_taking : (meanings : Meanings) (k : ℕ) (graph : List (List ℕ)) (members slice : List ℕ) → graph ≡ member_graph meanings → IsReachedFrom graph k members → slice ≡ members → (text : List ℕ) (told : Bool) →
+    told ≡ names_among meanings slice k text → TellsTaking meanings k text told
+tells_taking meanings k graph members slice is known same text told told_is =
+    let reached : IsReachedFrom (member_graph meanings) k slice = subst (IsReachedFrom (member_graph meanings) k) (sym same) (subst (λ g. IsReachedFrom g k members) is known) in
+    λ scoping on are l here. told_so scoping meanings k slice reached on are l here text told told_is
+
+-- and of a statement beside it
+pub untold_default : (meanings : Meanings) (k : ℕ) (s : Statement) → is_same_keyword Default (kind s) ≡ false → TellsDefault meanings k s false
+untold_default meanings k s other = (λ e. absurd (cc (e, other)), λ e. refl)
+
+pub told_default : {E : Type 0} (meanings : Meanings) (k : ℕ) (s : Statement) (text : List ℕ) (result : Result Bool E) → is_same_keyword Default (kind s) ≡ true → text ≡ name s →
+    IfOk result (TellsTaking meanings k text) → IfOk result (TellsDefault meanings k s)
+told_default meanings k s text (Ok told) it_is same tells = (λ e. subst (λ z. TellsTaking meanings k z told) same tells, λ e. absurd (cc (e, it_is)))
+told_default meanings k s text (Err fault) it_is same tells = tt
 
 -- ---- the `default` statements beside a type
 module _ (scoping : Scoping) (meanings : Meanings) (n : ℕ) (s : Statement) (number : HasNumber scoping n s) (on : ℕ → List ℕ → Bool) (are : AreMeanings on scoping meanings) (l : Located) (here : slice_get scoping.located n ≡ Some l) where
@@ -283,27 +305,34 @@ module _ (scoping : Scoping) (meanings : Meanings) (n : ℕ) (s : Statement) (nu
         by None none e = absurd (cc)
         by (Some c) is e = (c, is, (let f : slice_get scoping.located k ≡ Some c = cc in f))
 
-    pub default_found : (nested : List (List ℕ)) → AreReached (member_graph meanings) nested → (among : List Statement) → among ≡ below s → (place : ℕ) (t : Statement) (fault : Fault) → place < length among → t ≡ get_or among place t →
-        is_conditional_default meanings nested k t ≡ true → fault ≡ record { line = line t; why = BadArgument } → DefaultsToConditional on scoping.texts l fault
-    default_found nested known among among_is place t fault less is conditional fault_is =
+    pub default_found : (among : List Statement) → among ≡ below s → (place : ℕ) (t : Statement) (told : Bool) (fault : Fault) → place < length among → t ≡ get_or among place t →
+        TellsDefault meanings k t told → told ≡ true → fault ≡ record { line = line t; why = BadArgument } → DefaultsToConditional on scoping.texts l fault
+    default_found among among_is place t told fault less is tells so fault_is =
         record {
           of_type = type_there.0;
           is_type = type_there.1;
           place = place;
           default = put t;
           there = child_is scoping meanings n s number on are l here among among_is place t less is;
-          is_default = first_true (is_same_keyword Default (kind t)) (takes_at meanings nested k (name t)) conditional;
-          takes = takes_there scoping meanings nested known on are k type_there.0 type_there.2 (name t) (second_true (is_same_keyword Default (kind t)) (takes_at meanings nested k (name t)) conditional);
+          is_default = default_it;
+          takes = (tells.0 default_it scoping on are type_there.0 type_there.2).0 so;
           at = fault_is;
         }
+      where
+        by : (b : Bool) → is_same_keyword Default (kind t) ≡ b → is_same_keyword Default (kind t) ≡ true
+        by true e = e
+        by false e = let f = tells.1 e in absurd (cc (f, so))
+
+        default_it : is_same_keyword Default (kind t) ≡ true
+        default_it = by (is_same_keyword Default (kind t)) refl
 
     -- a `default` in a place is none of those
     abbrev pub IsPassed : ℕ → Type 0
     IsPassed i = (c of_type : Located) → child i l ≡ Some c → part_of TypeName l ≡ Some of_type → is_same_keyword Default (kind c.statement) ≡ true → TakesConditional on scoping.texts of_type (name c.statement) → ⊥
 
-    pub default_step : (nested : List (List ℕ)) → AreReached (member_graph meanings) nested → (among : List Statement) → among ≡ below s → (place : ℕ) (t : Statement) → place < length among → t ≡ get_or among place t →
-        is_conditional_default meanings nested k t ≡ false → ((i : ℕ) → i < place → IsPassed i) → (i : ℕ) → i < place + 1 → IsPassed i
-    default_step nested known among among_is place t less is none before i lt c of_type one typed_by is_default takes = by (cases_lt i place)
+    pub default_step : (among : List Statement) → among ≡ below s → (place : ℕ) (t : Statement) (told : Bool) → place < length among → t ≡ get_or among place t →
+        TellsDefault meanings k t told → told ≡ false → ((i : ℕ) → i < place → IsPassed i) → (i : ℕ) → i < place + 1 → IsPassed i
+    default_step among among_is place t told less is tells none before i lt c of_type one typed_by is_default takes = by (cases_lt i place)
       where
         by : (i < place) ⊎ (place ≤ i) → ⊥
         by (inl earlier) = before i earlier c of_type one typed_by is_default takes
@@ -313,11 +342,11 @@ module _ (scoping : Scoping) (meanings : Meanings) (n : ℕ) (s : Statement) (nu
             let both : Some (put t) ≡ Some c = sym own ∙ ap (λ z. child z l) (sym equal) ∙ one in
             let it : c ≡ put t = cc in
             let default : is_same_keyword Default (kind t) ≡ true = ap (λ z. is_same_keyword Default (kind z.statement)) (sym it) ∙ is_default in
-            let names : takes_at meanings nested k (name t) ≡ false = sym (ap (λ b. b && takes_at meanings nested k (name t)) default) ∙ none in
             let two : Some of_type ≡ Some type_there.0 = sym typed_by ∙ type_there.1 in
             let same_type : of_type ≡ type_there.0 = cc in
-            takes_not scoping meanings nested known on are k type_there.0 type_there.2 (name t) names
-            (subst (λ z. TakesConditional on scoping.texts z (name t)) same_type (subst (λ z. TakesConditional on scoping.texts of_type (name z.statement)) it takes))
+            let so : told ≡ true = (tells.0 default scoping on are type_there.0 type_there.2).1
+            (subst (λ z. TakesConditional on scoping.texts z (name t)) same_type (subst (λ z. TakesConditional on scoping.texts of_type (name z.statement)) it takes)) in
+            cc (so, none)
 
     pub defaults_all : (among : List Statement) → among ≡ below s → (count : ℕ) → length among ≤ count → ((i : ℕ) → i < count → IsPassed i) →
         (fault : Fault) → DefaultsToConditional on scoping.texts l fault → ⊥

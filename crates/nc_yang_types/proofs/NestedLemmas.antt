@@ -1,10 +1,9 @@
 -- Numbers to which edges lead from a number, one or more of them.
-use Rattle.std.proofs.Common.{inl, inr, ◌≡◌, ◌<◌, ◌≤◌, ◌+◌, ◌⊎◌, ◌==◌, ℕ, Bool, true, List, [], ◌∷◌, ◌++◌, length, get_or, refl, sym, ap, subst, ◌∙◌, arith}
+use Rattle.std.proofs.Common.{inl, inr, ◌≡◌, ◌<◌, ◌≤◌, ◌⊎◌, ◌==◌, ℕ, Bool, true, List, [], ◌∷◌, ◌++◌, length, get_or, refl, sym, ap, subst, ◌∙◌, arith}
 use Rattle.std.specs.Prelude.{Option, Some, None, Result, Ok, Err, slice_get, unwrap_or, Contains, IfOk}
 use Rattle.std.specs.List.{list_all}
 use Rattle.std.proofs.lemmas.Bool.{cases_lt}
 use Rattle.std.proofs.lemmas.Bool.Decides.{Decides-eqb}
-use Rattle.std.proofs.lemmas.List.{length_push}
 use Rattle.std.proofs.lemmas.List.Elements.{Contains-append_cases}
 use Rattle.std.proofs.lemmas.Option.{slice_get-get_or, slice_get_past}
 use Rattle.nc_names.proofs.SameLemmas.{first_true, second_true}
@@ -12,8 +11,8 @@ use Rattle.nc_yang_order.proofs.Lists.{contains_none, contains_one}
 use Rattle.nc_yang_order.specs.Orders.{EachAfter, Reaches, further, here, targets}
 use Rattle.nc_yang_order.specs.Reaching.{IsLed, IsReached}
 use Rattle.nc_yang_order.specs.declared.reach.Reach.{Reach}
-use Rattle.nc_yang_scopes.proofs.LinkLists.{contains_cases, get_push}
-use Rattle.nc_yang_types.specs.inner.Nested.{AreReached, IsReachedFrom}
+use Rattle.nc_yang_scopes.proofs.LinkLists.{contains_cases}
+use Rattle.nc_yang_types.specs.inner.Nested.{IsReachedFrom}
 
 no_items : (xs : List ℕ) → (length xs == 0) ≡ true → xs ≡ []
 no_items [] e = refl
@@ -115,26 +114,3 @@ module _ (graph : List (List ℕ)) where
       pub found_from : (reach : Reach) (found : List ℕ) → IsReached graph slice reach → found ≡ reach.found → IsReachedFrom graph number found
       found_from reach found reached same =
           subst (IsReachedFrom graph number) (sym same) (reached_found row row_at reach (subst (λ starts. IsReached graph starts reach) slice_is reached))
-
-  -- ---- from each
-  abbrev pub AreRows : (count : ℕ) → List (List ℕ) → Type 0
-  AreRows count rows = (length rows ≡ count) × ((k : ℕ) (row : List ℕ) → slice_get rows k ≡ Some row → IsReachedFrom graph k row)
-
-  pub rows_more : (count : ℕ) (rows more : List (List ℕ)) (row : List ℕ) → AreRows count rows → IsReachedFrom graph count row → more ≡ rows ++ row ∷ [] → AreRows (count + 1) more
-  rows_more count rows more row so_far next is = subst (AreRows (count + 1)) (sym is) (length_push rows row ∙ ap (λ n. n + 1) so_far.0, each)
-    where
-      each : (k : ℕ) (one : List ℕ) → slice_get (rows ++ row ∷ []) k ≡ Some one → IsReachedFrom graph k one
-      each k one at = elim (get_push rows row one k at) [
-        | inl before ↦ so_far.1 k one before
-        | inr now ↦ subst (IsReachedFrom graph k) now.1 (subst (λ n. IsReachedFrom graph n row) (sym (now.0 ∙ so_far.0)) next)
-      ]
-
-  pub rows_all : (count : ℕ) (rows : List (List ℕ)) → length graph ≤ count → AreRows count rows → AreReached graph rows
-  rows_all count rows le are k = by (slice_get rows k) refl
-    where
-      by : (o : Option (List ℕ)) → slice_get rows k ≡ o → IsReachedFrom graph k (unwrap_or o [])
-      by (Some row) at = are.1 k row at
-      by None at = elim (cases_lt k (length graph)) [
-        | inl less ↦ (let within : k < length rows = (let c = are.0 in omega (arith, c, le, less)) in let e : None ≡ Some (get_or rows k []) = sym at ∙ slice_get-get_or rows k [] within in absurd (cc))
-        | inr past ↦ reached_none k (slice_get_past graph k past)
-      ]

@@ -7,7 +7,7 @@ ghost use Rattle.nc_yang_statements.specs.Stops.{OnBroken};
 use crate::check::first_ill_typed;
 use crate::defaults::defaults_of;
 use crate::features::Features;
-use crate::nested::nested_members;
+use crate::nested::member_graph;
 use crate::planned::Meanings;
 use crate::table::table;
 use nc_yang_scopes::{Scopes, TextFault};
@@ -30,8 +30,9 @@ pub fn meanings_of<'a, F: Features<'a>>(
 {
     let found = table(alloc, scopes, features)?;
     let defaults = defaults_of(alloc, scopes)?;
-    let nested = nested_members(alloc, &found)?;
-    match first_ill_typed(scopes, &found, nested.as_slice(), defaults.as_slice()) {
+    let graph = member_graph(alloc, &found)?;
+    let ill = first_ill_typed(alloc, scopes, &found, graph.as_slice(), defaults.as_slice())?;
+    match ill {
         Some(fault) => Err(Stop::Broken(fault)),
         None => Ok(found),
     }

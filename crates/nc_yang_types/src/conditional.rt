@@ -1,24 +1,27 @@
 //! Defaults that name conditional enums and bits (RFC 7950 7.3.4, 7.6.4, 7.7.4).
-ghost use Rattle.std.specs.Prelude.{◌≡◌};
+ghost use Rattle.std.specs.Prelude.{◌≡◌, IfOk};
 ghost use Rattle.std.specs.List.{list_any, position_or_len};
 ghost use Rattle.nc_names.specs.Signs as signs;
 ghost use Rattle.nc_schema.specs.Values.{words_of};
 ghost use Rattle.nc_yang_scopes.specs.inner.Naming.{HasNumber};
-ghost use Rattle.nc_yang_statements.specs.Statements.{line};
+ghost use Rattle.nc_yang_statements.specs.Keywords as keywords;
+ghost use Rattle.nc_yang_statements.specs.Statements as statements;
 ghost use Rattle.nc_yang_statements.specs.declared.fault.ModuleWhy.TheVariants.{BadArgument as Misfit};
+ghost use Rattle.nc_yang_statements.specs.declared.keyword.Keyword.TheVariants.{Default as DefaultWord};
 ghost use Rattle.nc_yang_types.specs.Faults as faults;
 ghost use Rattle.nc_yang_types.specs.inner.Judging as words;
-ghost use Rattle.nc_yang_types.specs.inner.Nested.{AreReached, member_graph};
+ghost use Rattle.nc_yang_types.specs.inner.Nested.{member_graph};
 ghost use Rattle.nc_yang_types.specs.inner.Planning.{names_in, shape_of};
 
 use crate::Named;
+use crate::nested::reached_from;
 use crate::planned::{Finding, Meanings, Planned};
-use nc_names::{Many, is_white, tail, trimmed};
+use nc_names::{Many, Memory, is_white, tail, trimmed};
 use nc_schema::ValueType;
-use nc_yang_order::row;
 use nc_yang_scopes::{Scopes, part_of};
 use nc_yang_statements::{Fault, Keyword, ModuleWhy, is_same_keyword, kind, name};
 use nc_yang_words::Statement;
+use std::alloc::Global;
 
 // Whether a word is one of the names, and conditional.
 fn is_conditional(names: &[Named], word: &[u8]) -> bool
@@ -109,35 +112,56 @@ fn any_names(meanings: &Meanings, members: &[usize], text: &str) -> bool
     false
 }
 
-/// Whether a text has a conditional one of the names in it that the type of a number or a member of it lists,
-/// whose numbers `nested` has.
+// The same for those of the type of a number, or of one of its members.
+fn names_among(meanings: &Meanings, members: &[usize], number: usize, text: &str) -> bool
+    ensures { result ≡ words.names_among meanings.now members.now number text.now }
+{
+    names_at(meanings, number, text) || any_names(meanings, members, text)
+}
+
+/// Whether a text has a conditional one of the names in it that the type of a number lists, or a member of it,
+/// down to the last. Where a union is among its members, this takes time with the number of all statements.
 pub(crate) fn takes_at(
+    alloc: Global,
     meanings: &Meanings,
-    nested: &[Many<usize>],
+    graph: &[Many<usize>],
     number: usize,
     text: &str,
-) -> bool
-    ensures { result ≡ words.takes_at meanings.now nested.now number text.now }
+) -> Result<bool, Memory>
+    requires { graph.now ≡ member_graph meanings.now }
+    ensures { IfOk result (words.TellsTaking meanings.now number text.now) }
 {
-    names_at(meanings, number, text) || any_names(meanings, row(nested, number), text)
+    let members = reached_from(alloc, graph, number)?;
+    Ok(names_among(meanings, members.as_slice(), number, text))
+}
+
+// Whether a statement is a `default`.
+fn is_default(statement: &Statement) -> bool
+    ensures { result ≡ keywords.is_same_keyword DefaultWord (statements.kind statement.now) }
+{
+    is_same_keyword(Keyword::Default, kind(statement))
 }
 
 // Whether a statement beside the type of a number is a `default` that names what is conditional.
 fn is_conditional_default(
+    alloc: Global,
     meanings: &Meanings,
-    nested: &[Many<usize>],
+    graph: &[Many<usize>],
     of_type: usize,
     statement: &Statement,
-) -> bool
-    ensures { result ≡ words.is_conditional_default meanings.now nested.now of_type statement.now }
+) -> Result<bool, Memory>
+    requires { graph.now ≡ member_graph meanings.now }
+    ensures { IfOk result (words.TellsDefault meanings.now of_type statement.now) }
 {
-    is_same_keyword(Keyword::Default, kind(statement))
-        && takes_at(meanings, nested, of_type, name(statement))
+    if !is_default(statement) {
+        return Ok(false);
+    }
+    takes_at(alloc, meanings, graph, of_type, name(statement))
 }
 
 /// The fault of a `default`, or of a statement that takes one over.
 pub(crate) fn fault(statement: &Statement) -> Fault
-    ensures { result ≡ record { line = line statement.now; why = Misfit } }
+    ensures { result ≡ record { line = statements.line statement.now; why = Misfit } }
 {
     Fault {
         line: statement.line,
@@ -147,24 +171,26 @@ pub(crate) fn fault(statement: &Statement) -> Fault
 
 /// The first `default` in the statement of a number, beside its type, that names a conditional enum or bit.
 pub(crate) fn conditional_default(
+    alloc: Global,
     scopes: &Scopes,
     meanings: &Meanings,
-    nested: &[Many<usize>],
+    graph: &[Many<usize>],
     number: usize,
     statement: &Statement,
-) -> Option<Fault>
+) -> Result<Option<Fault>, Memory>
     requires statement { HasNumber scopes.now number statement.now }
-    requires nested { AreReached (member_graph meanings.now) nested.now }
-    ensures { words.JudgesDefaults scopes.now meanings.now number result }
+    requires graph { graph.now ≡ member_graph meanings.now }
+    ensures { IfOk result (words.JudgesDefaults scopes.now meanings.now number) }
 {
     let Some(of_type) = part_of(scopes, number, Keyword::TypeName) else {
-        return None;
+        return Ok(None);
     };
     let among = statement.below.as_slice();
     for part in among {
-        if is_conditional_default(meanings, nested, of_type, part) {
-            return Some(fault(part));
+        let found = is_conditional_default(alloc, meanings, graph, of_type, part)?;
+        if found {
+            return Ok(Some(fault(part)));
         }
     }
-    None
+    Ok(None)
 }

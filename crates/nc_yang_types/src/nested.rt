@@ -45,8 +45,8 @@ fn members_by(alloc: Global, plans: &[Planned], finding: &Finding) -> Result<Man
     }
 }
 
-// From the number of each statement edges to those of its members.
-fn member_graph(alloc: Global, meanings: &Meanings) -> Result<Many<Many<usize>>, Memory>
+/// From the number of each statement edges to those of the members that it has as a union.
+pub(crate) fn member_graph(alloc: Global, meanings: &Meanings) -> Result<Many<Many<usize>>, Memory>
     ensures { IfOk result (λ it. it ≡ words.member_graph meanings.now) }
 {
     let plans = meanings.plans.as_slice();
@@ -85,9 +85,14 @@ fn found_in(reach: Reach) -> Many<usize>
     found
 }
 
-// The numbers to which edges lead from a number. Where its targets are the last, they are all.
+/// The numbers to which edges lead from a number. Where its targets are the last, they are all; else this takes
+/// time with the length of the graph.
 #[tactic(auto, using(crate::proofs::NestedLemmas::reached_none))]
-fn reached_from(alloc: Global, graph: &[Many<usize>], number: usize) -> Result<Many<usize>, Memory>
+pub(crate) fn reached_from(
+    alloc: Global,
+    graph: &[Many<usize>],
+    number: usize,
+) -> Result<Many<usize>, Memory>
     ensures { IfOk result (words.IsReachedFrom graph.now number) }
 {
     let Some(members) = graph.get(number) else {
@@ -97,22 +102,4 @@ fn reached_from(alloc: Global, graph: &[Many<usize>], number: usize) -> Result<M
         return copied(alloc, members.as_slice());
     }
     Ok(found_in(Reach::of(alloc, graph, members.as_slice())?))
-}
-
-/// For the statement of each number the numbers of the members that it has as a union, of those that these
-/// have, and so on. What a union of plain types has is copied; one with unions in it takes time with the
-/// number of all statements.
-pub(crate) fn nested_members(
-    alloc: Global,
-    meanings: &Meanings,
-) -> Result<Many<Many<usize>>, Memory>
-    ensures { IfOk result (words.AreReached (words.member_graph meanings.now)) }
-{
-    let graph = member_graph(alloc, meanings)?;
-    let graph = graph.as_slice();
-    let mut rows = Many::new(alloc);
-    for number in 0..graph.len() {
-        rows.push(reached_from(alloc, graph, number)?)?;
-    }
-    Ok(rows)
 }

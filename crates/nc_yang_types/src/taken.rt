@@ -1,6 +1,6 @@
 //! Defaults of typedefs that leafs and leaf-lists take over (RFC 7950 7.6.1, 7.7.2), and that name an enum or
 //! bit which is conditional in the type of the leaf (RFC 7950 7.6.4).
-ghost use Rattle.std.specs.Prelude.{◌≡◌};
+ghost use Rattle.std.specs.Prelude.{◌≡◌, IfOk};
 ghost use Rattle.nc_yang_scopes.specs.inner.Naming.{HasNumber};
 ghost use Rattle.nc_yang_statements.specs.Arguments as arguments;
 ghost use Rattle.nc_yang_statements.specs.Rules.{says_true};
@@ -9,15 +9,16 @@ ghost use Rattle.nc_yang_statements.specs.declared.keyword.Keyword.TheVariants.{
 ghost use Rattle.nc_yang_types.specs.Defaults.{AreDefaults};
 ghost use Rattle.nc_yang_types.specs.Faults as faults;
 ghost use Rattle.nc_yang_types.specs.inner.Judging as words;
-ghost use Rattle.nc_yang_types.specs.inner.Nested.{AreReached, member_graph};
+ghost use Rattle.nc_yang_types.specs.inner.Nested.{member_graph};
 
 use crate::conditional::{fault, takes_at};
 use crate::defaults::kept;
 use crate::planned::Meanings;
-use nc_names::Many;
+use nc_names::{Many, Memory};
 use nc_yang_scopes::{Scopes, part_of};
 use nc_yang_statements::{Fault, Keyword, has, kind, name, part};
 use nc_yang_words::Statement;
+use std::alloc::Global;
 
 // Whether the text is `true`.
 #[tactic(auto, unfolding(nc_yang_statements::specs::Arguments::is_true_text))]
@@ -75,45 +76,49 @@ fn takes_over(statement: &Statement) -> bool
 
 // Whether the default that the type of a number brings names what is conditional in it.
 fn is_taken(
+    alloc: Global,
     scopes: &Scopes,
     meanings: &Meanings,
-    nested: &[Many<usize>],
+    graph: &[Many<usize>],
     defaults: &[Option<usize>],
     of_type: usize,
-) -> bool
-    ensures { result ≡ words.is_taken scopes.now meanings.now nested.now defaults.now of_type }
+) -> Result<bool, Memory>
+    requires { graph.now ≡ member_graph meanings.now }
+    ensures { IfOk result (words.TellsTaken scopes.now meanings.now defaults.now of_type) }
 {
     let Some(default) = kept(defaults, of_type) else {
-        return false;
+        return Ok(false);
     };
-    match scopes.statement(default) {
-        Some(found) => takes_at(meanings, nested, of_type, name(found)),
-        None => false,
-    }
+    let Some(found) = scopes.statement(default) else {
+        return Ok(false);
+    };
+    takes_at(alloc, meanings, graph, of_type, name(found))
 }
 
 /// The fault of the statement of a number, where it is a leaf or leaf-list that takes such a default over.
 pub(crate) fn taken_over(
+    alloc: Global,
     scopes: &Scopes,
     meanings: &Meanings,
-    nested: &[Many<usize>],
+    graph: &[Many<usize>],
     defaults: &[Option<usize>],
     number: usize,
     statement: &Statement,
-) -> Option<Fault>
+) -> Result<Option<Fault>, Memory>
     requires statement { HasNumber scopes.now number statement.now }
     requires defaults { AreDefaults scopes.now defaults.now }
-    requires nested { AreReached (member_graph meanings.now) nested.now }
-    ensures { words.JudgesTaken scopes.now meanings.now number result }
+    requires graph { graph.now ≡ member_graph meanings.now }
+    ensures { IfOk result (words.JudgesTaken scopes.now meanings.now number) }
 {
     if !takes_over(statement) {
-        return None;
+        return Ok(None);
     }
     let Some(of_type) = part_of(scopes, number, Keyword::TypeName) else {
-        return None;
+        return Ok(None);
     };
-    if is_taken(scopes, meanings, nested, defaults, of_type) {
-        return Some(fault(statement));
+    let taken = is_taken(alloc, scopes, meanings, graph, defaults, of_type)?;
+    if taken {
+        return Ok(Some(fault(statement)));
     }
-    None
+    Ok(None)
 }

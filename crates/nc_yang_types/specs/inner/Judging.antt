@@ -1,5 +1,5 @@
 -- What an answer says of the statement of a number and of those in it.
-use Rattle.std.specs.Prelude.{◌≡◌, ℕ, ◌&&◌, ◌||◌, Bool, true, false, List, [], ◌∷◌, filter, length, nat_lt, Option, Some, None, slice_get, option_and_then, MatchOption}
+use Rattle.std.specs.Prelude.{◌≡◌, ◌⊎◌, ℕ, ◌&&◌, ◌||◌, Bool, true, false, List, [], ◌∷◌, filter, length, nat_lt, Option, Some, None, slice_get, option_and_then, Decides, MatchOption}
 use Rattle.std.specs.List.{list_any}
 use Rattle.std.specs.Option.{option_map_or}
 use Rattle.nc_yang_words.specs.declared.statement.Statement.{Statement}
@@ -11,9 +11,9 @@ use Rattle.nc_yang_statements.specs.Keywords.{is_same_keyword}
 use Rattle.nc_yang_statements.specs.Statements.{kind, name}
 use Rattle.nc_yang_statements.specs.declared.fault.Fault.{Fault}
 use Rattle.nc_yang_scopes.specs.Scopes.{Located, Scoping}
-use Rattle.nc_yang_order.specs.Orders.{targets}
 use Rattle.nc_yang_types.specs.Defaults.{default_at}
-use Rattle.nc_yang_types.specs.Faults.{BreaksOne, BreaksType, BreaksTypes, DefaultsToConditional, RefersInUnion, TakesOver, is_reference, names_conditional}
+use Rattle.nc_yang_types.specs.Faults.{BreaksOne, BreaksType, BreaksTypes, DefaultsToConditional, RefersInUnion, TakesConditional, TakesOver, is_reference, names_conditional}
+use Rattle.nc_yang_types.specs.Meanings.{Breaks}
 use Rattle.nc_yang_types.specs.Plans.{AreMeanings}
 use Rattle.nc_yang_types.specs.declared.planned.Finding.{Finding}
 use Rattle.nc_yang_types.specs.declared.planned.Finding.TheVariants.{Broken, Plan}
@@ -69,21 +69,28 @@ names_by plans text finding = false
 abbrev pub names_at : Meanings → ℕ → List ℕ → Bool
 names_at meanings number text = names_by meanings.plans text (slice_get meanings.findings number)
 
--- so it is with it, or with one of its members, whose numbers are at its own
-abbrev pub takes_at : Meanings → (nested : List (List ℕ)) → ℕ → List ℕ → Bool
-takes_at meanings nested number text =
-    names_at meanings number text || list_any (λ member. names_at meanings member text) (targets nested number)
+-- so it is with it, or with one of its members, which have these numbers
+abbrev pub names_among : Meanings → (members : List ℕ) → ℕ → List ℕ → Bool
+names_among meanings members number text =
+    names_at meanings number text || list_any (λ member. names_at meanings member text) members
 
--- a `default` beside the type of that number
-abbrev pub is_conditional_default : Meanings → (nested : List (List ℕ)) → ℕ → Statement → Bool
-is_conditional_default meanings nested number s =
-    is_same_keyword Default (kind s) && takes_at meanings nested number (name s)
+-- it is told whether a text names what is conditional in the type of a number, or in a member of it
+abbrev pub TellsTaking : Meanings → ℕ → List ℕ → (told : Bool) → Type 0
+TellsTaking meanings number text told =
+    (scoping : Scoping) (on : ℕ → List ℕ → Bool) → AreMeanings on scoping meanings → (l : Located) → slice_get
+    scoping.located number ≡ Some l → Decides told (TakesConditional on scoping.texts l text)
 
--- the default that the type of that number brings names what is conditional in it
-abbrev pub is_taken : Scoping → Meanings → (nested : List (List ℕ)) → List (Option ℕ) → (of_type : ℕ) → Bool
-is_taken scoping meanings nested defaults of_type =
-    option_map_or (λ l. takes_at meanings nested of_type (name l.statement))
-    (option_and_then (slice_get scoping.located) (default_at defaults of_type)) false
+-- so it is of a statement that is a `default` beside that type, and no other does
+abbrev pub TellsDefault : Meanings → ℕ → Statement → (told : Bool) → Type 0
+TellsDefault meanings number s told =
+    (is_same_keyword Default (kind s) ≡ true → TellsTaking meanings number (name s) told)
+    × (is_same_keyword Default (kind s) ≡ false → told ≡ false)
+
+-- so it is of the default that the type brings, and where it brings none, none does
+abbrev pub TellsTaken : Scoping → Meanings → List (Option ℕ) → (of_type : ℕ) → (told : Bool) → Type 0
+TellsTaken scoping meanings defaults of_type told =
+    MatchOption (option_and_then (slice_get scoping.located) (default_at defaults of_type)) (told ≡ false)
+    (λ l. TellsTaking meanings of_type (name l.statement) told)
 
 -- a default that the statement of a number takes over, or that there is none
 abbrev pub JudgesTaken : Scoping → Meanings → ℕ → Option Fault → Type 0
@@ -99,6 +106,23 @@ JudgesDefaults scoping meanings number result =
     ≡ Some l →
     MatchOption result ((fault : Fault) → DefaultsToConditional on scoping.texts l fault → ⊥)
     (DefaultsToConditional on scoping.texts l)
+
+-- what is wrong with the parts of the type of a number or with a member of it, or that nothing is
+abbrev pub JudgesPlain : Scoping → Meanings → ℕ → Option Fault → Type 0
+JudgesPlain scoping meanings number result =
+    (on : ℕ → List ℕ → Bool) → AreMeanings on scoping meanings → (l : Located) → slice_get scoping.located number
+    ≡ Some l →
+    MatchOption result ((fault : Fault) → Breaks on scoping.texts l fault ⊎ RefersInUnion on scoping.texts l fault → ⊥)
+    (λ fault. Breaks on scoping.texts l fault ⊎ RefersInUnion on scoping.texts l fault)
+
+-- what is wrong with a default in the statement of a number or with one that it takes over, or that nothing is
+abbrev pub JudgesGiven : Scoping → Meanings → ℕ → Option Fault → Type 0
+JudgesGiven scoping meanings number result =
+    (on : ℕ → List ℕ → Bool) → AreMeanings on scoping meanings → (l : Located) → slice_get scoping.located number
+    ≡ Some l →
+    MatchOption result
+    ((fault : Fault) → DefaultsToConditional on scoping.texts l fault ⊎ TakesOver on scoping.texts l fault → ⊥)
+    (λ fault. DefaultsToConditional on scoping.texts l fault ⊎ TakesOver on scoping.texts l fault)
 
 -- what is wrong with the statement of a number by itself, or that nothing is
 abbrev pub JudgesOne : Scoping → Meanings → ℕ → Option Fault → Type 0

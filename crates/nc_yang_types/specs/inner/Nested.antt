@@ -27,7 +27,3 @@ pub record IsReachedFrom (graph : List (List ℕ)) (number : ℕ) (row : List �
   pub only : (last : ℕ) → Contains row last → Reaches graph number last
   pub all : (target last : ℕ) → Contains (targets graph number) target → Reaches graph target last
       → last < length graph → Contains row last
-
--- those for each number
-abbrev pub AreReached : List (List ℕ) → List (List ℕ) → Type 0
-AreReached graph rows = (number : ℕ) → IsReachedFrom graph number (targets rows number)

@@ -39,6 +39,7 @@ pub mod TextReasons
 pub mod TypeReasons
 pub mod Reasons
 pub mod Worked
+pub mod HandedIn
 mod Utf8
 mod TextReading
 pub mod OneWay

@@ -52,21 +52,21 @@ use Rattle.nc_yang.specs.Schemas.{Breaks, basis, text as of_text, unread}
 
 -- ---- texts
 -- lines, each of which ends by a line feed
-abbrev lines_of : List (List ℕ) → List ℕ
+abbrev pub lines_of : List (List ℕ) → List ℕ
 lines_of lines = flat_map (λ one. one ++ 10 ∷ []) lines
 
 -- a module of these, with its namespace on the second line and its prefix on the third
-abbrev module_of : List (List ℕ) → List ℕ
+abbrev pub module_of : List (List ℕ) → List ℕ
 module_of lines = lines_of (codes "module m {" ∷ codes "  namespace 'urn:m';" ∷ codes "  prefix m;" ∷ lines ++ codes "}" ∷ [])
 
-abbrev file : List ℕ → ModuleText
+abbrev pub file : List ℕ → ModuleText
 file bytes = record { file = codes "m.yang"; bytes = bytes }
 
-abbrev has_statements : Result Statement ℕ → Bool
+abbrev pub has_statements : Result Statement ℕ → Bool
 has_statements (Ok tree) = true
 has_statements (Err at) = false
 
-abbrev statements_in : Result Statement ℕ → Statement
+abbrev pub statements_in : Result Statement ℕ → Statement
 statements_in (Ok tree) = tree
 statements_in (Err at) = statement [] None 0 []
 
@@ -78,7 +78,7 @@ spells cs has = by (reading cs) refl has
     by (Err at) e h = absurd (cc)
 
 -- the statements of a text
-abbrev root_of : List ℕ → Statement
+abbrev pub root_of : List ℕ → Statement
 root_of bytes = statements_in (reading (chars bytes))
 
 access_reads : has_statements (reading (chars access_yang)) ≡ true
@@ -86,16 +86,16 @@ unfolding access_yang chars encode
 access_reads = refl
 
 -- a text that is read
-record IsText (bytes : List ℕ) : Type 0 where
-  utf8 : is_utf8 bytes ≡ true
-  reads : has_statements (reading (chars bytes)) ≡ true
-  short : position is_long (file bytes ∷ []) ≡ None
+pub record IsText (bytes : List ℕ) : Type 0 where
+  pub utf8 : is_utf8 bytes ≡ true
+  pub reads : has_statements (reading (chars bytes)) ≡ true
+  pub short : position is_long (file bytes ∷ []) ≡ None
 
 -- the statements of one module, after those of ietf-netconf-acm
-abbrev texts_of : List ℕ → List Statement
+abbrev pub texts_of : List ℕ → List Statement
 texts_of bytes = root_of access_yang ∷ root_of bytes ∷ []
 
-have : (bytes : List ℕ) → IsText bytes → HaveStatements (file bytes ∷ []) (texts_of bytes)
+pub have : (bytes : List ℕ) → IsText bytes → HaveStatements (file bytes ∷ []) (texts_of bytes)
 have bytes is = record {
   access = root_of access_yang;
   spells = spells (chars access_yang) access_reads;
@@ -118,7 +118,7 @@ by_module bytes fault is faults =
     })))
 
 -- of the statements in it the one of a place
-abbrev part_at : List ℕ → ℕ → Statement
+abbrev pub part_at : List ℕ → ℕ → Statement
 part_at bytes place = unwrap_or (slice_get (below (root_of bytes)) place) (root_of bytes)
 
 -- it is there, and is looked at
@@ -139,10 +139,10 @@ by_part bytes fault place is part faults =
       breaks = contains_at (broken (part_at bytes place)) 0 fault (ap (λ fs. slice_get fs 0) faults);
     })))
 
-abbrev top_of : List ℕ → Located
+abbrev pub top_of : List ℕ → Located
 top_of bytes = record { statement = root_of bytes; place = record { text = 1; blocks = [] } }
 
-abbrev located : List ℕ → ℕ → Located
+abbrev pub located : List ℕ → ℕ → Located
 located bytes place = record { statement = part_at bytes place; place = place_inside (top_of bytes) }
 
 is_child : (bytes : List ℕ) (place : ℕ) → HasPart bytes place → child place (top_of bytes) ≡ Some (located bytes place)

@@ -4,3 +4,4 @@ pub mod PartsLemmas
 pub mod Runs
 pub mod SpanLemmas
 pub mod SpotsLemmas
+pub mod StepLemmas

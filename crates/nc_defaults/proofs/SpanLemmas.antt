@@ -1,14 +1,14 @@
 -- What the runs of a place say of its parts.
 use Rattle.std.proofs.Common.{◌≡◌, ◌==◌, ◌&&◌, ◌||◌, ◌+◌, ◌++◌, ◌<◌, ◌≤◌, ℕ, suc, Bool, true, false, cond, ltb, List, [], ◌∷◌, Option, Some, None, length, map, drop, get_or, refl, sym, ap, ◌∙◌, arith, if◌then◌else◌}
-use Rattle.std.specs.List.{All, filter, list_any}
+use Rattle.std.specs.List.{All, filter, last_or, list_any}
 use Rattle.std.specs.Option.{option_map_or}
-use Rattle.std.specs.Prelude.{slice_get, option_map}
+use Rattle.std.specs.Prelude.{slice_get, option_map, option_to_list}
 use Rattle.std.proofs.lemmas.List.{append-nil, drop_all, drop_more}
 use Rattle.std.proofs.lemmas.Bool.Decides.{nat_tests}
 use Rattle.std.proofs.lemmas.List.Elements.{All-get_or, All-head, All-tail}
 use Rattle.nc_schema.specs.Children.{is_same_number}
 use Rattle.nc_schema.specs.Kinds.{holds_nodes, is_plain_container}
-use Rattle.nc_schema.specs.Places.{Part, Place, is_of, parts, parts_of, place_of, place_parts}
+use Rattle.nc_schema.specs.Places.{Part, Place, is_of, node_there, parts, parts_of, place_of, place_parts}
 use Rattle.nc_schema.specs.Tables.{Tables}
 use Rattle.nc_schema.specs.declared.node.Kind.{Kind}
 use Rattle.nc_schema.specs.declared.node.Kind.TheVariants.{Container, Leaf, LeafList, List as ListKind}
@@ -16,14 +16,17 @@ use Rattle.nc_schema.specs.declared.node.Node.{Node}
 use Rattle.nc_names.specs.declared.path.Row.{Row}
 use Rattle.nc_names.specs.declared.path.Step.{Step}
 use Rattle.nc_defaults.specs.declared.spans.Run.{Run}
+use Rattle.nc_defaults.specs.Children.{children_of}
 use Rattle.nc_defaults.specs.Within.{rows_between}
 use Rattle.nc_defaults.specs.inner.Lists.{has_places_at}
 use Rattle.nc_defaults.specs.inner.Runs.{next_at}
 use Rattle.nc_defaults.specs.inner.Spans.{AreRuns, IsRun, part_at}
 use Rattle.nc_defaults.specs.inner.Walks.{places_at, places_at_all, places_under, places_with}
+use Rattle.nc_defaults.proofs.ListLemmas.{same_number}
 use Rattle.nc_defaults.proofs.PartsLemmas.{map_push}
 use Rattle.nc_defaults.proofs.Runs.{none_between}
-use Rattle.nc_defaults.proofs.SpotsLemmas.{instances_are, with_none, with_one}
+use Rattle.nc_defaults.proofs.SpotsLemmas.{instances_are, listed, with_none, with_one}
+use Rattle.nc_defaults.proofs.StepLemmas.{last_push}
 
 abbrev is_in : ℕ → Run → Bool
 is_in number run = is_same_number run.node (Some number)
@@ -167,3 +170,26 @@ no_places_in tables place number (child ∷ children) none =
     by : (b : Bool) → places_at tables place child ≡ [] → (if b then [] else places_at tables place child) ≡ []
     by true none = refl
     by false none = none
+
+-- no places stand in a place
+pub none_there : (tables : Tables) (place : Place) (parent : Option ℕ) (number : ℕ) → node_there place ≡ parent → list_any (has_places_at tables.nodes) (children_of tables.nodes parent) ≡ false →
+    places_under tables place number ≡ []
+none_there tables place parent number is none =
+    sym (listed tables place number)
+    ∙ ap (λ (o : Option ℕ). places_at_all tables place number (children_of tables.nodes o)) is
+    ∙ no_places_in tables place number (children_of tables.nodes parent) none
+
+-- an instance of a data node leads there
+node_below : (tables : Tables) (place : Place) (number : ℕ) (node : Node) (part : Part) → is_of number part ≡ true → node_there (place_of tables place node part) ≡ Some number
+node_below tables place number node part is = by part.step (same_number (option_map (λ (step : Step). step.node) part.step) (Some number) is)
+  where
+    by : (next : Option Step) → option_map (λ (step : Step). step.node) next ≡ Some number →
+        option_map (λ (step : Step). step.node) (last_or None (place.steps ++ option_to_list next)) ≡ Some number
+    by None same = absurd (let clash : None ≡ Some number = same in cc)
+    by (Some step) same = ap (option_map (λ (one : Step). one.node)) (last_push None place.steps step) ∙ same
+
+-- none stand in an instance of it
+pub none_below : (tables : Tables) (place : Place) (number : ℕ) (node : Node) (part : Part) → is_of number part ≡ true →
+    list_any (has_places_at tables.nodes) (children_of tables.nodes (Some number)) ≡ false → places_under tables (place_of tables place node part) (number + 1) ≡ []
+none_below tables place number node part is none =
+    none_there tables (place_of tables place node part) (Some number) (number + 1) (node_below tables place number node part is) none

@@ -128,6 +128,13 @@ impl<'a> Children<'a> {
         numbers.iter().any(|number| self.has_places_at(*number))
     }
 
+    /// Whether instances of one of the data nodes that stand in one, or at the top, are places.
+    pub(crate) fn have_places_in(&self, parent: Option<u32>) -> bool
+        ensures { result ≡ list_any (words.has_places_at self.now.nodes) (children_of self.now.nodes parent) }
+    {
+        self.have_places(self.in_parent(parent))
+    }
+
     fn has_places_at(&self, number: u32) -> bool
         ensures { result ≡ words.has_places_at self.now.nodes number }
     {

@@ -25,6 +25,6 @@ pub use children::Children;
 pub use here::{Here, place_below, place_of, top};
 pub use parts::{count_parts, count_up_to, next_of, row_of, run_end};
 pub use spots::{Spot, has_places, is_same_number, node_there, places_from};
-pub use steps::{Steps, copied_step, found_below, own_below, steps_below};
+pub use steps::{Steps, copied_step, found_below, found_next, own_below, steps_below};
 pub use value::in_use;
 pub use values::values_in_use;

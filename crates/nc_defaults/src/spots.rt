@@ -1,19 +1,23 @@
 //! All places of a configuration, in document order.
-ghost use Rattle.std.specs.Prelude.{◌≡◌, ◌+◌, ◌^◌, ◌<◌, ◌++◌, ◌∷◌, [], None, length, option_map, IfOk, OnOk};
-ghost use Rattle.std.specs.List.{last_or};
+ghost use Rattle.std.specs.Prelude.{◌≡◌, ◌+◌, ◌^◌, ◌<◌, ◌++◌, ◌∷◌, [], false, None, Some, length, map, option_map};
+ghost use Rattle.std.specs.Prelude.{IfOk, OnOk};
+ghost use Rattle.std.specs.List.{filter, last_or, list_any};
 ghost use Rattle.nc_schema.specs.Children.{is_same_number};
 ghost use Rattle.nc_schema.specs.Kinds as kinds;
 ghost use Rattle.nc_schema.specs.Places as places;
+ghost use Rattle.nc_defaults.specs.Children.{children_of};
 ghost use Rattle.nc_defaults.specs.Within.{AreWithin, IsWithin, place_here, places_in};
-ghost use Rattle.nc_defaults.specs.inner.Spans.{AreRuns};
+ghost use Rattle.nc_defaults.specs.inner.Lists.{has_places_at};
+ghost use Rattle.nc_defaults.specs.inner.Runs.{next_at};
+ghost use Rattle.nc_defaults.specs.inner.Spans.{AreRuns, IsRun, part_at};
 ghost use Rattle.nc_defaults.specs.inner.Walks.{places_at, places_under, places_with};
 
 use crate::children::Children;
 use crate::here::{Here, place_of};
 use crate::spans::{Run, has_run, runs_of, step_of};
-use crate::steps::{Steps, found_below, own_below};
+use crate::steps::{Steps, found_next, own_below};
 use nc_names::{Copies, Many, Memory, Step};
-use nc_schema::{Kind, Node};
+use nc_schema::{Kind, Node, Schema};
 use nc_tree::Listed;
 use std::alloc::Global;
 
@@ -66,6 +70,66 @@ pub(crate) fn is_plain(kind: Kind) -> bool
         Kind::Container { presence } => !presence,
         _ => false,
     }
+}
+
+/// The instance of a data node whose rows a run has, as a place.
+fn spot_of<'a>(
+    alloc: Global,
+    schema: &Schema,
+    config: &'a Listed,
+    steps: &[Step],
+    here: Here,
+    node: &Node,
+    run: &Run,
+    step: &Step,
+) -> Result<Spot<'a>, Memory>
+    requires here { IsWithin config.now here }
+    requires run { IsRun (length steps.now) config.now run.now }
+    requires next { next_at (length steps.now) config.now run.now.from ≡ Some step.now }
+    ensures place { IfOk result (λ it. place_here config.now it.steps it.here
+        ≡ places.place_of schema.now (place_here config.now steps.now here) node.now
+        (part_at (length steps.now) config.now run.now)) }
+    ensures within { IfOk result (λ it. IsWithin config.now it.here) }
+{
+    Ok(Spot {
+        steps: found_next(config, run.from, steps, alloc, step)?,
+        here: place_of(schema, config, steps, here, node, (run.from, run.to)),
+    })
+}
+
+/// Adds the instances of a data node that stand in a place, where no places stand in them.
+fn add_ends<'a>(
+    out: &mut Many<Spot<'a>>,
+    children: &Children<'_>,
+    config: &'a Listed,
+    steps: &[Step],
+    here: Here,
+    runs: &[Run],
+    child: (u32, &Node),
+) -> Result<(), Memory>
+    requires within { IsWithin config.now here }
+    requires runs { AreRuns (length steps.now) config.now here.from here.to runs.now }
+    requires ends { list_any (has_places_at children.now.nodes)
+        (children_of children.now.nodes (Some child.0)) ≡ false }
+    ensures places { OnOk result (places_in config.now out.new ≡ places_in config.now out.old
+        ++ places_with children.now (place_here config.now steps.now here) child.entry.0 child.entry.1.now
+        (filter (places.is_of child.entry.0) (map (part_at (length steps.now) config.now) runs.now))) }
+    ensures within { AreWithin config.now out.old → AreWithin config.now out.new }
+{
+    let alloc = out.alloc();
+    let schema = children.schema();
+    let (number, node) = child;
+    for run in runs {
+        if !is_same_number(run.node, Some(number)) {
+            continue;
+        }
+        let Some(step) = step_of(config, steps.len(), run) else {
+            continue;
+        };
+        let below = spot_of(alloc, schema, config, steps, here, node, run, step)?;
+        out.push(below)?;
+    }
+    Ok(())
 }
 
 /// Adds an instance of a data node, whose number is `number - 1`, and all places below it.
@@ -185,6 +249,10 @@ fn add_parts<'a>(
         add_place(out, children, config, spot, number + 1)?;
         return Ok(());
     }
+    if !children.have_places_in(Some(number)) {
+        add_ends(out, children, config, steps, here, runs, (number, node))?;
+        return Ok(());
+    }
     for run in runs {
         if !is_same_number(run.node, Some(number)) {
             continue;
@@ -192,11 +260,8 @@ fn add_parts<'a>(
         let Some(step) = step_of(config, steps.len(), run) else {
             continue;
         };
-        let spot = Spot {
-            steps: found_below(config, run.from, steps, alloc, step)?,
-            here: place_of(schema, config, steps, here, node, (run.from, run.to)),
-        };
-        add_place(out, children, config, spot, number + 1)?;
+        let below = spot_of(alloc, schema, config, steps, here, node, run, step)?;
+        add_place(out, children, config, below, number + 1)?;
     }
     Ok(())
 }
@@ -215,6 +280,9 @@ pub(crate) fn places_below<'a>(
     ensures within { IfOk result (AreWithin config.now) }
 {
     let mut out = Many::new(alloc);
+    if !children.have_places_in(node_there(steps)) {
+        return Ok(out);
+    }
     add_below(&mut out, children, config, steps, here, 0)?;
     Ok(out)
 }

@@ -1,6 +1,10 @@
 //! The steps to a place: those of a row that stands there, or steps of its own where none does.
-ghost use Rattle.std.specs.Prelude.{◌≡◌, ◌++◌, ◌∷◌, [], true, IfOk, IfSome};
+ghost use Rattle.std.specs.Prelude.{◌≡◌, ◌++◌, ◌∷◌, ◌<◌, ◌≤◌, [], true, Some, length, slice_get, take};
+ghost use Rattle.std.specs.Prelude.{IfOk, IfSome};
+ghost use Rattle.nc_names.specs.declared.path.Step.{Step};
+ghost use Rattle.nc_defaults.specs.inner.Runs.{next_at};
 
+use crate::parts::row_of;
 use nc_names::{Copies, Many, Memory, Step, same_keys, same_steps};
 use nc_tree::Listed;
 use std::alloc::Global;
@@ -150,4 +154,47 @@ pub fn found_below<'a>(
         }
     }
     own_below(steps, alloc, copied_step(step)?)
+}
+
+// The first steps of a path, so many of them.
+fn first_steps(path: &[Step], count: usize) -> &[Step]
+    requires { count ≤ length path.now }
+    ensures { result.now ≡ take count path.now }
+{
+    &path[..count]
+}
+
+// The first steps of a path with the next one, where they are these.
+fn led_by<'a>(path: &'a [Step], steps: &[Step]) -> Option<&'a [Step]>
+    ensures { (step : Step) → slice_get path.now (length steps.now) ≡ Some step →
+        IfSome result (λ front. front.now ≡ steps.now ++ step ∷ []) }
+{
+    let depth = steps.len();
+    if path.len() <= depth {
+        return None;
+    }
+    if !same_steps(first_steps(path, depth), steps) {
+        return None;
+    }
+    Some(first_steps(path, depth + 1))
+}
+
+/// The steps with one more, which comes after so many in the row at a place: those of the row where it
+/// begins with the others. Other than in `found_below` that step is not compared.
+pub fn found_next<'a>(
+    config: &'a Listed,
+    at: u64,
+    steps: &[Step],
+    alloc: Global,
+    step: &Step,
+) -> Result<Steps<'a>, Memory>
+    requires within { at < length config.now }
+    requires next { next_at (length steps.now) config.now at ≡ Some step.now }
+    ensures { IfOk result (λ it. it ≡ steps.now ++ step.now ∷ []) }
+{
+    let path = row_of(config, at).path.steps.as_slice();
+    match led_by(path, steps) {
+        Some(front) => Ok(Steps::there(front)),
+        None => own_below(steps, alloc, copied_step(step)?),
+    }
 }

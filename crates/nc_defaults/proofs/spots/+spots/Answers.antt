@@ -1,8 +1,7 @@
 use Rattle.std.proofs.Common.{◌≡◌, ◌++◌, ◌∷◌, ◌∙◌, [], List, false, true, ap, sym, drop, get_or, length, map, refl, subst, arith}
 use Rattle.std.proofs.lemmas.List.{append-nil}
-use Rattle.std.specs.Prelude.{None, Option, Some}
+use Rattle.std.specs.Prelude.{None, Some}
 use Rattle.std.specs.List.{filter}
-use Rattle.nc_names.specs.declared.path.Row.{Row}
 use Rattle.nc_schema.specs.Places.{Place, is_of, node_there, parts_of, place_of}
 use Rattle.nc_schema.specs.Tables.{Tables}
 use Rattle.std.proofs.lemmas.List.Elements.{All-push}
@@ -13,7 +12,6 @@ use Rattle.nc_defaults.specs.declared.spots.Spot.{Spot}
 use Rattle.nc_defaults.specs.declared.spans.Run.{Run}
 use Rattle.nc_defaults.specs.Children.{children_of}
 use Rattle.nc_defaults.specs.Within.{AreWithin, IsWithin, place_here, places_in, rows_between}
-use Rattle.nc_defaults.specs.inner.Runs.{next_at}
 use Rattle.nc_defaults.specs.inner.Spans.{IsRun, part_at}
 use Rattle.nc_defaults.specs.inner.Walks.{places_at, places_at_all, places_under, places_with}
 use Rattle.nc_defaults.proofs.SpanLemmas.{no_places_in, has_step, no_run_left, none_of, nothing_stands, run_at, run_is, run_more, run_passed, runs_are}
@@ -171,13 +169,26 @@ add_parts-returns-clause-places t c =
     ∙ ap (λ ps. places_in config args.out.now ++ ps)
     (runs_are tables place number node config here.from here.to args.runs.now refl c.requires.runs holds (sym c.has_run.ensures ∙ c.if-not-has_run.false))
 
+pub add_parts-returns-then-not-have_places_in-clause-places : goal.add_parts-returns-then-not-have_places_in-clause-places
+add_parts-returns-then-not-have_places_in-clause-places t c =
+    let args = c.args in
+    let config = args.config.now in
+    let place : Place = place_here config args.steps.now args.here in
+    let node = args.child.1.now in
+    let holds : holds_nodes node.kind ≡ true = cc (c.has_places.ensures, c.if-not-has_places.false) in
+    c.in_ok-add_ends.ensures.places
+    ∙ ap (λ ps. places_in config args.out.now ++ ps)
+    (runs_are args.children.now place args.child.0 node config args.here.from args.here.to args.runs.now refl c.requires.runs holds (sym c.has_run.ensures ∙ c.if-not-has_run.false))
+
+pub add_parts-add_ends-requires-clause-ends : goal.add_parts-add_ends-requires-clause-ends
+add_parts-add_ends-requires-clause-ends t c = sym c.have_places_in.ensures ∙ c.if-not-have_places_in.true
+
 pub add_parts-loop-run-preserved : goal.add_parts-loop-run-preserved
 add_parts-loop-run-preserved t c =
     let args = c.args in
     let tables = args.children.now in
     let config = args.config.now in
-    let here = args.here in
-    let place : Place = place_here config args.steps.now here in
+    let place : Place = place_here config args.steps.now args.here in
     let number = args.child.0 in
     let node = args.child.1.now in
     let depth = length args.steps.now in
@@ -185,18 +196,12 @@ add_parts-loop-run-preserved t c =
     let none : Run = record { node = None; from = 0; to = 0 } in
     let run : Run = get_or args.runs.now c.loop-run.run-index none in
     let i = c.loop-run.run-index in
-    let it : IsRun depth config run = run_at depth config here.from here.to args.runs.now i none c.loop-run-test.true c.requires.runs in
-    let step = c.in-Some.step.now in
-    let rows : List Row = rows_between config run.from run.to in
-    let found : Some step ≡ next_at depth config run.from = c.in-Some.ensures.step in
+    let it : IsRun depth config run = run_at depth config args.here.from args.here.to args.runs.now i none c.loop-run-test.true c.requires.runs in
     let passes : is_of number (part_at depth config run) ≡ true = sym (run_is number depth config run it) ∙ sym c.is_same_number.ensures ∙ c.if-not-is_same_number.false in
-    let below : Place = place_here config c.in_ok-found_below.field-0 c.place_of-in-loop-run.result in
-    let longer : c.in_ok-found_below.field-0 ≡ args.steps.now ++ step ∷ [] = c.in_ok-found_below.ensures in
+    let spot : Spot = c.in_ok-below.below in
+    let below : Place = place_here config spot.steps spot.here in
     let is : below ≡ place_of tables place node (part_at depth config run) =
-    ap (λ (steps : List Step). place_here config steps c.place_of-in-loop-run.result) longer
-    ∙ c.place_of-in-loop-run.ensures.place (Some step)
-    ∙ ap (λ (ts : Tables). place_of ts place node (record { step = Some step; rows = rows })) c.schema-schema.ensures
-    ∙ ap (λ (n : Option Step). place_of tables place node (record { step = n; rows = rows })) found in
+    c.in_ok-below.ensures.place ∙ ap (λ (ts : Tables). place_of ts place node (part_at depth config run)) c.schema-schema.ensures in
     let left : List Place = places_with tables place number node (filter (is_of number) (map (part_at depth config) (drop (i + 1) args.runs.now))) in
     let split = run_more tables place number node depth config args.runs.now i none run c.loop-run-test.true refl passes ∙ ap (λ (b : Place). (b ∷ places_under tables b (number + 1)) ++ left) (sym is) in
     record {

@@ -11,7 +11,7 @@ use crate::finder::{Finder, finder_for, first_place};
 use crate::made::{Made, Reason, decision_of};
 use crate::nodes::{data_denial, module_at, subject};
 use crate::plain::{data_default, first_steps, permitted, ruled};
-use crate::visible::{Reads, rows_seen};
+use crate::visible::{Reads, config_of, seen_of, without_nodes};
 use nc_model::{Policy, Rule};
 use nc_names::{Many, Memory, Path, Right, Step};
 use nc_protocol::{Decision, Peer, Rights, Sees};
@@ -19,6 +19,10 @@ use nc_schema::Schema;
 use nc_tree::Config;
 use std::alloc::Global;
 use std::marker::Model;
+
+// So many nodes with all below them are taken out of a configuration one by one, in less time than it takes to
+// make one of the rows that are left.
+const FEW_HIDDEN: usize = 64;
 
 /// The access of one user to the data nodes of a schema. The rules that apply to the user are found once,
 /// with an index that tells which of them is the first that matches, where many nodes are asked for.
@@ -107,14 +111,18 @@ impl<'a> Access<'a> {
         )
     }
 
-    /// The part of a configuration that the user sees (RFC 8341 3.2.4).
+    /// The part of a configuration that the user sees (RFC 8341 3.2.4). Where it lacks a few nodes it shares
+    /// all the rest.
     pub fn visible(&self, alloc: Global, config: &Config) -> Result<Config, Memory>
         ensures { IfOk result (λ it. it
             ≡ sight.visible_rows self.now.tables self.now.policy self.now.peer config.now) }
     {
         let all = config.rows(alloc)?;
-        let rows = rows_seen(alloc, self, all.as_slice())?;
-        Config::from_rows(rows)
+        let seen = seen_of(alloc, self, all.as_slice())?;
+        if seen.hidden.len() <= FEW_HIDDEN {
+            return without_nodes(alloc, config, seen.hidden.as_slice());
+        }
+        config_of(alloc, seen.rows.as_slice())
     }
 }
 

@@ -1,13 +1,15 @@
 //! What a user sees of a configuration (RFC 8341 3.2.4).
-ghost use Rattle.std.specs.Prelude.{◌≡◌, ◌≤◌, ◌==◌, Bool, List, [], true, length, map, take, IfOk, OnOk, ◌∷◌, ◌++◌};
-ghost use Rattle.std.specs.List.{filter, list_all};
+ghost use Rattle.std.specs.Prelude.{◌≡◌, ◌≤◌, ◌==◌, ◌+◌, ◌||◌, ◌&&◌, not, Bool, List, [], true, length, map, take, IfOk, OnOk, ◌∷◌, ◌++◌};
+ghost use Rattle.std.specs.List.{filter, list_all, list_any};
 ghost use Rattle.nc_names.specs.Same.{is_same_step};
 ghost use Rattle.nc_names.specs.declared.path.Step.{Step};
 ghost use Rattle.nc_model.specs.Sight.{beginnings};
+ghost use Rattle.nc_nacm.specs.inner.Hidden.{rows_beside, rows_read};
 ghost use Rattle.nc_nacm.specs.inner.Trails.{IsTrail};
 
 use crate::plain::first_steps;
-use nc_names::{Copies, Many, Memory, Row, Step};
+use nc_names::{Copies, Many, Memory, Path, Row, Step, same_steps};
+use nc_tree::Config;
 use std::alloc::Global;
 
 /// Knows at which nodes reading is permitted.
@@ -70,35 +72,117 @@ fn seen_after<R: Reads>(reader: &R, last: &[Step], seen: usize, steps: &[Step]) 
     seen_from(reader, steps, common)
 }
 
-/// The rows that are seen. Of a row's nodes those are looked at that the row before does not have.
-pub(crate) fn rows_seen<R: Reads>(
+/// What a user sees of some rows.
+#[derive(Drop)]
+pub(crate) struct Seen<'a> {
+    /// The rows that are seen.
+    pub(crate) rows: Many<&'a Row>,
+    /// The nodes at or below which all others stand.
+    pub(crate) hidden: Many<&'a [Step]>,
+}
+
+/// What is seen of some rows. Of a row's nodes those are looked at that the row before does not have.
+pub(crate) fn seen_of<'a, R: Reads>(
     alloc: Global,
     reader: &R,
-    rows: &[&Row],
-) -> Result<Many<Row>, Memory>
-    ensures { IfOk result (λ it. it
-        ≡ filter (λ row. list_all (R.reads reader.now) (beginnings row.path.steps))
-        (map (λ row. row.now) rows.now)) }
+    rows: &[&'a Row],
+) -> Result<Seen<'a>, Memory>
+    ensures rows { IfOk result (λ it. map (λ row. row.now) it.rows
+        ≡ rows_read (R.reads reader.now) (map (λ row. row.now) rows.now)) }
+    ensures hidden { IfOk result (λ it. rows_beside (map (λ node. node.now) it.hidden)
+        (map (λ row. row.now) rows.now) ≡ rows_read (R.reads reader.now) (map (λ row. row.now) rows.now)) }
 {
-    let mut out = Many::new(alloc);
+    let mut seen_rows = Many::new(alloc);
+    let mut hidden = Many::new(alloc);
     let mut last: &[Step] = &[];
     let mut seen = 0;
-    for row in rows {
+    for one in rows {
+        let row: &'a Row = *one;
         let steps = row.path.steps.as_slice();
         seen = seen_after(reader, last, seen, steps);
         last = steps;
-        push_seen(&mut out, row, seen)?;
+        push_seen(&mut seen_rows, row, seen)?;
+        push_hidden(&mut hidden, steps, seen)?;
     }
-    Ok(out)
+    Ok(Seen {
+        rows: seen_rows,
+        hidden,
+    })
 }
 
 /// Adds a row where reading is permitted up to its own node.
-fn push_seen(out: &mut Many<Row>, row: &Row, seen: usize) -> Result<(), Memory>
-    ensures { OnOk result (out.new
-        ≡ out.old ++ filter (λ row. seen == length row.path.steps) (row.now ∷ [])) }
+fn push_seen<'a>(out: &mut Many<&'a Row>, row: &'a Row, seen: usize) -> Result<(), Memory>
+    ensures { OnOk result (map (λ one. one.now) out.new
+        ≡ map (λ one. one.now) out.old ++ filter (λ row. seen == length row.path.steps) (row.now ∷ [])) }
 {
     if seen == row.path.steps.len() {
-        out.push(row.copy()?)?;
+        out.push(row)?;
     }
     Ok(())
+}
+
+/// Adds the first node on a path at which reading is not permitted, where there is one and it is not the
+/// last that was added.
+fn push_hidden<'a>(out: &mut Many<&'a [Step]>, steps: &'a [Step], seen: usize) -> Result<(), Memory>
+    requires { seen ≤ length steps.now }
+    ensures { OnOk result ((test : List Step → Bool) → list_any test (map (λ node. node.now) out.new)
+        ≡ (list_any test (map (λ node. node.now) out.old)
+        || not (seen == length steps.now) && test (take (seen + 1) steps.now))) }
+{
+    if seen == steps.len() {
+        return Ok(());
+    }
+    let node = first_steps(steps, seen + 1);
+    if !is_last(out.as_slice(), node) {
+        out.push(node)?;
+    }
+    Ok(())
+}
+
+/// Whether a node is the last of some.
+fn is_last(nodes: &[&[Step]], node: &[Step]) -> bool
+    ensures { result ≡ true → (test : List Step → Bool) → test node.now ≡ true
+        → list_any test (map (λ one. one.now) nodes.now) ≡ true }
+{
+    match nodes.last() {
+        Some(last) => same_steps(*last, node),
+        None => false,
+    }
+}
+
+fn path_of(alloc: Global, steps: &[Step]) -> Result<Path, Memory>
+    ensures { IfOk result (λ it. it.steps ≡ steps.now) }
+{
+    let mut copied = Many::new(alloc);
+    for step in steps {
+        copied.push(step.copy()?)?;
+    }
+    Ok(Path { steps: copied })
+}
+
+/// A configuration without what stands at some nodes and below them. It shares all the rest.
+pub(crate) fn without_nodes(
+    alloc: Global,
+    config: &Config,
+    nodes: &[&[Step]],
+) -> Result<Config, Memory>
+    ensures { IfOk result (λ it. it ≡ rows_beside (map (λ node. node.now) nodes.now) config.now) }
+{
+    let mut rest = config.copy()?;
+    for node in nodes {
+        let path = path_of(alloc, *node)?;
+        rest.remove(&path)?;
+    }
+    Ok(rest)
+}
+
+/// A configuration of some rows.
+pub(crate) fn config_of(alloc: Global, rows: &[&Row]) -> Result<Config, Memory>
+    ensures { IfOk result (λ it. it ≡ map (λ row. row.now) rows.now) }
+{
+    let mut copied = Many::new(alloc);
+    for row in rows {
+        copied.push(row.copy()?)?;
+    }
+    Config::from_rows(copied)
 }

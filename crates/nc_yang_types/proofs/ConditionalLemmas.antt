@@ -271,9 +271,9 @@ module _ (scoping : Scoping) (meanings : Meanings) (k : ℕ) (members : List ℕ
       by false e takes = absurd (takes_not (sym is ∙ e) takes)
 
 -- what is told of a type is told by the numbers of its members
-pub tells_taking : (meanings : Meanings) (k : ℕ) (graph : List (List ℕ)) (members slice : List ℕ) → graph ≡ member_graph meanings → IsReachedFrom graph k members → slice ≡ members → (text : List ℕ) (told : Bool) →
+pub tells_taking : (meanings : Meanings) (k : ℕ) (edges : List (List ℕ)) (members slice : List ℕ) → edges ≡ member_graph meanings → IsReachedFrom edges k members → slice ≡ members → (text : List ℕ) (told : Bool) →
     told ≡ names_among meanings slice k text → TellsTaking meanings k text told
-tells_taking meanings k graph members slice is known same text told told_is =
+tells_taking meanings k edges members slice is known same text told told_is =
     let reached : IsReachedFrom (member_graph meanings) k slice = subst (IsReachedFrom (member_graph meanings) k) (sym same) (subst (λ g. IsReachedFrom g k members) is known) in
     λ scoping on are l here. told_so scoping meanings k slice reached on are l here text told told_is
 

@@ -9,11 +9,19 @@ use Rattle.nc_names.specs.Limits.{most_requests}
 use Rattle.nc_model.specs.declared.entry.Entry.{Entry}
 use Rattle.nc_model.specs.declared.event.Event.{Event}
 use Rattle.nc_model.specs.Desks.{Entered, Home, is_own, own_of}
+use Rattle.nc_model.specs.Step.{may_come_of}
+use Rattle.nc_model.proofs.OutcomeLemmas.{fits_may_come}
 use Rattle.nc_outside.specs.Clocks.{TellsAnswer}
 use Rattle.nc_machine.specs.Lasting.{Lasting, name_of}
 use Rattle.nc_machine.specs.Seats.{SoloStands, TellsReadings}
-use Rattle.nc_machine.specs.Serving.{GoesOn, Serving, StandsFor}
+use Rattle.nc_machine.specs.Serving.{GoesOn, Makes, Serving, StandsFor}
 use Rattle.nc_machine.proofs.Names.{name_is_some, named_once}
+
+-- what the machine makes of an event may come of it
+pub made_may_come : {K : Type 0} (old new : Serving K) (event : Event) (at : ℕ) (e : Entry) →
+    Makes old new event at e → may_come_of event e.outcome ≡ true
+made_may_come old new event at e made =
+    subst (λ (v : Event). may_come_of v e.outcome ≡ true) made.event_is (fits_may_come old.state e made.fits)
 
 pub none_read : (given : Option (List ℕ)) → IfSome given (TellsReadings given [])
 none_read None = tt

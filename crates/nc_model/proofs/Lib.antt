@@ -7,6 +7,7 @@ pub mod RunningLemmas
 pub mod EndLemmas
 pub mod OwnEnd
 pub mod KindLemmas
+pub mod OutcomeLemmas
 pub mod GoodLemmas
 pub mod LockLemmas
 pub mod LockedLemmas

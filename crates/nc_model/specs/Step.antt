@@ -60,6 +60,27 @@ outcome_of s (Requested session request) failed =
 outcome_of s (End session) failed = if is_live s session then Ended else NotLive
 outcome_of s Reading failed = Noted
 
+-- an outcome of a Start: the session is live, or there is no place for it
+abbrev pub is_of_start : Outcome → Bool
+is_of_start (Started session) = true
+is_of_start (Full live last) = true
+is_of_start outcome = false
+
+-- an outcome of a request: it is answered, or its session is not live
+abbrev pub is_of_request : Outcome → Bool
+is_of_request (Answered verdict reply) = true
+is_of_request NotLive = true
+is_of_request outcome = false
+
+-- an outcome that may come of an event, in whatever state
+abbrev pub may_come_of : Event → Outcome → Bool
+may_come_of (Start peer) outcome = is_of_start outcome
+may_come_of (Requested session request) outcome = is_of_request outcome
+may_come_of (End session) Ended = true
+may_come_of (End session) NotLive = true
+may_come_of Reading Noted = true
+may_come_of event outcome = false
+
 -- the operation is done
 abbrev pub is_done : Verdict → Bool
 is_done Done = true

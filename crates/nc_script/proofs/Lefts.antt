@@ -1,18 +1,17 @@
 -- How an entry leaves its session.
-use Rattle.std.proofs.Common.{◌≡◌, ◌≢◌, ◌⊎◌, ◌&&◌, ◌+◌, ℕ, Bool, true, false, length, refl, sym, ap, subst, ◌∙◌, inl, inr}
+use Rattle.std.proofs.Common.{◌≡◌, ◌≢◌, ◌⊎◌, ◌&&◌, ℕ, Bool, true, false, refl, sym, ap, subst, ◌∙◌, inl, inr}
 use Rattle.std.specs.Prelude.{if◌then◌else◌}
 use Rattle.nc_message.specs.declared.tree.Tree.{Tree}
 use Rattle.nc_model.specs.Access.{sees_of}
 use Rattle.nc_model.specs.State.{State, expired, is_live}
-use Rattle.nc_model.specs.Step.{Fits, has_failed, is_done, is_full, outcome_of}
+use Rattle.nc_model.specs.Step.{Fits, has_failed, is_done, outcome_of}
 use Rattle.nc_model.specs.Verdict.{verdict}
 use Rattle.nc_model.specs.declared.entry.Entry.{Entry}
 use Rattle.nc_model.specs.declared.event.Event.{Event}
-use Rattle.nc_model.specs.declared.event.Event.TheVariants.{Start, Request as Requested, End, Reading}
+use Rattle.nc_model.specs.declared.event.Event.TheVariants.{Request as Requested, End, Reading}
 use Rattle.nc_model.specs.declared.event.Outcome.{Outcome}
 use Rattle.nc_model.specs.declared.event.Outcome.TheVariants.{Started, Full, Answered, NotLive, Ended, Noted}
 use Rattle.nc_protocol.specs.Reply.{reply_of}
-use Rattle.nc_protocol.specs.declared.peer.Peer.{Peer}
 use Rattle.nc_protocol.specs.declared.request.Request.{Request}
 use Rattle.nc_protocol.specs.declared.verdict.Verdict.{Verdict}
 use Rattle.nc_session.specs.Sessions.{IsAnswered, is_close}
@@ -79,16 +78,6 @@ end_comes s e session fits is = by (is_live (expired s e.at) session) (came s e 
     by : (live : Bool) → e.outcome ≡ (if live then Ended else NotLive) → (e.outcome ≡ Ended) ⊎ (e.outcome ≡ NotLive)
     by true out = inl out
     by false out = inr out
-
-pub start_comes : (s : State) (e : Entry) (peer : Peer) → Fits s e → e.event ≡ Start peer
-    → ((n : ℕ) × (e.outcome ≡ Started n)) ⊎ ((live : ℕ) × (last : ℕ) × (e.outcome ≡ Full live last))
-start_comes s e peer fits is =
-    let t = expired s e.at in by (is_full t) (length t.sessions) t.last (t.last + 1) (came s e (Start peer) fits is)
-  where
-    by : (full : Bool) (live last n : ℕ) → e.outcome ≡ (if full then Full live last else Started n)
-        → ((m : ℕ) × (e.outcome ≡ Started m)) ⊎ ((l : ℕ) × (k : ℕ) × (e.outcome ≡ Full l k))
-    by true live last n out = inr (live, last, out)
-    by false live last n out = inl (n, out)
 
 pub read_comes : (s : State) (e : Entry) → Fits s e → e.event ≡ Reading → e.outcome ≡ Noted
 read_comes s e fits is = came s e Reading fits is

@@ -1,5 +1,5 @@
 -- A machine that goes on by entries.
-use Rattle.std.proofs.Common.{◌≡◌, ◌≤◌, ℕ, List, [], ◌∷◌, ◌++◌, refl, sym, subst, Err}
+use Rattle.std.proofs.Common.{◌≡◌, ◌≤◌, ℕ, true, List, [], ◌∷◌, ◌++◌, refl, sym, subst, Err}
 use Rattle.nc_names.specs.Limits.{most_requests}
 use Rattle.nc_machine.specs.Lasting.{Lasting, lasting}
 use Rattle.nc_machine.specs.Serving.{GoesOn, IsRead, Makes, Serving, read_entry}
@@ -8,6 +8,8 @@ use Rattle.nc_tree.specs.declared.keeper.Keeper.{Ghosts}
 use Rattle.nc_model.specs.declared.entry.Entry.{Entry}
 use Rattle.nc_model.specs.declared.event.Event.{Event}
 use Rattle.nc_model.specs.declared.event.Event.TheVariants.{Reading}
+use Rattle.nc_model.specs.Step.{may_come_of}
+use Rattle.nc_model.proofs.OutcomeLemmas.{fits_may_come}
 use Rattle.nc_script.specs.inner.Entering.{Comes, IsEntered}
 use Rattle.nc_script.specs.declared.fault.StepFault.TheVariants.{Memory}
 
@@ -36,6 +38,12 @@ entered_one old new event at e makes goes few = record {
   made = goes;
   few = few;
 }
+
+-- what was entered of an event may come of it
+pub entered_may_come : {K : Type 0} {words : Lasting K} (old new : Serving K) (event : Event) (at : ℕ) (e : Entry)
+    → IsEntered words old new event at e → may_come_of event e.outcome ≡ true
+entered_may_come old new event at e entered =
+    subst (λ (v : Event). may_come_of v e.outcome ≡ true) entered.event_is (fits_may_come old.state e entered.fits)
 
 pub read_entered : {K : Type 0} {words : Lasting K} (old new : Serving K) (at : ℕ) → IsRead old new at
     → GoesOn words old new (read_entry old at ∷ []) → new.count ≤ most_requests

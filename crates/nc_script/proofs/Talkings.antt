@@ -7,7 +7,8 @@ use Rattle.nc_machine.specs.Serving.{GoesOn, Serving}
 use Rattle.nc_machine.specs.Lasting.{Lasting}
 use Rattle.nc_model.specs.declared.entry.Entry.{Entry}
 use Rattle.nc_model.specs.declared.event.Event.TheVariants.{Start, End}
-use Rattle.nc_model.specs.declared.event.Outcome.TheVariants.{Started, Full as IsFull, Ended, NotLive}
+use Rattle.nc_model.specs.declared.event.Outcome.{Outcome}
+use Rattle.nc_model.specs.declared.event.Outcome.TheVariants.{Started, Full as IsFull, Answered, Ended, NotLive, Noted}
 use Rattle.nc_protocol.specs.declared.peer.Peer.{Peer}
 use Rattle.nc_protocol.specs.declared.request.Request.{Request}
 use Rattle.nc_schema.specs.Tables.{Tables}
@@ -21,7 +22,7 @@ use Rattle.nc_session.specs.Serves.{AsksThese, Course}
 use Rattle.nc_session.specs.Sessions.{entry_text, session_text}
 use Rattle.nc_session.specs.inner.Unseen.{Unseen}
 use Rattle.nc_script.proofs.Hearings.{comes_broken}
-use Rattle.nc_script.proofs.Lefts.{end_comes, start_comes}
+use Rattle.nc_script.proofs.Lefts.{end_comes}
 use Rattle.nc_script.proofs.Made.{made_none, made_same}
 use Rattle.nc_script.proofs.Tallying.{tally_none}
 use Rattle.nc_script.specs.Connections.{Connection, begun}
@@ -109,23 +110,23 @@ module _ {K : Type 0} {words : Lasting K} (number : ℕ) (peer : Peer) (at : ℕ
 
   pub has_begun : (state : State) → Placed e.outcome state → Greets schema state (Ok text)
       → HasBegun words number peer at old new (record { number = number; text = text; state = state; is_over = false })
-  has_begun state placed greets = by (start_comes old.state e peer entered.fits entered.event_is) state placed greets
+  has_begun state placed greets = by e.outcome refl state placed greets
     where
-      by : ((n : ℕ) × (e.outcome ≡ Started n)) ⊎ ((live : ℕ) × (last : ℕ) × (e.outcome ≡ IsFull live last)) → (state : State)
-          → Placed e.outcome state → Greets schema state (Ok text)
+      by : (outcome : Outcome) → e.outcome ≡ outcome → (state : State) → Placed outcome state → Greets schema state (Ok text)
           → HasBegun words number peer at old new (record {
             number = number;
             text = text;
             state = state;
             is_over = false;
           })
-      by (inl (n, out)) (Live session core) placed greets =
-          let is = subst (λ o. Placed o (Live session core)) out placed in started session n core out is.0 is.1 greets
-      by (inl (n, out)) (Over end) placed greets = absurd (subst (λ o. Placed o (Over end)) out placed)
-      by (inr (live, last, out)) (Live session core) placed greets =
-          absurd (subst (λ o. Placed o (Live session core)) out placed)
-      by (inr (live, last, out)) (Over end) placed greets =
-          unplaced live last end out (subst (λ o. Placed o (Over end)) out placed) greets
+      by (Started n) out (Live session core) placed greets = started session n core out placed.0 placed.1 greets
+      by (Started n) out (Over end) placed greets = absurd placed
+      by (IsFull live last) out (Live session core) placed greets = absurd placed
+      by (IsFull live last) out (Over end) placed greets = unplaced live last end out placed greets
+      by (Answered decided reply) out state placed greets = absurd placed
+      by NotLive out state placed greets = absurd placed
+      by Ended out state placed greets = absurd placed
+      by Noted out state placed greets = absurd placed
 
   ungreeted_by : (state : State) (fault : StepFault) → Greets schema state (Err fault) → fault ≡ Memory
   ungreeted_by (Live session core) fault is = is

@@ -1,6 +1,7 @@
 //! One connection of a script.
-ghost use Rattle.std.specs.Prelude.{◌≡◌, ◌≤◌};
+ghost use Rattle.std.specs.Prelude.{◌≡◌, ◌≤◌, true};
 ghost use Rattle.nc_machine.specs.Lasting.{lasting};
+ghost use Rattle.nc_model.specs.Step.{is_of_start};
 ghost use Rattle.nc_outside.specs.Clocks.{last_reading};
 ghost use Rattle.nc_schema.specs.Tables.{Tables};
 ghost use Rattle.nc_script.specs.Connections.{Connection};
@@ -49,6 +50,7 @@ pub(crate) struct Talk {
 
 // The session that a Start comes to.
 fn placed(alloc: Global, outcome: Outcome) -> State
+    requires { is_of_start outcome ≡ true }
     ensures { Placed outcome result }
 {
     match outcome {
@@ -59,9 +61,7 @@ fn placed(alloc: Global, outcome: Outcome) -> State
         Outcome::Full { live, last } => State::Over {
             end: SessionEnd::Full { live, last },
         },
-        _ => State::Over {
-            end: SessionEnd::Memory,
-        },
+        _ => unreachable!(),
     }
 }
 

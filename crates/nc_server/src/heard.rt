@@ -1,9 +1,10 @@
 //! A desk beside which the lines stand: it notes which session is on which line, and hangs up that of a
 //! killed one.
-ghost use Rattle.std.specs.Prelude.{IfErr, List};
+ghost use Rattle.std.specs.Prelude.{◌≡◌, true, IfOk, IfErr, List};
 ghost use Rattle.nc_model.specs.declared.entry.Entry.{Entry};
 ghost use Rattle.nc_model.specs.Desks.{Home, Submits, TellsSpent};
 ghost use Rattle.nc_model.specs.ProperEvents.{IsProperEvent};
+ghost use Rattle.nc_model.specs.Step.{may_come_of};
 
 use crate::lines::Lines;
 use nc_model::{Desk, DeskFault, Entry, Event, Outcome, Spent};
@@ -27,6 +28,7 @@ impl<'e, R: Wait, D: Desk, H: Hangup + Drop> Heard<'e, R, D, H> {
         requires { IsProperEvent event }
         ensures entered { (home : Home) (seen mine : List Entry) → D.stands self.old.desk home seen mine →
             Submits (D.stands self.new.desk home) home.alone seen mine event result }
+        ensures comes { IfOk result (λ e. may_come_of event e.outcome ≡ true) }
         ensures spent { IfErr result (TellsSpent (D.spent self.new.desk)) }
     {
         let mut lines = self.lines.lock(self.rt);
@@ -41,6 +43,7 @@ impl<'e, R: Wait, D: Desk, H: Hangup + Drop> Heard<'e, R, D, H> {
         requires { IsProperEvent event }
         ensures entered { (home : Home) (seen mine : List Entry) → D.stands self.old.desk home seen mine →
             Submits (D.stands self.new.desk home) home.alone seen mine event result }
+        ensures comes { IfOk result (λ e. may_come_of event e.outcome ≡ true) }
         ensures spent { IfErr result (TellsSpent (D.spent self.new.desk)) }
     {
         let entry = self.desk.submit(event)?;

@@ -1,12 +1,11 @@
 -- What an event of a session comes to, and where its entry stands.
-use Rattle.std.proofs.Common.{◌≡◌, ◌≢◌, ◌⊎◌, ◌&&◌, ◌+◌, ℕ, Bool, true, false, List, [], ◌∷◌, ◌++◌, length, refl, sym, ap, subst, ◌∙◌, inl, inr, append-nil, IsTrue}
+use Rattle.std.proofs.Common.{◌≡◌, ◌≢◌, ◌⊎◌, ◌&&◌, ℕ, Bool, true, false, List, [], ◌∷◌, ◌++◌, refl, sym, ap, subst, ◌∙◌, inl, inr, append-nil, IsTrue}
 use Rattle.std.specs.Prelude.{if◌then◌else◌}
 use Rattle.nc_message.specs.declared.tree.Tree.{Tree}
 use Rattle.nc_model.specs.declared.entry.Entry.{Entry}
 use Rattle.nc_model.specs.declared.event.Event.{Event}
-use Rattle.nc_model.specs.declared.event.Event.TheVariants.{Start, End, Request as Requested, Reading}
-use Rattle.nc_model.specs.declared.event.Outcome.TheVariants.{Started, Full, Answered, NotLive, Ended}
-use Rattle.nc_protocol.specs.declared.peer.Peer.{Peer}
+use Rattle.nc_model.specs.declared.event.Event.TheVariants.{End, Request as Requested, Reading}
+use Rattle.nc_model.specs.declared.event.Outcome.TheVariants.{Answered, NotLive, Ended}
 use Rattle.nc_protocol.specs.declared.request.Request.{Request}
 use Rattle.nc_protocol.specs.declared.verdict.Verdict.{Verdict}
 use Rattle.nc_model.specs.Access.{sees_of}
@@ -14,7 +13,7 @@ use Rattle.nc_model.specs.Desks.{Home, IsView, Entered, is_own, own_of}
 use Rattle.nc_model.specs.History.{after}
 use Rattle.nc_protocol.specs.Reply.{reply_of}
 use Rattle.nc_model.specs.State.{expired, is_live}
-use Rattle.nc_model.specs.Step.{outcome_of, is_full, has_failed, is_done}
+use Rattle.nc_model.specs.Step.{outcome_of, has_failed, is_done}
 use Rattle.nc_model.specs.Verdict.{verdict}
 use Rattle.nc_session.specs.declared.standing.Standing.TheVariants.{Live, Closed, Dead}
 use Rattle.nc_session.specs.Sessions.{standing_by, standing_after, is_close}
@@ -83,14 +82,3 @@ end_comes home front mine e session view is =
     by : (live : Bool) → e.outcome ≡ (if live then Ended else NotLive) → (e.outcome ≡ Ended) ⊎ (e.outcome ≡ NotLive)
     by true out = inl out
     by false out = inr out
-
--- and a Start too
-pub start_comes : (home : Home) (front mine : List Entry) (e : Entry) (peer : Peer) → IsView home (front ++ e ∷ []) mine → e.event ≡ Start peer
-    → ((n : ℕ) × (e.outcome ≡ Started n)) ⊎ ((live : ℕ) × (last : ℕ) × (e.outcome ≡ Full live last))
-start_comes home front mine e peer view is =
-    let s = expired (after home.opening front) e.at in
-    by (is_full s) (length s.sessions) s.last (s.last + 1) (came home front mine e (Start peer) view is)
-  where
-    by : (full : Bool) (live last n : ℕ) → e.outcome ≡ (if full then Full live last else Started n) → ((n' : ℕ) × (e.outcome ≡ Started n')) ⊎ ((live' : ℕ) × (last' : ℕ) × (e.outcome ≡ Full live' last'))
-    by true live last n out = inr (live, last, out)
-    by false live last n out = inl (n, out)

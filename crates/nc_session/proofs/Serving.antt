@@ -15,7 +15,7 @@ use Rattle.nc_model.specs.declared.entry.Entry.{Entry}
 use Rattle.nc_model.specs.declared.event.Event.{Event}
 use Rattle.nc_model.specs.declared.event.Event.TheVariants.{Start, End, Request as Requested, Reading}
 use Rattle.nc_model.specs.declared.event.Outcome.{Outcome}
-use Rattle.nc_model.specs.declared.event.Outcome.TheVariants.{Started, Full as IsFull, NotLive, Ended}
+use Rattle.nc_model.specs.declared.event.Outcome.TheVariants.{Started, Full as IsFull, Answered, NotLive, Ended, Noted}
 use Rattle.nc_protocol.specs.declared.request.Request.{Request}
 use Rattle.nc_model.specs.Desks.{IsView, IsLastNumber, is_own, own_of}
 use Rattle.nc_model.specs.Laws.{IsOf}
@@ -34,7 +34,7 @@ use Rattle.nc_session.specs.Serves.{Call, Course, WrotePart, CountedBy, Met, Sta
 use Rattle.nc_session.specs.inner.Turns.{Underway, entered_all, TellsEnd, Stops, Writes, Begins, ComesTo, HasBegun, Ending}
 use Rattle.nc_session.proofs.Ending.{asks_these, own_entries, own_first}
 use Rattle.nc_session.proofs.Killing.{IsRequestOf, all_asked, own_request, was_killed}
-use Rattle.nc_session.proofs.Living.{Lands, end_comes, start_comes}
+use Rattle.nc_session.proofs.Living.{Lands, end_comes}
 use Rattle.nc_session.proofs.Turning.{live_not_dead}
 
 not_spent : {ticket : ℕ} → Spent ticket ≡ Killed → ⊥
@@ -270,15 +270,10 @@ module _ (schema : Tables) (call : Call) (session : ℕ) (Stands : List Entry �
             not_both b = cc
 
 -- a Start is entered
-pub begun : (call : Call) (Then : List Entry → List Entry → Type 0) (IsSpentAt : ℕ → Type 0) (e : Entry) (result : Result ℕ SessionEnd) → ((a b : List Entry) → Then a b → IsView call.home a b)
+pub begun : (call : Call) (Then : List Entry → List Entry → Type 0) (IsSpentAt : ℕ → Type 0) (e : Entry) (result : Result ℕ SessionEnd)
     → Lands Then call.home.alone call.seen (call.mine ++ e ∷ []) (Start call.peer) e → ComesTo e.outcome result → Begins call Then IsSpentAt result
-begun call Then IsSpentAt e result views entered comes = by (start_comes call.home (call.seen ++ entered.others) (call.mine ++ e ∷ []) e call.peer view entered.event_is)
+begun call Then IsSpentAt e result entered comes = by e.outcome refl comes
   where
-    view : IsView call.home ((call.seen ++ entered.others) ++ e ∷ []) (call.mine ++ e ∷ [])
-    view =
-        let P : List Entry → Type 0 = λ x. IsView call.home x (call.mine ++ e ∷ []) in
-        subst P (sym (append_assoc call.seen entered.others (e ∷ []))) (views _ _ entered.stands)
-
     starts : (outcome : Outcome) → e.outcome ≡ outcome → Starts call (entered.others ++ e ∷ []) e outcome
     starts outcome is = record {
       event = entered.event_is;
@@ -288,15 +283,17 @@ begun call Then IsSpentAt e result views entered comes = by (start_comes call.ho
       more_is = refl;
     }
 
-    by : ((n : ℕ) × (e.outcome ≡ Started n)) ⊎ ((live : ℕ) × (last : ℕ) × (e.outcome ≡ IsFull live last)) → Begins call Then IsSpentAt result
-    by (inl (n, is)) =
-        let gives : result ≡ Ok n = subst (λ (o : Outcome). ComesTo o result) is comes in
+    by : (outcome : Outcome) → e.outcome ≡ outcome → ComesTo outcome result → Begins call Then IsSpentAt result
+    by (Started n) is gives =
         let P : Result ℕ SessionEnd → Type 0 = λ r. Begins call Then IsSpentAt r in
         subst P (sym gives) (entered.others ++ e ∷ [], e, starts (Started n) is, entered.stands)
-    by (inr (live, last, is)) =
-        let gives : result ≡ Err (Full live last) = subst (λ (o : Outcome). ComesTo o result) is comes in
+    by (IsFull live last) is gives =
         let P : Result ℕ SessionEnd → Type 0 = λ r. Begins call Then IsSpentAt r in
         subst P (sym gives) (entered.others ++ e ∷ [], e, starts (IsFull live last) is, entered.stands)
+    by (Answered decided reply) is gives = absurd gives
+    by NotLive is gives = absurd gives
+    by Ended is gives = absurd gives
+    by Noted is gives = absurd gives
 
 -- no Start is entered: want of memory, or the desk is spent
 pub start_for_memory : (call : Call) (Then : List Entry → List Entry → Type 0) (IsSpentAt : ℕ → Type 0) (e : Entry) → Lands Then call.home.alone call.seen call.mine Reading e

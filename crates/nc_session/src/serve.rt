@@ -1,9 +1,10 @@
 //! A session at any desk.
-ghost use Rattle.std.specs.Prelude.{◌≡◌, ◌<◌, ℕ, List, length, IfOk};
+ghost use Rattle.std.specs.Prelude.{◌≡◌, ◌<◌, ℕ, true, List, length, IfOk};
 ghost use Rattle.nc_outside.specs.Streams.{Streams, streams};
 ghost use Rattle.nc_schema.specs.Tables.{Tables};
 ghost use Rattle.nc_model.specs.declared.entry.Entry.{Entry};
 ghost use Rattle.nc_model.specs.Desks.{Home};
+ghost use Rattle.nc_model.specs.Step.{is_of_start};
 ghost use Rattle.nc_session.specs.Serves.{Call, Serves, called};
 ghost use Rattle.nc_session.specs.ServerHello.{hello_text};
 ghost use Rattle.nc_session.specs.inner.Turns.{Begins, ComesTo, HasBegun, Stops, Underway, Writes, entered_all, Ending};
@@ -25,12 +26,13 @@ const REQUESTS: u64 = MOST_REQUESTS + 1;
 
 // What a start came to.
 fn started(outcome: Outcome) -> Result<u32, SessionEnd>
+    requires { is_of_start outcome ≡ true }
     ensures { ComesTo outcome result }
 {
     match outcome {
         Outcome::Started { session } => Ok(session),
         Outcome::Full { live, last } => Err(SessionEnd::Full { live, last }),
-        _ => Err(SessionEnd::Memory),
+        _ => unreachable!(),
     }
 }
 

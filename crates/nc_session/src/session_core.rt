@@ -107,7 +107,7 @@ impl SessionCore {
             return Ok(());
         };
         let Outcome::Answered { reply, .. } = &entry.outcome else {
-            return Ok(());
+            unreachable!();
         };
         push_reply(self.alloc, base, reply, out)
     }
@@ -128,7 +128,7 @@ impl SessionCore {
             return Ok(());
         };
         let Outcome::Answered { reply, .. } = &entry.outcome else {
-            return Ok(());
+            unreachable!();
         };
         send_reply(self.alloc, base, reply, out, sink)
     }

@@ -1,8 +1,9 @@
 //! One event in a turn of its own.
-ghost use Rattle.std.specs.Prelude.{◌≡◌, ◌++◌, ◌∷◌, [], false, IfErr};
+ghost use Rattle.std.specs.Prelude.{◌≡◌, ◌++◌, ◌∷◌, [], false, true, IfOk, IfErr};
 ghost use Rattle.nc_model.specs.declared.event.Event.TheVariants.{End, Reading};
 ghost use Rattle.nc_model.specs.Desks.{Submits, Enters, TellsSpent, last_ticket};
 ghost use Rattle.nc_model.specs.ProperEvents.{IsProperEvent};
+ghost use Rattle.nc_model.specs.Step.{may_come_of};
 ghost use Rattle.nc_turn.specs.Passes.{view, first_of, IsOf, IsIdle, IsHolding};
 ghost use Rattle.nc_turn.specs.Views.{written, given_on};
 ghost use Rattle.nc_machine.specs.Lasting.{lasting};
@@ -47,6 +48,7 @@ pub(crate) fn enter<R: Wait, K: Keeper, C: Clock>(
     ensures pass { IsPassOn (held_home K.row.coded C.given) turn.now pass.old pass.new }
     ensures entered { Submits (Shows (view pass.new)) false
         (view pass.old).seen (view pass.old).mine event result }
+    ensures comes { IfOk result (λ e. may_come_of event e.outcome ≡ true) }
     ensures spent { IfErr result (TellsSpent (λ ticket. (ticket ≡ last_ticket)
         × ((view pass.new).found ≡ last_ticket))) }
 {

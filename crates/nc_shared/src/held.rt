@@ -1,8 +1,9 @@
 //! What lies in the turn: the machine, and the clock by which it is read.
-ghost use Rattle.std.specs.Prelude.{◌≡◌, ◌<◌, MatchResult};
+ghost use Rattle.std.specs.Prelude.{◌≡◌, ◌<◌, true, IfOk, MatchResult};
 ghost use Rattle.nc_names.specs.Limits.{most_requests};
 ghost use Rattle.nc_model.specs.declared.event.Event.TheVariants.{End, Reading};
 ghost use Rattle.nc_model.specs.ProperEvents.{IsProperEvent};
+ghost use Rattle.nc_model.specs.Step.{may_come_of};
 ghost use Rattle.nc_machine.specs.Lasting.{lasting};
 ghost use Rattle.nc_shared.specs.Holding.{Gains, reading_entry};
 
@@ -61,6 +62,7 @@ impl<K: Keeper, C: Clock> Held<K, C> {
             C.count C.given self.old self.new e)
             (λ read. Gains K.row.coded (lasting K.doubt K.moment K.leaves K.continues)
             C.count C.given self.old self.new (reading_entry read)) }
+        ensures comes { IfOk result (λ e. may_come_of event e.outcome ≡ true) }
     {
         let at = self.clock.now();
         match self.machine.handle(event, at) {

@@ -11,7 +11,7 @@ use Rattle.nc_protocol.specs.declared.peer.Peer.{Peer}
 use Rattle.nc_schema.specs.Tables.{Tables}
 use Rattle.nc_session.specs.declared.base.Base.{Base}
 use Rattle.nc_session.specs.declared.end.SessionEnd.{SessionEnd}
-use Rattle.nc_session.specs.declared.end.SessionEnd.TheVariants.{InputEnded, Killed, Full, Memory as EndMemory}
+use Rattle.nc_session.specs.declared.end.SessionEnd.TheVariants.{InputEnded, Killed, Full}
 use Rattle.nc_session.specs.Cores.{IsAt}
 use Rattle.nc_session.specs.ServerHello.{hello_text}
 use Rattle.nc_session.specs.Sessions.{session_text}
@@ -44,14 +44,13 @@ pub record Stands (schema : Tables) (talk : Talk) (c : Connection) : Type 0 wher
 
 -- ---- a connection begins
 
--- the state in which a connection begins, by what its Start came to
+-- the state in which a connection begins, by what its Start came to: a session, or no place for one
 abbrev pub Placed : Outcome → State → Type 0
 Placed (Started number) (Live session core) = (session ≡ number) × ((base : Base) → IsAt core base [] [])
 Placed (Started number) (Over end) = ⊥
 Placed (IsFull live last) (Live session core) = ⊥
 Placed (IsFull live last) (Over end) = end ≡ Full live last
-Placed outcome (Live session core) = ⊥
-Placed outcome (Over end) = end ≡ EndMemory
+Placed outcome state = ⊥
 
 -- what it is told first: the hello, or nothing where there is no place
 abbrev pub Greets : Tables → State → Result (List ℕ) StepFault → Type 0

@@ -195,11 +195,11 @@ Begins call Stands IsSpentAt (Err (Full live last)) =
 Begins call Stands IsSpentAt (Err end) =
     (more : List Entry) × Unstarted call.home call.seen IsSpentAt more end × Stands (call.seen ++ more) call.mine
 
--- a start comes to this; what else an outcome may be never comes of a start
+-- a start comes to this, and to nothing else
 abbrev pub ComesTo : Outcome → Result ℕ SessionEnd → Type 0
 ComesTo (Started session) result = result ≡ Ok session
 ComesTo (IsFull live last) result = result ≡ Err (Full live last)
-ComesTo outcome result = result ≡ Err Memory
+ComesTo outcome result = ⊥
 
 -- a session has begun, and nothing is read or written yet
 pub record HasBegun (call : Call) (session : ℕ) (Stands : List Entry → List Entry → Type 0) (now : Streams)

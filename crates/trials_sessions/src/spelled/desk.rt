@@ -1,4 +1,7 @@
 //! A desk of tests, which stands for no history: its answers are one fixed text.
+ghost use Rattle.std.specs.Prelude.{◌≡◌, true, IfOk};
+ghost use Rattle.nc_model.specs.Step.{is_of_request, is_of_start, may_come_of};
+
 mod sessions;
 
 use super::REPLY;
@@ -38,7 +41,9 @@ fn read(alloc: Global, text: &[u8]) -> Result<Tree, Memory> {
     }
 }
 
-fn answered(alloc: Global) -> Result<Outcome, Memory> {
+fn answered(alloc: Global) -> Result<Outcome, Memory>
+    ensures { IfOk result (λ it. is_of_request it ≡ true) }
+{
     let reply = Reply::plain(read(alloc, REPLY.as_bytes())?);
     Ok(Outcome::Answered {
         verdict: Verdict::Done,
@@ -46,7 +51,9 @@ fn answered(alloc: Global) -> Result<Outcome, Memory> {
     })
 }
 
-fn entry_of(event: Event, outcome: Outcome) -> Entry {
+fn entry_of(event: Event, outcome: Outcome) -> Entry
+    ensures { result.outcome ≡ outcome }
+{
     Entry {
         number: 0,
         at: 0,
@@ -88,21 +95,27 @@ impl SmallDesk {
         }
     }
 
-    fn start(&self) -> Outcome {
+    fn start(&self) -> Outcome
+        ensures { is_of_start result ≡ true }
+    {
         match self.trouble {
             Trouble::Full => Outcome::Full { live: 64, last: 70 },
             _ => Outcome::Started { session: 1 },
         }
     }
 
-    fn answer(&self) -> Result<Outcome, Memory> {
+    fn answer(&self) -> Result<Outcome, Memory>
+        ensures { IfOk result (λ it. is_of_request it ≡ true) }
+    {
         if self.is_dead() {
             return Ok(Outcome::NotLive);
         }
         answered(self.alloc)
     }
 
-    fn outcome(&self, event: &Event) -> Result<Outcome, Memory> {
+    fn outcome(&self, event: &Event) -> Result<Outcome, Memory>
+        ensures { IfOk result (λ it. may_come_of event.now it ≡ true) }
+    {
         match event {
             Event::Start { .. } => Ok(self.start()),
             Event::Request { .. } => self.answer(),
@@ -112,7 +125,9 @@ impl SmallDesk {
     }
 
     // What comes of the next call, with this event.
-    fn called(&mut self, event: &Event) -> Result<Outcome, DeskFault> {
+    fn called(&mut self, event: &Event) -> Result<Outcome, DeskFault>
+        ensures { IfOk result (λ it. may_come_of event.now it ≡ true) }
+    {
         self.calls = self.calls.saturating_add(1);
         if self.is_spent() {
             return Err(DeskFault::Spent { ticket: 9 });

@@ -2,7 +2,7 @@ use Rattle.std.proofs.Common.{◌<◌, refl, arith}
 use Rattle.nc_names.specs.Limits.{most_requests}
 use Rattle.nc_model.specs.declared.event.Event.TheVariants.{Reading}
 use Rattle.nc_machine.specs.Serving.{read_entry}
-use Rattle.nc_machine.proofs.Standing.{solo_entered}
+use Rattle.nc_machine.proofs.Standing.{made_may_come, solo_entered}
 use Rattle.nc_machine.proofs.solo.SoloDesk.submit.Goals as goal
 
 pub returns-in-Ok-clause-entered : goal.returns-in-Ok-clause-entered
@@ -12,6 +12,9 @@ returns-in-Ok-clause-entered g c =
     solo_entered _ _ c.args.self.now.machine c.handle.new.self _ _ _ _ _ home seen mine c.args.event _ c.in-Ok.entry
     c.now-at.ensures.count c.now-at.ensures.told room c.in-Ok.ensures.entered.event_is c.in-Ok.ensures.entered.at_is
     c.in-Ok.ensures.goes_on stood
+
+pub returns-in-Ok-clause-comes : goal.returns-in-Ok-clause-comes
+returns-in-Ok-clause-comes g c = made_may_come _ _ c.args.event _ c.in-Ok.entry c.in-Ok.ensures.entered
 
 pub returns-in-Err-clause-entered : goal.returns-in-Err-clause-entered
 returns-in-Err-clause-entered g c =

@@ -1,4 +1,5 @@
 use Rattle.std.proofs.Common.{refl}
+use Rattle.nc_machine.proofs.Standing.{made_may_come}
 use Rattle.nc_shared.proofs.Gaining.{reading_is, seat_more}
 use Rattle.nc_shared.proofs.held.Held.submit.Goals as goal
 
@@ -14,6 +15,7 @@ returns-in-Ok g c = record {
           c.now-at.ensures.told c.in-Ok.ensures.entered.at_is c.in-Ok.ensures.goes_on stood;
     },
   );
+  comes = made_may_come _ _ c.args.event _ c.in-Ok.entry c.in-Ok.ensures.entered;
 }
 
 pub returns-in-Err : goal.returns-in-Err
@@ -26,4 +28,5 @@ returns-in-Err g c =
             seat_more _ _ c.args.self.now.machine c.handle.new.self _ _ _ _ _ _ history _ _ c.now-at.ensures.count
             c.now-at.ensures.told refl goes stood;
       };
+      comes = tt;
     }

@@ -1,5 +1,6 @@
 -- A session from one request to the next.
 use Rattle.std.proofs.Common.{◌≡◌, ◌≢◌, ◌⊎◌, ℕ, ◌≤◌, List, [], ◌∷◌, ◌++◌, length, map, refl, sym, ap, subst, ◌∙◌, append_assoc, length-append, arith, Option, Some, None, IsTrue, Result, Ok, Err}
+use Rattle.std.specs.Prelude.{OnOk}
 use Rattle.std.proofs.lemmas.List.Elements.{All-push, Contains-append_left}
 use Rattle.std.specs.List.{Contains}
 use Rattle.std.specs.Io.KnownBytes.{append_known, prepend_known, IsAtEnd}
@@ -326,6 +327,11 @@ module _ (schema : Tables) (call : Call) (session : ℕ) (Stands : List Entry �
 pub based_on : (U : Mode → ℕ → List ℕ → Type 0) (phase : Phase) (chosen base : Base) (bytes : List ℕ) (given : List Request) → phase ≡ Serving chosen
     → IsIn U phase base bytes given → phase ≡ Serving base
 based_on U phase chosen base bytes given is at = is ∙ ap Serving (subst (λ (p : Phase). IsIn U p base bytes given) is at).0
+
+-- what holds whatever the answer is
+pub on_ok : {T E P : Type 0} (result : Result T E) → P → OnOk result P
+on_ok (Ok value) is = is
+on_ok (Err fault) is = tt
 
 -- how an answer was written where its session was live
 pub settles_failed : (body : List ℕ) (before now : Option (List ℕ)) (f0 f1 : ℕ) (standing : Standing) (end : SessionEnd) → standing ≢ Dead

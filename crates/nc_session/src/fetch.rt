@@ -4,7 +4,7 @@ ghost use Rattle.nc_protocol.specs.declared.request.Request.{Request as SpecRequ
 ghost use Rattle.nc_protocol.specs.Proper.{IsProper};
 ghost use Rattle.nc_session.specs.declared.base.Base.{Base};
 ghost use Rattle.nc_session.specs.Cores.{IsAt};
-ghost use Rattle.nc_session.specs.inner.Turns.{ReadsOn, StepsOn, Fetches, intake, IsProperStep, IsProperAsk};
+ghost use Rattle.nc_session.specs.inner.Turns.{HasRead, ReadsOn, StepsOn, Fetches, intake, IsProperStep, IsProperAsk};
 
 use crate::{SessionCore, SessionEnd, Todo};
 use nc_outside::Source;
@@ -74,7 +74,8 @@ pub(crate) fn fetch<S: Source>(
     source: &mut S,
     buffer: &mut [u8],
 ) -> Result<Request, SessionEnd>
-    requires { 0 < length buffer.old }
+    requires some { 0 < length buffer.old }
+    requires read { HasRead core.old }
     ensures fetches { (base : Base) (bytes : List ℕ) (given : List SpecRequest)
         → IsAt core.old base bytes given → Fetches core.new base bytes given
         (intake (S.left source.old) (S.ends source.old) (S.faults source.old))
@@ -88,5 +89,5 @@ pub(crate) fn fetch<S: Source>(
             Err(end) => return Err(end),
         }
     }
-    Err(SessionEnd::InputEnded)
+    unreachable!()
 }

@@ -7,7 +7,7 @@ ghost use Rattle.nc_model.specs.Desks.{Home};
 ghost use Rattle.nc_model.specs.Step.{is_of_start};
 ghost use Rattle.nc_session.specs.Serves.{Call, Serves, called};
 ghost use Rattle.nc_session.specs.ServerHello.{hello_text};
-ghost use Rattle.nc_session.specs.inner.Turns.{Begins, ComesTo, HasBegun, Stops, Underway, Writes, entered_all, Ending};
+ghost use Rattle.nc_session.specs.inner.Turns.{Begins, ComesTo, HasBegun, HasRead, Stops, Underway, Writes, entered_all, Ending};
 
 use crate::reply::send;
 use crate::server_hello::hello;
@@ -75,7 +75,8 @@ fn converse<Q: Desk, S: Source, K: Sink>(
     source: &mut S,
     sink: &mut K,
 ) -> Met
-    requires { 0 < length buffer.old }
+    requires some { 0 < length buffer.old }
+    requires read { HasRead core.old }
     ensures { (schema : Tables) (call : Call)
         → Underway schema call session (Q.stands desk.old call.home) entered_all core.old
         (streams (S.left source.old) (S.ends source.old) (S.faults source.old)

@@ -10,7 +10,7 @@ ghost use Rattle.nc_session.specs.Cores.{IsAt, IsIn, TakesPiece, IsNext, IsPrope
 ghost use Rattle.nc_schema.specs.Tables.{Tables};
 ghost use Rattle.nc_session.specs.Sessions.{IsAnswered, entry_text};
 ghost use Rattle.nc_session.specs.inner.Steps.{Meets, HasMet, GivesMore, IsStreamEnd, Takes};
-ghost use Rattle.nc_session.specs.inner.Turns.{Writes};
+ghost use Rattle.nc_session.specs.inner.Turns.{IsServing, Writes};
 ghost use Rattle.nc_session.specs.inner.Unseen.{Unseen, Gives};
 
 use crate::client_hello::base_of;
@@ -119,13 +119,14 @@ impl SessionCore {
         out: &mut Bytes,
         sink: &mut K,
     ) -> Result<(), SessionEnd>
-        requires { IsAnswered entry.now.outcome }
+        requires answered { IsAnswered entry.now.outcome }
+        requires serving { IsServing self.now }
         ensures { (schema : Tables) (base : Base) → self.now.phase ≡ Serving base
             → Writes (entry_text schema base entry.now.outcome)
             (K.taken sink.old) (K.taken sink.new) (K.faults sink.old) (K.faults sink.new) result }
     {
         let Phase::Serving { base } = self.phase else {
-            return Ok(());
+            unreachable!();
         };
         let Outcome::Answered { reply, .. } = &entry.outcome else {
             unreachable!();

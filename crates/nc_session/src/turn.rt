@@ -1,12 +1,12 @@
 //! One request of a session.
-ghost use Rattle.std.specs.Prelude.{◌≡◌, ◌<◌, ℕ, List, Option, length};
+ghost use Rattle.std.specs.Prelude.{◌≡◌, ◌<◌, ℕ, List, Option, OnOk, length};
 ghost use Rattle.nc_protocol.specs.Proper.{IsProper};
 ghost use Rattle.nc_outside.specs.Streams.{streams};
 ghost use Rattle.nc_schema.specs.Tables.{Tables};
 ghost use Rattle.nc_session.specs.declared.base.Base.{Base};
 ghost use Rattle.nc_session.specs.declared.session_core.Phase.TheVariants.{Serving};
 ghost use Rattle.nc_session.specs.Serves.{Call};
-ghost use Rattle.nc_session.specs.inner.Turns.{Underway, Turns, Settles, entered_all, one_ahead};
+ghost use Rattle.nc_session.specs.inner.Turns.{HasRead, IsServing, Underway, Turns, Settles, entered_all, one_ahead};
 
 use crate::fetch::fetch;
 use crate::standing::{Standing, left_by};
@@ -30,6 +30,7 @@ fn settle<K: Sink>(
     out: &mut Bytes,
     sink: &mut K,
 ) -> Result<(), Met>
+    requires { IsServing core.now }
     ensures { (schema : Tables) (base : Base) → core.now.phase ≡ Serving base → Settles schema base entry.now
         (K.taken sink.old) (K.taken sink.new) (K.faults sink.old) (K.faults sink.new) result }
 {
@@ -55,6 +56,7 @@ fn finish<K: Sink>(
     out: &mut Bytes,
     sink: &mut K,
 ) -> Result<(), Met>
+    requires { IsServing core.now }
     ensures { (schema : Tables) (base : Base) → core.now.phase ≡ Serving base → Settles schema base entry
         (K.taken sink.old) (K.taken sink.new) (K.faults sink.old) (K.faults sink.new) result }
 {
@@ -72,7 +74,8 @@ fn ask<Q: Desk, K: Sink>(
     out: &mut Bytes,
     sink: &mut K,
 ) -> Result<(), Met>
-    requires { IsProper request }
+    requires proper { IsProper request }
+    requires serving { IsServing core.now }
     ensures { (schema : Tables) (call : Call) (base : Base) (left : Option (List ℕ)) (ends failed : ℕ)
         → core.now.phase ≡ Serving base
         → (u : Underway schema call session (Q.stands desk.old call.home) (one_ahead request) core.now
@@ -105,8 +108,9 @@ pub(crate) fn exchange<Q: Desk, S: Source, K: Sink>(
     source: &mut S,
     sink: &mut K,
 ) -> Result<(), Met>
-    requires { 0 < length buffer.old }
-    ensures { (schema : Tables) (call : Call)
+    requires some { 0 < length buffer.old }
+    requires read { HasRead core.old }
+    ensures turns { (schema : Tables) (call : Call)
         → (u : Underway schema call session (Q.stands desk.old call.home) entered_all core.old
         (streams (S.left source.old) (S.ends source.old) (S.faults source.old)
         (K.taken sink.old) (K.faults sink.old)))
@@ -114,6 +118,7 @@ pub(crate) fn exchange<Q: Desk, S: Source, K: Sink>(
         (length u.course.requests) core.new
         (streams (S.left source.new) (S.ends source.new) (S.faults source.new)
         (K.taken sink.new) (K.faults sink.new)) result }
+    ensures read { OnOk result (HasRead core.new) }
 {
     match fetch(core, source, buffer) {
         Ok(request) => ask(desk, session, request, core, out, sink),

@@ -102,6 +102,17 @@ pub record Progress (given : List Request) (base : Base) (before now : Intake) :
   pub piece : List ℕ
   pub read : before.left ≡ prepend_known piece now.left
 
+-- a reader was fed some bytes, and has given some requests of them
+pub record HasRead (core : Core) : Type 0 where
+  pub base : Base
+  pub bytes : List ℕ
+  pub given : List Request
+  pub at : IsAt core base bytes given
+
+-- it reads requests
+abbrev pub IsServing : Core → Type 0
+IsServing core = (base : Base) × (core.phase ≡ Serving base)
+
 -- the next request is given, after a piece that was read, or the session's bytes end
 abbrev pub Fetches : Core → Base → List ℕ → List Request → Intake → Intake → Result Request SessionEnd → Type 0
 Fetches core base bytes given before now (Ok request) =

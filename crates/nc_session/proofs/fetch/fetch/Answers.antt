@@ -37,8 +37,10 @@ returns-in-Err-clause-fetches g c = λ base bytes given at.
     fetches_end c.loop-piece.core c.step.new.core base bytes given before middle now c.loop-piece._piece w c.in-Err.end
     (c.in-Err.ensures.step w.progress.now_base (bytes ++ w.progress.piece) given w.at)
 
-pub returns-clause-fetches : goal.returns-clause-fetches
-returns-clause-fetches g c = λ base bytes given at.
+pub unreachable-requires : goal.unreachable-requires
+unreachable-requires g c =
     let before = intake (g.S.Source.left c.args.source.now) (g.S.Source.ends c.args.source.now) (g.S.Source.faults c.args.source.now) in
     let now = intake (g.S.Source.left c.loop-piece.source) (g.S.Source.ends c.loop-piece.source) (g.S.Source.faults c.loop-piece.source) in
-    absurd (never_so_long c.args.core.now c.loop-piece.core base bytes given before now c.loop-piece._piece at (c.loop-piece.invariant base bytes given at) (omega arith))
+    let r = c.requires.read in
+    never_so_long c.args.core.now c.loop-piece.core r.base r.bytes r.given before now c.loop-piece._piece r.at
+    (c.loop-piece.invariant r.base r.bytes r.given r.at) (omega arith)

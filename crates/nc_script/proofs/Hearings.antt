@@ -1,5 +1,6 @@
 -- A session that hears what its client sends.
 use Rattle.std.proofs.Common.{◌≡◌, ◌≢◌, ◌⊎◌, ℕ, List, [], ◌∷◌, ◌++◌, Option, None, Some, Result, Ok, Err, refl, sym, ap, subst, ◌∙◌, inl, inr, append-nil, arith}
+use Rattle.std.specs.Prelude.{OnOk}
 use Rattle.std.proofs.lemmas.List.Elements.{All-cons, All-nil}
 use Rattle.nc_machine.specs.Serving.{GoesOn, Serving}
 use Rattle.nc_machine.specs.Lasting.{Lasting}
@@ -25,13 +26,14 @@ use Rattle.nc_script.proofs.Made.{made_none, made_same}
 use Rattle.nc_script.specs.Leaving.{StaysLive}
 use Rattle.nc_script.specs.Runs.{HasRead, NotRead}
 use Rattle.nc_script.specs.Steps.{AsksEnd, AsksMore, AsksOne}
-use Rattle.nc_script.specs.inner.Entering.{Breaks, Comes as EntersBy, IsEntered}
+use Rattle.nc_script.specs.inner.Entering.{Breaks, Comes as EntersBy, CountsOne, IsEntered}
 use Rattle.nc_script.specs.inner.Hearing.{Answers, BreaksOff, IsDueBy, IsLive, Part, Settles, Stopping, Turns, over_of, turn_of}
 use Rattle.nc_script.specs.inner.Left.{EndsAs}
 use Rattle.nc_script.specs.inner.Tallies.{Tallied}
 use Rattle.nc_script.specs.declared.fault.StepFault.{StepFault}
 use Rattle.nc_script.specs.declared.fault.StepFault.TheVariants.{Bad, Spent, Memory}
 use Rattle.nc_script.specs.declared.hear.Turn.{Turn}
+use Rattle.nc_script.specs.declared.hear.Turn.TheVariants.{Answered}
 use Rattle.nc_script.specs.declared.tally.Tally.{Tally}
 
 -- ---- what the reader has given
@@ -251,6 +253,21 @@ turn_stops words schema session at course base old new core text tally stop (Ok 
     inr (base, stop, stopping, refl, all, is)
 turn_stops words schema session at course base old new core text tally stop (Err fault) here all is breaks =
     stop_broken session at course core base stop old new fault here all breaks
+
+-- a turn in which a request was answered has made an entry
+pub entered_counts : {K : Type 0} {words : Lasting K} (old new : Serving K) (event : Event) (at : ℕ) (e : Entry)
+    → IsEntered words old new event at e → CountsOne old new
+entered_counts old new event at e entered = record { one = entered.made.count_is; few = entered.few }
+
+pub turn_counts : {K : Type 0} (old new : Serving K) (answer : Result (Option SessionEnd) StepFault)
+    → turn_of answer ≡ Ok Answered → OnOk answer (CountsOne old new) → CountsOne old new
+turn_counts old new (Ok None) is counts = counts
+turn_counts old new (Ok (Some end)) is counts = absurd (cc is)
+turn_counts old new (Err fault) is counts = absurd (cc is)
+
+pub over_is : (end : Result SessionEnd StepFault) → over_of end ≡ Ok Answered → ⊥
+over_is (Ok end) is = cc is
+over_is (Err fault) is = cc is
 
 -- the End of a session was entered
 pub stopped_as : {K : Type 0} {words : Lasting K} (session at : ℕ) (stop end : SessionEnd) (old new : Serving K)

@@ -1,5 +1,5 @@
 -- A session that answers one request after another.
-use Rattle.std.proofs.Common.{◌≡◌, ◌⊎◌, ◌<◌, ◌≤◌, ◌+◌, ℕ, false, List, [], ◌∷◌, ◌++◌, Option, None, Some, Ok, refl, sym, ap, subst, ◌∙◌, inl, inr, append-nil, append_assoc, arith, length-append}
+use Rattle.std.proofs.Common.{◌≡◌, ◌⊎◌, ◌<◌, ◌≤◌, ◌+◌, ℕ, false, List, [], ◌∷◌, ◌++◌, Option, None, Some, Ok, refl, sym, ap, subst, ◌∙◌, inl, inr, append-nil, append_assoc, arith}
 use Rattle.std.proofs.lemmas.List.{map-append}
 use Rattle.std.proofs.lemmas.List.Elements.{All-append, All-nil, All-push}
 use Rattle.nc_names.specs.Limits.{most_requests}
@@ -25,7 +25,7 @@ use Rattle.nc_script.specs.Leaving.{StaysLive}
 use Rattle.nc_script.specs.Runs.{is_error, is_reply}
 use Rattle.nc_script.specs.Steps.{AreOf, AsksMore, Comes, Stops, StopsDead, Waits as ItWaits, WasClosed, WasDead}
 use Rattle.nc_script.specs.inner.Entering.{IsEntered}
-use Rattle.nc_script.specs.inner.Hearing.{Answers, BreaksOff, EndsBy, Goes, Heard, IsDueBy, IsLive, Listening, LivesIf, Stopping, Turns, further}
+use Rattle.nc_script.specs.inner.Hearing.{Answers, BreaksOff, EndsBy, Goes, Heard, HasCounted, IsDueBy, IsLive, Listening, LivesIf, Stopping, Turns, further}
 use Rattle.nc_script.specs.inner.Tallies.{Tallied}
 use Rattle.nc_script.specs.declared.fault.StepFault.{StepFault}
 use Rattle.nc_script.specs.declared.fault.StepFault.TheVariants.{Bad, Spent, Memory}
@@ -58,7 +58,7 @@ are_more session asked more xs ys first second =
 pub listening_none : {K : Type 0} {words : Lasting K} (schema : Tables) (session at : ℕ) (course : Course)
     (machine : Serving K) (core : Core) (text : List ℕ)
     (tally : Tally) → IsLive schema session core text course
-    → Listening words schema session at course machine machine core text tally tally 0
+    → Listening words schema session at course machine machine core text tally tally
 listening_none {K} {words} schema session at course machine core text tally live = record {
   base = course.base;
   asked = [];
@@ -72,14 +72,12 @@ listening_none {K} {words} schema session at course machine core text tally live
     tallied = tally_none tally;
   };
   lives = subst (λ c. IsLive schema session core text c) (further_none course) live;
-  count_is = refl;
-  few = inl refl;
 }
 
 module _ {K : Type 0} {words : Lasting K} (schema : Tables) (session at : ℕ) (course : Course)
     (old middle new : Serving K) (core later : Core)
-    (text now : List ℕ) (told mid tells : Tally) (count : ℕ)
-    (l : Listening words schema session at course old middle core text told mid count) where
+    (text now : List ℕ) (told mid tells : Tally)
+    (l : Listening words schema session at course old middle core text told mid) where
   abbrev here : Course
   here = further course l.base l.asked l.answers
 
@@ -98,7 +96,7 @@ module _ {K : Type 0} {words : Lasting K} (schema : Tables) (session at : ℕ) (
   }
 
   pub listening_more : Turns words schema session at here middle new later now mid tells (Ok Answered)
-      → Listening words schema session at course old new later now told tells (count + 1)
+      → Listening words schema session at course old new later now told tells
   listening_more (base, request, (e, entered, live, lives, tallied)) = record {
     base = base;
     asked = l.asked ++ request ∷ [];
@@ -108,8 +106,6 @@ module _ {K : Type 0} {words : Lasting K} (schema : Tables) (session at : ℕ) (
     goes = goes_one base (l.asked ++ request ∷ []) (Requested session request) e entered lives.text_is tallied;
     lives = subst (λ c. IsLive schema session later now c)
         (further_more course base l.base l.asked (request ∷ []) l.answers (e ∷ [])) lives;
-    count_is = omega (arith, l.count_is, length-append l.answers (e ∷ []));
-    few = inr entered.few;
   }
 
   abbrev Ending : Base → List Request → List Entry → List Entry → Option SessionEnd → List Entry → Type 0
@@ -270,13 +266,13 @@ module _ {K : Type 0} {words : Lasting K} (schema : Tables) (session at : ℕ) (
     };
   }
 
+-- one answer more, with one entry
+pub counted_more : (answered was is : ℕ) → HasCounted answered was → is ≡ was + 1 → is ≤ most_requests
+    → HasCounted (answered + 1) is
+counted_more answered was is (inl none) one few = inr (omega (arith, none, one), few)
+counted_more answered was is (inr more) one few = inr (omega (arith, more.0, one), few)
+
 -- no history has so many entries
-pub never_so_many : {K : Type 0} {words : Lasting K} (schema : Tables) (session at : ℕ) (course : Course)
-    (old new : Serving K) (core : Core) (text : List ℕ)
-    (told tells : Tally) (count : ℕ) → Listening words schema session at course old new core text told tells count
-    → most_requests < count → ⊥
-never_so_many schema session at course old new core text told tells count l many = by l.few
-  where
-    by : (count ≡ 0) ⊎ (new.count ≤ most_requests) → ⊥
-    by (inl none) = omega (arith, none, many)
-    by (inr few) = omega (arith, few, many, l.count_is, l.goes.made.count_is)
+pub never_so_many : (answered count : ℕ) → HasCounted answered count → most_requests < answered → ⊥
+never_so_many answered count (inl none) many = omega (arith, none, many)
+never_so_many answered count (inr more) many = omega (arith, more.0, more.1, many)

@@ -1,5 +1,5 @@
 //! What a session does with the bytes that came.
-ghost use Rattle.std.specs.Prelude.{◌≡◌, ◌≤◌, ◌∷◌, [], ℕ, List};
+ghost use Rattle.std.specs.Prelude.{◌≡◌, ◌≤◌, ◌∷◌, [], ℕ, List, OnOk};
 ghost use Rattle.nc_machine.specs.Lasting.{lasting};
 ghost use Rattle.nc_outside.specs.Clocks.{last_reading};
 ghost use Rattle.nc_protocol.specs.Proper.{IsProper};
@@ -11,6 +11,7 @@ ghost use Rattle.nc_session.specs.Serves.{Course};
 ghost use Rattle.nc_session.specs.Sessions.{HasEntered, session_text};
 ghost use Rattle.nc_session.specs.declared.base.Base.{Base};
 ghost use Rattle.nc_session.specs.declared.session_core.Todo.TheVariants.{Ask};
+ghost use Rattle.nc_script.specs.inner.Entering.{CountsOne};
 ghost use Rattle.nc_script.specs.inner.Hearing.{Answers, IsLive, Listens, Settles, Stopping, Turns, over_of, turn_of};
 ghost use Rattle.nc_script.specs.inner.Tallies.{Tallied};
 
@@ -90,13 +91,14 @@ fn ask<K: Keeper>(
 ) -> Result<Option<SessionEnd>, StepFault>
     requires proper { IsProper request }
     requires at { at ≤ last_reading }
-    ensures { (schema : Tables) (peer : SpecPeer) (course : Course) (base : Base)
+    ensures answers { (schema : Tables) (peer : SpecPeer) (course : Course) (base : Base)
         → IsTodo core.now base course.bytes course.requests (Ask request)
         → HasEntered peer session course.requests course.entries
         → text.old ≡ session_text schema base course.entries
         → Answers (lasting K.doubt K.moment K.leaves K.continues)
         schema session at course base request machine.old machine.new core.now text.new
         tally.old tally.new result }
+    ensures counts { OnOk result (CountsOne machine.old machine.new) }
 {
     match submit(machine, Event::Request { session, request }, at) {
         Ok(entry) => conclude(core, entry, text, tally),
@@ -152,10 +154,11 @@ fn take_turn<K: Keeper>(
     tally: &mut Tally,
 ) -> Result<Turn, StepFault>
     requires { at ≤ last_reading }
-    ensures { (schema : Tables) (course : Course) → IsLive schema session core.old text.old course
+    ensures turns { (schema : Tables) (course : Course) → IsLive schema session core.old text.old course
         → Turns (lasting K.doubt K.moment K.leaves K.continues)
         schema session at course machine.old machine.new core.new text.new
         tally.old tally.new result }
+    ensures counts { result ≡ Ok Turn.Answered → CountsOne machine.old machine.new }
 {
     match core.next() {
         Ok(Todo::Ask(request)) => {
@@ -191,5 +194,5 @@ pub(crate) fn listen<K: Keeper>(
             Err(fault) => return Err(fault),
         }
     }
-    Ok(None)
+    unreachable!()
 }

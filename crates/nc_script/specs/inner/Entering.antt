@@ -1,5 +1,5 @@
 -- One entry of a script.
-use Rattle.std.specs.Prelude.{◌≡◌, ◌≤◌, ℕ, List, [], ◌∷◌, ◌++◌, Result, Ok, Err}
+use Rattle.std.specs.Prelude.{◌≡◌, ◌≤◌, ◌+◌, ℕ, List, [], ◌∷◌, ◌++◌, Result, Ok, Err}
 use Rattle.nc_names.specs.Limits.{most_requests}
 use Rattle.nc_machine.specs.Serving.{GoesOn, Serving}
 use Rattle.nc_machine.specs.Lasting.{Lasting}
@@ -26,6 +26,11 @@ Comes words old new event at (Ok e) = IsEntered words old new event at e
 Comes words old new event at (Err Spent) = (new ≡ old) × (old.count ≡ most_requests)
 Comes words old new event at (Err Memory) = (e : Entry) × IsEntered words old new Reading at e
 Comes words old new event at (Err Bad) = ⊥
+
+-- one entry more was made, for which there was a number
+pub record CountsOne {K : Type 0} (old new : Serving K) : Type 0 where
+  pub one : new.count ≡ old.count + 1
+  pub few : new.count ≤ most_requests
 
 -- the machine was spent, where that is the fault, and then nothing was read
 abbrev pub TellsFault : {K : Type 0} → Serving K → List Entry → StepFault → Type 0

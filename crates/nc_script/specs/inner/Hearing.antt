@@ -1,5 +1,5 @@
 -- A session of a script that hears what its client sends.
-use Rattle.std.specs.Prelude.{◌≡◌, ◌⊎◌, ◌≤◌, ℕ, List, [], ◌∷◌, ◌++◌, length, Option, Some, None, Result, Ok, Err}
+use Rattle.std.specs.Prelude.{◌≡◌, ◌⊎◌, ◌≤◌, ℕ, List, [], ◌∷◌, ◌++◌, Option, Some, None, Result, Ok, Err}
 use Rattle.std.specs.List.{All}
 use Rattle.nc_names.specs.Limits.{most_requests}
 use Rattle.nc_machine.specs.Serving.{GoesOn, Serving}
@@ -169,9 +169,9 @@ Listens words schema session at course old new core text told tells (Ok end) =
 Listens words schema session at course old new core text told tells (Err fault) =
     BreaksOff words session at course old new fault
 
--- a session that listens has answered so many requests
+-- a session that listens has answered some requests
 pub record Listening {K : Type 0} (words : Lasting K) (schema : Tables) (session at : ℕ) (course : Course)
-    (old new : Serving K) (core : Core) (text : List ℕ) (told tells : Tally) (count : ℕ) : Type 0 where
+    (old new : Serving K) (core : Core) (text : List ℕ) (told tells : Tally) : Type 0 where
   pub base : Base
   pub asked : List Request
   pub answers : List Entry
@@ -179,5 +179,7 @@ pub record Listening {K : Type 0} (words : Lasting K) (schema : Tables) (session
   pub live : All StaysLive answers
   pub goes : Goes words schema session at course base asked answers old new text told tells
   pub lives : IsLive schema session core text (further course base asked answers)
-  pub count_is : length answers ≡ count
-  pub few : (count ≡ 0) ⊎ (new.count ≤ most_requests)
+
+-- after so many answers a machine has made as many entries at least, for which there are numbers
+abbrev pub HasCounted : ℕ → ℕ → Type 0
+HasCounted answered count = (answered ≡ 0) ⊎ ((answered ≤ count) × (count ≤ most_requests))

@@ -26,4 +26,4 @@ pub use laws::{
     bad_frame_is_first, gives_all_that_is_fed, gives_the_session, gives_the_stream, has_one_answer,
     has_one_reading, is_bounded, is_framed_as_defined, writes_one_message,
 };
-pub use write::{write_chunks, write_eom, write_header};
+pub use write::{WRITTEN_CHUNK, write_chunks, write_eom, write_header};

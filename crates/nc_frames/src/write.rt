@@ -9,8 +9,8 @@ use crate::marks::MARK;
 use itoa::Buffer;
 use nc_names::{Bytes, Memory, tail};
 
-// How many octets the chunks have that are written, but for the last of a message.
-const CHUNK: usize = 65_536;
+/// How many octets the chunks have that are written, but for the last of a message.
+pub const WRITTEN_CHUNK: usize = 65_536;
 
 /// Appends a message with the end-of-message mark after it (RFC 6242 4.3). The body with the mark
 /// has to hold the mark only at its end, or it is read as other messages. `Memory` changes nothing.
@@ -42,7 +42,7 @@ pub fn write_chunks(body: &[u8], out: &mut Bytes) -> Result<(), Memory>
     ensures err { OnErr result (out.new ≡ out.old) }
 {
     let len = out.len();
-    let written = push_chunks(body, CHUNK, out);
+    let written = push_chunks(body, WRITTEN_CHUNK, out);
     if written.is_err() {
         out.truncate(len);
     }

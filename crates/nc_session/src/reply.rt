@@ -1,30 +1,17 @@
 //! The writing of replies (RFC 6242 4.2 and 4.3).
-ghost use Rattle.std.specs.Prelude.{◌≡◌, ◌++◌, ◌∷◌, ◌<◌, [], length, OnOk, OnErr, IfOk};
+ghost use Rattle.std.specs.Prelude.{◌≡◌, ◌++◌, ◌∷◌, ◌<◌, [], OnOk, OnErr, IfOk};
 ghost use Rattle.nc_frames.specs.Framing.{announced, chunk, in_chunks};
 ghost use Rattle.nc_names.specs.Signs.{line_feed};
-ghost use Rattle.nc_session.specs.Replies.{cut, framed, reply_text};
-ghost use Rattle.nc_session.specs.declared.base.Base.TheVariants.{Base11};
+ghost use Rattle.nc_session.specs.Replies.{cut, reply_text};
 ghost use Rattle.nc_session.specs.inner.Turns.{Writes};
 
 use crate::{Base, SessionEnd};
-use nc_frames::{write_chunks, write_eom, write_header};
+use nc_frames::{WRITTEN_CHUNK, write_chunks, write_eom, write_header};
 use nc_names::{Bytes, Memory, tail};
 use nc_outside::{Sink, write_all};
 use nc_print::write_reply;
 use nc_protocol::Reply;
 use std::alloc::Global;
-
-/// How many octets the chunks have, but for the last of a reply.
-pub(crate) const CHUNK: usize = 65_536;
-
-// Appends a body in chunks.
-fn push_chunks(body: &[u8], out: &mut Bytes) -> Result<(), Memory>
-    requires { 0 < length body.now }
-    ensures ok { OnOk result (out.new ≡ out.old ++ framed Base11 body.now) }
-    ensures err { OnErr result (out.new ≡ out.old) }
-{
-    write_chunks(body, out)
-}
 
 /// Appends a reply, framed. `Memory` changes nothing.
 pub(crate) fn push_reply(
@@ -40,7 +27,7 @@ pub(crate) fn push_reply(
     write_reply(alloc, reply, &mut body)?;
     match base {
         Base::Base10 => write_eom(body.as_slice(), out),
-        Base::Base11 => push_chunks(body.as_slice(), out),
+        Base::Base11 => write_chunks(body.as_slice(), out),
     }
 }
 
@@ -118,6 +105,6 @@ pub(crate) fn send_reply<K: Sink>(
             out.push_slice(b"]]>]]>")?;
             send(out.as_slice(), sink)
         }
-        Base::Base11 => send_chunks(alloc, out.as_slice(), CHUNK, sink),
+        Base::Base11 => send_chunks(alloc, out.as_slice(), WRITTEN_CHUNK, sink),
     }
 }

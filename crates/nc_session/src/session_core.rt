@@ -15,10 +15,10 @@ ghost use Rattle.nc_session.specs.inner.Unseen.{Unseen, Gives};
 
 use crate::client_hello::base_of;
 use crate::inbox::Inbox;
-use crate::reply::{CHUNK, push_reply, send_reply};
+use crate::reply::{push_reply, send_reply};
 use crate::requests::{read, read_request};
 use crate::{Base, SessionEnd};
-use nc_frames::FrameFault;
+use nc_frames::{FrameFault, WRITTEN_CHUNK};
 use nc_model::{Entry, Outcome};
 use nc_names::{Bytes, Memory};
 use nc_outside::Sink;
@@ -137,7 +137,7 @@ impl SessionCore {
     /// Gives the room of a text that was written back, where it is longer than a chunk: an idle session does
     /// not keep that of its largest reply.
     pub(crate) fn let_go(&self, out: &mut Bytes) {
-        if out.len() > CHUNK {
+        if out.len() > WRITTEN_CHUNK {
             *out = Bytes::new(self.alloc);
         }
     }

@@ -1,6 +1,6 @@
 -- Marks tell namespaces apart as these are, and stand beside the bindings in force.
 use Rattle.std.proofs.Common.{◌≡◌, ℕ, Bool, true, false, cond, not, ◌||◌, List, [], ◌∷◌, ◌++◌, map, filter, Option, None, Some, option_and_then, option_map, refl, sym, ap, subst, ◌∙◌}
-use Rattle.std.specs.Prelude.{◌&&◌, ◌==◌}
+use Rattle.std.specs.Prelude.{◌&&◌, ◌==◌, IfSome}
 use Rattle.std.specs.List.{list_any}
 use Rattle.std.specs.Cmp.Lexicographic.{bytes_decides}
 use Rattle.std.proofs.lemmas.List.{map-append}
@@ -15,7 +15,8 @@ use Rattle.nc_message.specs.Tokens.{Attribute}
 use Rattle.nc_message.specs.Texts.{value_of, onto}
 use Rattle.nc_message.specs.Resolved.{is_declaration, attr_space, attr_of, attrs_of, default_space, is_xml, xml_space}
 use Rattle.nc_message_read.specs.declared.marks.Marks.{Marks}
-use Rattle.nc_message_read.specs.inner.Marks.{text_at, is_that, number_of, spelled, mark_of, marked_bound, prefixed, marks_of, attr_mark, key_of, AreNamed, AreMarked}
+use Rattle.nc_message_read.specs.declared.marked.Marked.{Marked}
+use Rattle.nc_message_read.specs.inner.Marks.{text_at, is_that, number_of, spelled, mark_of, marked_bound, prefixed, marks_of, attr_mark, IsBeside, sign_of, key_of, AreNamed, IsFound, AreFound}
 
 -- No two namespaces have one mark.
 
@@ -101,10 +102,16 @@ and_swapped true false = refl
 and_swapped false true = refl
 and_swapped false false = refl
 
+same_signs : (marked : Option Marked) (s t : List ℕ)
+    → is_same_text (sign_of marked s) (sign_of marked t) ≡ is_same_text s t
+same_signs None s t = refl
+same_signs (Some marked) s t = same_marks marked.marks s t
+
 -- names are the same where they are kept as the same
-pub same_keys : (m : Marks) (a b : QName) → is_same_name (key_of m a) (key_of m b) ≡ is_same_name a b
-same_keys m a b =
-    ap (λ x. is_same_text a.name b.name && x) (same_marks m a.space b.space)
+pub same_keys : (marked : Option Marked) (a b : QName)
+    → is_same_name (key_of marked a) (key_of marked b) ≡ is_same_name a b
+same_keys marked a b =
+    ap (λ x. is_same_text a.name b.name && x) (same_signs marked a.space b.space)
     ∙ and_swapped (is_same_text a.name b.name) (is_same_text a.space b.space)
 
 -- Beside the bindings in force.
@@ -229,11 +236,19 @@ mark_found m bounds (c ∷ cs) s e = at_xml (is_xml (c ∷ cs)) e where
   at_xml true f = let same : xml_space ≡ s = cc f in ap (mark_of m) same
   at_xml false f = ap default_space (space_marked m c cs bounds ∙ ap (option_map (mark_of m)) f)
 
+one_found : (marked : Option Marked) (bounds : List Bound) (a : Attr) → IfSome marked (IsBeside bounds)
+    → attr_space bounds a.prefix ≡ Some a.name.space → IsFound marked a
+one_found None bounds a is named = tt
+one_found (Some marked) bounds a is named =
+    ap (λ (b : List Bound). attr_mark marked.marks b a.prefix) is
+    ∙ mark_found marked.marks bounds a.prefix a.name.space named
+
 -- so are those of all
-pub all_marked : (m : Marks) (bounds : List Bound) (attrs : List Attr) → AreNamed bounds attrs
-    → AreMarked m (marks_of m bounds) attrs
-all_marked m bounds [] h = tt
-all_marked m bounds (a ∷ more) h = (mark_found m bounds a.prefix a.name.space h.0, all_marked m bounds more h.1)
+pub all_found : (marked : Option Marked) (bounds : List Bound) (attrs : List Attr) → IfSome marked (IsBeside bounds)
+    → AreNamed bounds attrs → AreFound marked attrs
+all_found marked bounds [] is named = tt
+all_found marked bounds (a ∷ more) is named =
+    (one_found marked bounds a is named.0, all_found marked bounds more is named.1)
 
 -- an attribute with this namespace and this value
 abbrev with_both : Attribute → (space value : List ℕ) → Attr

@@ -1,6 +1,6 @@
 -- Sets of texts and of names.
 use Rattle.std.proofs.Common.{◌≡◌, ℕ, suc, ◌+◌, ◌<◌, Bool, true, false, not, cond, ◌||◌, List, [], ◌∷◌, ◌++◌, length, drop, get_or, drop-cons, refl, sym, ap, subst, ◌∙◌, arith}
-use Rattle.std.specs.Prelude.{◌&&◌, if◌then◌else◌, Result, Ok, Err, IfOk}
+use Rattle.std.specs.Prelude.{◌&&◌, if◌then◌else◌, Option, Result, Ok, Err, IfOk}
 use Rattle.std.specs.List.{list_any}
 use Rattle.std.specs.BTreeSet.{BTreeSet, contains}
 use Rattle.std.specs.declared.cmp.Ordering.{Ordering}
@@ -9,12 +9,11 @@ use Rattle.std.specs.Ordering.{nat_cmp, ordering_then, is_eq}
 use Rattle.std.specs.Cmp.Lexicographic.{slice_cmp, bytes_decides}
 use Rattle.std.proofs.lemmas.Map.Text.{is_eq-slice_cmp}
 use Rattle.nc_names.specs.Same.{is_same_text, is_same_name}
-use Rattle.nc_names.specs.declared.name.Bound.{Bound}
 use Rattle.nc_names.specs.declared.name.QName.{QName}
 use Rattle.nc_message.specs.declared.tree.Attr.{Attr}
 use Rattle.nc_message.specs.Resolved.{differ_from}
-use Rattle.nc_message_read.specs.declared.marks.Marks.{Marks}
-use Rattle.nc_message_read.specs.inner.Marks.{key_of, attr_mark, mark_of, AreMarked}
+use Rattle.nc_message_read.specs.declared.marked.Marked.{Marked}
+use Rattle.nc_message_read.specs.inner.Marks.{key_of, IsFound, AreFound}
 use Rattle.nc_message_read.specs.inner.Sets.{has_name, IsNameAdded}
 use Rattle.nc_message_read.proofs.Marking.{same_keys}
 
@@ -55,10 +54,10 @@ any_same : (f g : QName → Bool) → ((x : QName) → f x ≡ g x) → (xs : Li
 any_same f g e [] = refl
 any_same f g e (x ∷ xs) = ap (λ b. b || list_any f xs) (e x) ∙ ap (λ b. g x || b) (any_same f g e xs)
 
-contains_is : (m : Marks) (set : BTreeSet QName) (name : QName) → contains name_cmp set (key_of m name) ≡ has_name m set name
+contains_is : (m : Option Marked) (set : BTreeSet QName) (name : QName) → contains name_cmp set (key_of m name) ≡ has_name m set name
 contains_is m set name = any_same (λ x. is_eq (name_cmp (key_of m name) x)) (is_same_name (key_of m name)) (name_test (key_of m name)) set.keys
 
-pub name_added : (m : Marks) (before after : BTreeSet QName) (name : QName) (added : Bool) → added ≡ not (contains name_cmp before (key_of m name))
+pub name_added : (m : Option Marked) (before after : BTreeSet QName) (name : QName) (added : Bool) → added ≡ not (contains name_cmp before (key_of m name))
     → ((other : QName) → contains name_cmp after other ≡ cond (is_eq (name_cmp (key_of m name) other)) true (contains name_cmp before other))
     → IsNameAdded m before after name added
 name_added m before after name added new updates = (
@@ -85,7 +84,7 @@ any_more q n (s ∷ names) = ap (λ b. is_same_name q s || b) (any_more q n name
   split false true c = refl
   split false false c = refl
 
-pub names_more : (m : Marks) (old new : BTreeSet QName) (name : QName) (added : Bool) (before : List QName) → IsNameAdded m old new name added
+pub names_more : (m : Option Marked) (old new : BTreeSet QName) (name : QName) (added : Bool) (before : List QName) → IsNameAdded m old new name added
     → ((q : QName) → has_name m old q ≡ list_any (is_same_name q) before) → (q : QName) → has_name m new q ≡ list_any (is_same_name q) (before ++ name ∷ [])
 names_more m old new name added before is has q = is.1 q ∙ ap (λ b. if is_same_name name q then true else b) (has q) ∙ sym (any_more q name before)
 
@@ -97,10 +96,10 @@ differ_more xs i a before less at new =
     let here : drop i xs ≡ a ∷ drop (i + 1) xs = drop-cons xs i a less ∙ ap (λ y. y ∷ drop (suc i) xs) (sym at) ∙ ap (λ k. a ∷ drop k xs) next in
     ap (differ_from before) here ∙ ap (λ b. b && differ_from (before ++ a.name ∷ []) (drop (i + 1) xs)) new
 
--- the attributes that are left are marked too
-pub marked_left : (m : Marks) (bound : List Bound) (xs : List Attr) (i : ℕ) (a : Attr) → i < length xs → a ≡ get_or xs i a → AreMarked m bound (drop i xs)
-    → (attr_mark m bound a.prefix ≡ mark_of m a.name.space) × AreMarked m bound (drop (i + 1) xs)
-marked_left m bound xs i a less at marked =
+-- the attributes that are left are found too
+pub found_left : (m : Option Marked) (xs : List Attr) (i : ℕ) (a : Attr) → i < length xs → a ≡ get_or xs i a → AreFound m (drop i xs)
+    → IsFound m a × AreFound m (drop (i + 1) xs)
+found_left m xs i a less at found =
     let next : suc i ≡ i + 1 = omega arith in
     let here : drop i xs ≡ a ∷ drop (i + 1) xs = drop-cons xs i a less ∙ ap (λ y. y ∷ drop (suc i) xs) (sym at) ∙ ap (λ k. a ∷ drop k xs) next in
-    subst (AreMarked m bound) here marked
+    subst (AreFound m) here found

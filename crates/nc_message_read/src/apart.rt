@@ -2,9 +2,10 @@
 ghost use Rattle.std.specs.Prelude.{◌≡◌, [], IfOk};
 ghost use Rattle.nc_message.specs.Resolved.{default_space, differ_from};
 ghost use Rattle.nc_names.specs.Bindings.{space_of};
-ghost use Rattle.nc_message_read.specs.inner.Marks.{AreMarked, attr_mark, key_of, mark_of};
+ghost use Rattle.nc_message_read.specs.inner.Marks.{AreFound, IsFound, attr_mark, key_of, sign_of};
 ghost use Rattle.nc_message_read.specs.inner.Sets.{IsNameAdded};
 
+use crate::marked::Marked;
 use crate::marks::Marks;
 use crate::start::xml_space;
 use nc_message::{Attr, Bounds};
@@ -12,19 +13,19 @@ use nc_names::{Copies, Memory, QName, Text};
 use std::alloc::Global;
 use std::collections::BTreeSet;
 
-/// Whether no attribute has the name of one before it, where their prefixes are bound to marks.
+/// Whether no attribute has the name of one before it, where their prefixes are bound to marks, if there are
+/// marks.
 pub(crate) fn are_apart(
     alloc: Global,
-    marks: &Marks,
-    marked: &Bounds,
+    marked: &Option<Marked>,
     attrs: &[Attr],
 ) -> Result<bool, Memory>
-    requires { AreMarked marks.now marked.now attrs.now }
+    requires { AreFound marked.now attrs.now }
     ensures { IfOk result (λ it. it ≡ differ_from [] attrs.now) }
 {
     let mut names = BTreeSet::new(alloc);
     for attr in attrs {
-        if !add_name(alloc, marks, marked, &mut names, attr)? {
+        if !add_name(alloc, marked, &mut names, attr)? {
             return Ok(false);
         }
     }
@@ -34,28 +35,38 @@ pub(crate) fn are_apart(
 // Puts the name of an attribute into a set, and answers whether it is new.
 fn add_name(
     alloc: Global,
-    marks: &Marks,
-    marked: &Bounds,
+    marked: &Option<Marked>,
     names: &mut BTreeSet<QName>,
     attr: &Attr,
 ) -> Result<bool, Memory>
-    requires { attr_mark marks.now marked.now attr.now.prefix ≡ mark_of marks.now attr.now.name.space }
-    ensures { IfOk result (λ added. IsNameAdded marks.now names.old names.new attr.now.name added) }
+    requires { IsFound marked.now attr.now }
+    ensures { IfOk result (λ added. IsNameAdded marked.now names.old names.new attr.now.name added) }
 {
-    let added = names.insert(key(alloc, marks, marked, attr)?)?;
+    let added = names.insert(key(alloc, marked, attr)?)?;
     Ok(added)
 }
 
-// The name of an attribute with the mark of its namespace. The local name comes first: names are ordered by
-// it, and most differ there.
-fn key(alloc: Global, marks: &Marks, marked: &Bounds, attr: &Attr) -> Result<QName, Memory>
-    requires { attr_mark marks.now marked.now attr.now.prefix ≡ mark_of marks.now attr.now.name.space }
-    ensures { IfOk result (λ it. it ≡ key_of marks.now attr.now.name) }
+// The name of an attribute with what stands for its namespace. The local name comes first: names are ordered
+// by it, and most differ there.
+fn key(alloc: Global, marked: &Option<Marked>, attr: &Attr) -> Result<QName, Memory>
+    requires { IsFound marked.now attr.now }
+    ensures { IfOk result (λ it. it ≡ key_of marked.now attr.now.name) }
 {
     Ok(QName {
         space: attr.name.name.copy()?,
-        name: mark_for(alloc, marks, marked, &attr.prefix)?,
+        name: sign(alloc, marked, attr)?,
     })
+}
+
+// What stands for the namespace of an attribute: its mark, or the namespace where there are no marks.
+fn sign(alloc: Global, marked: &Option<Marked>, attr: &Attr) -> Result<Text, Memory>
+    requires { IsFound marked.now attr.now }
+    ensures { IfOk result (λ it. it ≡ sign_of marked.now attr.now.name.space) }
+{
+    match marked {
+        Some(marked) => mark_for(alloc, marked.marks.get(), &marked.bounds, &attr.prefix),
+        None => attr.name.space.copy(),
+    }
 }
 
 // The mark of the namespace of an attribute with this prefix.

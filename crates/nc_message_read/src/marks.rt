@@ -1,11 +1,12 @@
 //! Marks of namespaces: texts that are short, and that tell namespaces apart as these are (Namespaces in
 //! XML 1.0, 2.1).
 //!
-//! A client may give an attribute a namespace of megabytes by a prefix of an octet, so the namespaces of
-//! attributes are not compared: their marks are, which stand beside the bindings. A long namespace that the
-//! message declares has a number, and a mark that spells it; the mark of any other spells the namespace. A
-//! number is used where it leads back to its namespace, so whatever has a number, no two namespaces have one
-//! mark.
+//! A client may give an attribute a namespace of megabytes by a prefix of an octet, so in a message that
+//! declares long namespaces those of attributes are not compared: their marks are, which stand beside the
+//! bindings. A long namespace that the message declares has a number, and a mark that spells it; the mark of
+//! any other spells the namespace. A number is used where it leads back to its namespace, so whatever has a
+//! number, no two namespaces have one mark. In any other message there are no marks: its namespaces are
+//! short, or it is.
 ghost use Rattle.std.specs.Prelude.{◌≡◌, ◌++◌, ◌<◌, true, length, IfOk};
 ghost use Rattle.std.specs.Option.{option_copied};
 ghost use Rattle.nc_message_read.specs.inner.Marks as specs;
@@ -13,7 +14,7 @@ ghost use Rattle.nc_message_read.specs.inner.Marks as specs;
 use crate::reader::Reader;
 use crate::text::value_of;
 use crate::written::{Attribute, Token};
-use nc_names::{Copies, Memory, Text};
+use nc_names::{Copies, Memory, Shared, Text};
 use std::alloc::Global;
 use std::collections::BTreeMap;
 
@@ -34,8 +35,8 @@ pub(crate) struct Marks {
 }
 
 impl Marks {
-    /// No numbers. It takes no memory until it grows.
-    pub(crate) fn new(alloc: Global) -> Marks {
+    // No numbers. It takes no memory until it grows.
+    fn new(alloc: Global) -> Marks {
         Marks {
             numbers: BTreeMap::new(alloc),
             spaces: BTreeMap::new(alloc),
@@ -156,13 +157,22 @@ fn has_long_run(bytes: &[u8]) -> bool {
     false
 }
 
-/// The numbers of the long namespaces that a message declares for prefixes. Most messages declare none, and
-/// are not gone through token by token for them.
-pub(crate) fn marks_in(alloc: Global, bytes: &[u8]) -> Result<Marks, Memory> {
-    let mut marks = Marks::new(alloc);
+/// The numbers of the long namespaces that a message declares for prefixes, if it declares any. Most messages
+/// declare none, and are not gone through token by token for them.
+pub(crate) fn marks_in(alloc: Global, bytes: &[u8]) -> Result<Option<Shared<Marks>>, Memory> {
     if bytes.len() <= SHORT_MESSAGE || !has_long_run(bytes) {
-        return Ok(marks);
+        return Ok(None);
     }
+    let marks = gathered(alloc, bytes)?;
+    if marks.numbers.is_empty() {
+        return Ok(None);
+    }
+    Ok(Some(Shared::new(alloc, marks)?))
+}
+
+// The numbers of the long namespaces that the tokens of a message declare for prefixes.
+fn gathered(alloc: Global, bytes: &[u8]) -> Result<Marks, Memory> {
+    let mut marks = Marks::new(alloc);
     let mut reader = Reader { alloc, rest: bytes };
     while !reader.rest.is_empty() {
         if !takes_token(alloc, &mut reader, &mut marks)? {

@@ -13,7 +13,7 @@ use crate::reader::{Reader, chars_of};
 use crate::stack::Stack;
 use crate::stop::{MessageFault, Stop};
 use nc_message::{Tree, Why};
-use nc_names::{Memory, Shared};
+use nc_names::Memory;
 use std::alloc::Global;
 
 /// The tokens that are left, and the elements that are open before them.
@@ -76,7 +76,7 @@ fn read_all(alloc: Global, bytes: &[u8]) -> Result<Result<Tree, Stop>, Memory>
     ensures { IfOk result (λ it. MatchResult it (λ tree. SpellsTree bytes.now tree)
         (λ stop. IsStop bytes.now stop)) }
 {
-    let marks = Shared::new(alloc, marks_in(alloc, bytes)?)?;
+    let marks = marks_in(alloc, bytes)?;
     let mut parser = Parser {
         reader: Reader { alloc, rest: bytes },
         stack: Stack::new(alloc, marks),

@@ -1,11 +1,12 @@
 //! The bindings in force in an element that is open, and beside them the marks of the namespaces that are
-//! bound to prefixes (Namespaces in XML 1.0, 6).
-ghost use Rattle.std.specs.Prelude.{◌≡◌, ◌++◌, ◌∷◌, [], true, false, map, IfOk};
+//! bound to prefixes, where the message declares long ones (Namespaces in XML 1.0, 6).
+ghost use Rattle.std.specs.Prelude.{◌≡◌, ◌++◌, ◌∷◌, [], true, false, IfOk};
 ghost use Rattle.nc_message.specs.Bindings as bindings;
 ghost use Rattle.nc_message.specs.Resolved.{differ_from};
-ghost use Rattle.nc_message_read.specs.inner.Marks.{AreNamed, marked_bound, prefixed};
+ghost use Rattle.nc_message_read.specs.inner.Marks.{AreNamed, prefixed};
 
 use crate::apart::are_apart;
+use crate::marked::Marked;
 use crate::marks::Marks;
 use nc_message::{Attr, Bounds, Level};
 use nc_names::{Bound, Copies, Many, Memory, Shared, Text};
@@ -89,35 +90,41 @@ fn with_prefixed(own: Many<Bound>, prefix: &Text, space: &Text) -> Result<Many<B
     Ok(own)
 }
 
-/// The bindings in force in an element, and those of their prefixes to marks. To copy them copies no binding.
+/// The bindings in force in an element, and those of their prefixes to marks where the message declares long
+/// namespaces. To copy them copies no binding.
 #[derive(Drop)]
 pub(crate) struct Scope {
     bounds: Bounds,
-    marked: Bounds,
-    marks: Shared<Marks>,
+    marked: Option<Marked>,
 }
 
 impl Model for Scope {
-    ghost use Rattle.std.specs.Prelude.{◌≡◌, List};
+    ghost use Rattle.std.specs.Prelude.{IfSome, List};
     ghost use Rattle.nc_names.specs.declared.name.Bound.{Bound};
-    ghost use Rattle.nc_message_read.specs.inner.Marks.{marks_of};
+    ghost use Rattle.nc_message_read.specs.inner.Marks.{IsBeside};
 
     ghost Value = { List Bound };
 
     ghost view = { λ s. s.bounds };
 
-    ghost invariant = { λ s. s.marked ≡ marks_of s.marks s.bounds };
+    ghost invariant = { λ s. IfSome s.marked (IsBeside s.bounds) };
 }
 
 impl Scope {
-    /// No bindings, in a message whose long namespaces have these numbers.
-    pub(crate) fn new(marks: Shared<Marks>) -> Scope
+    /// No bindings, in a message whose long namespaces have these numbers, if it declares any.
+    pub(crate) fn new(marks: Option<Shared<Marks>>) -> Scope
         ensures { result ≡ [] }
     {
-        Scope {
-            bounds: Bounds::new(),
-            marked: Bounds::new(),
-            marks,
+        let bounds = Bounds::new();
+        match marks {
+            Some(marks) => Scope {
+                bounds,
+                marked: Some(Marked::new(marks)),
+            },
+            None => Scope {
+                bounds,
+                marked: None,
+            },
         }
     }
 
@@ -128,7 +135,6 @@ impl Scope {
         Ok(Scope {
             bounds: self.bounds.copy()?,
             marked: self.marked.copy()?,
-            marks: self.marks.copy()?,
         })
     }
 
@@ -151,33 +157,24 @@ impl Scope {
         ensures { IfOk result (λ it. it ≡ bindings.inside self.now said) }
     {
         let Said { level, own } = said;
-        let marks = self.marks.copy()?;
-        let level_marked = marked_level(alloc, marks.get(), own.as_slice())?;
-        Ok(Scope {
-            bounds: self.bounds.below(alloc, level)?,
-            marked: self.marked.below(alloc, level_marked)?,
-            marks,
-        })
+        let bounds = self.bounds.below(alloc, level)?;
+        match &self.marked {
+            Some(marked) => Ok(Scope {
+                bounds,
+                marked: Some(marked.below(alloc, own.as_slice())?),
+            }),
+            None => Ok(Scope {
+                bounds,
+                marked: None,
+            }),
+        }
     }
 
     /// Whether no attribute has the name of one before it.
-    #[tactic(auto, using(crate::proofs::Marking::all_marked))]
     pub(crate) fn differ(&self, alloc: Global, attrs: &[Attr]) -> Result<bool, Memory>
         requires { AreNamed self.now attrs.now }
         ensures { IfOk result (λ it. it ≡ differ_from [] attrs.now) }
     {
-        are_apart(alloc, self.marks.get(), &self.marked, attrs)
+        are_apart(alloc, &self.marked, attrs)
     }
-}
-
-// A tag that declares the same prefixes for the marks.
-fn marked_level(alloc: Global, marks: &Marks, own: &[Bound]) -> Result<Level, Memory>
-    ensures own { IfOk result (λ it. it.own ≡ map (marked_bound marks.now) own.now) }
-    ensures undeclares { IfOk result (λ it. it.undeclares ≡ false) }
-{
-    let mut level = Level::new(alloc);
-    for bound in own {
-        level = level.declare(bound.prefix.copy()?, marks.mark(alloc, &bound.space)?)?;
-    }
-    Ok(level)
 }

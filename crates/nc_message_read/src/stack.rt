@@ -26,12 +26,12 @@ pub(crate) struct Stack {
     root: Option<Elem>,
     fresh: bool,
     known: Known,
-    marks: Shared<Marks>,
+    marks: Option<Shared<Marks>>,
 }
 
 impl Stack {
-    /// Before the first token of a message whose long namespaces have these numbers.
-    pub(crate) fn new(alloc: Global, marks: Shared<Marks>) -> Stack
+    /// Before the first token of a message whose long namespaces have these numbers, if it declares any.
+    pub(crate) fn new(alloc: Global, marks: Option<Shared<Marks>>) -> Stack
         ensures { state_of result ≡ reads.begin }
     {
         Stack {

@@ -11,6 +11,7 @@ use Rattle.nc_message.specs.Bindings.{is_empty}
 use Rattle.nc_message.specs.declared.tree.Attr.{Attr}
 use Rattle.nc_message.specs.Resolved.{attr_space, default_space, is_xml, xml_space}
 use Rattle.nc_message_read.specs.declared.marks.Marks.{Marks}
+use Rattle.nc_message_read.specs.declared.marked.Marked.{Marked}
 
 -- what a table has at a text
 abbrev pub text_at : BTreeMap (List ℕ) (List ℕ) → List ℕ → Option (List ℕ)
@@ -55,17 +56,30 @@ attr_mark marks marked prefix =
     else if is_xml prefix then mark_of marks xml_space
     else default_space (space_of prefix marked)
 
--- a name with the mark of its namespace, the local name first
-abbrev pub key_of : Marks → QName → QName
-key_of marks name = record { space = name.name; name = mark_of marks name.space }
+-- the marks stand beside these bindings
+abbrev pub IsBeside : List Bound → Marked → Type 0
+IsBeside bounds marked = marked.bounds ≡ marks_of marked.marks bounds
+
+-- what stands for a namespace: its mark, or itself where there are no marks
+abbrev pub sign_of : Option Marked → List ℕ → List ℕ
+sign_of None space = space
+sign_of (Some marked) space = mark_of marked.marks space
+
+-- a name with what stands for its namespace, the local name first
+abbrev pub key_of : Option Marked → QName → QName
+key_of marked name = record { space = name.name; name = sign_of marked name.space }
 
 -- the attributes have the namespaces to which their prefixes are bound
 abbrev pub AreNamed : List Bound → List Attr → Type 0
 AreNamed bounds [] = Unit {0}
 AreNamed bounds (a ∷ more) = (attr_space bounds a.prefix ≡ Some a.name.space) × AreNamed bounds more
 
--- their prefixes are bound to the marks of these
-abbrev pub AreMarked : Marks → List Bound → List Attr → Type 0
-AreMarked marks marked [] = Unit {0}
-AreMarked marks marked (a ∷ more) =
-    (attr_mark marks marked a.prefix ≡ mark_of marks a.name.space) × AreMarked marks marked more
+-- where there are marks, that of an attribute's namespace is found by its prefix
+abbrev pub IsFound : Option Marked → Attr → Type 0
+IsFound None a = Unit {0}
+IsFound (Some marked) a = attr_mark marked.marks marked.bounds a.prefix ≡ mark_of marked.marks a.name.space
+
+-- so are those of all
+abbrev pub AreFound : Option Marked → List Attr → Type 0
+AreFound marked [] = Unit {0}
+AreFound marked (a ∷ more) = IsFound marked a × AreFound marked more

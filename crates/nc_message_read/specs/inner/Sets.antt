@@ -1,5 +1,5 @@
 -- Sets of texts, in their order.
-use Rattle.std.specs.Prelude.{◌≡◌, ℕ, Bool, true, not, ◌&&◌, ◌||◌, if◌then◌else◌, List}
+use Rattle.std.specs.Prelude.{◌≡◌, ℕ, Bool, true, not, ◌&&◌, ◌||◌, if◌then◌else◌, List, Option}
 use Rattle.std.specs.List.{list_any}
 use Rattle.std.specs.BTreeSet.{BTreeSet, contains}
 use Rattle.std.specs.Ordering.{nat_cmp}
@@ -8,7 +8,7 @@ use Rattle.nc_names.specs.Same.{is_same_text, is_same_name}
 use Rattle.nc_names.specs.declared.name.QName.{QName}
 use Rattle.nc_message.specs.Tokens.{Name, Attribute}
 use Rattle.nc_message.specs.Resolved.{is_declared_by, is_xmlns}
-use Rattle.nc_message_read.specs.declared.marks.Marks.{Marks}
+use Rattle.nc_message_read.specs.declared.marked.Marked.{Marked}
 use Rattle.nc_message_read.specs.inner.Marks.{key_of}
 
 -- whether the set has a text
@@ -22,14 +22,14 @@ IsDeclaredToo before after name =
     || has before prefix)
 
 -- whether the set has a name, as it is kept there
-abbrev pub has_name : Marks → BTreeSet QName → QName → Bool
-has_name marks set name = list_any (is_same_name (key_of marks name)) set.keys
+abbrev pub has_name : Option Marked → BTreeSet QName → QName → Bool
+has_name marked set name = list_any (is_same_name (key_of marked name)) set.keys
 
 -- the name was put into the set, where it was not yet
-abbrev pub IsNameAdded : Marks → BTreeSet QName → BTreeSet QName → QName → Bool → Type 0
-IsNameAdded marks before after name added =
-    (added ≡ not (has_name marks before name)) × ((other : QName) → has_name marks after other
-    ≡ (if is_same_name name other then true else has_name marks before other))
+abbrev pub IsNameAdded : Option Marked → BTreeSet QName → BTreeSet QName → QName → Bool → Type 0
+IsNameAdded marked before after name added =
+    (added ≡ not (has_name marked before name)) × ((other : QName) → has_name marked after other
+    ≡ (if is_same_name name other then true else has_name marked before other))
 
 -- the set has the prefixes that attributes declare
 abbrev pub DeclaredPrefixes : BTreeSet (List ℕ) → List Attribute → Type 0

@@ -10,7 +10,7 @@ returns c =
     let old = c.args.names.now in
     let new = c.insert.new.self in
     let added = c.in_ok-added.added in
-    name_added c.args.marks.now old new c.args.attr.now.name added
+    name_added c.args.marked.now old new c.args.attr.now.name added
     (subst (λ (n : QName). added ≡ not (contains name_cmp old n)) c.in_ok-key.ensures c.in_ok-added.ensures.added)
     (subst (λ (n : QName). (other : QName) → contains name_cmp new other ≡ cond (is_eq (name_cmp n other)) true (contains name_cmp old other))
     c.in_ok-key.ensures c.in_ok-added.ensures.updates.0)

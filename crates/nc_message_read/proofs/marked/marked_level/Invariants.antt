@@ -1,6 +1,6 @@
 use Rattle.std.proofs.Common.{◌≡◌, false, map, take}
 use Rattle.nc_message_read.specs.inner.Marks.{marked_bound}
-use Rattle.nc_message_read.proofs.scope.marked_level.Given as goal
+use Rattle.nc_message_read.proofs.marked.marked_level.Given as goal
 
 -- the bindings so far are declared
 abbrev pub invariant-loop-bound : goal.invariant-loop-bound

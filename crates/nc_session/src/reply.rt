@@ -1,8 +1,9 @@
 //! The writing of replies (RFC 6242 4.2 and 4.3).
-ghost use Rattle.std.specs.Prelude.{◌≡◌, ◌++◌, ◌∷◌, ◌<◌, [], OnOk, OnErr, IfOk};
+ghost use Rattle.std.specs.Prelude.{◌≡◌, ◌++◌, ◌∷◌, ◌<◌, [], length, OnOk, OnErr, IfOk};
 ghost use Rattle.nc_frames.specs.Framing.{announced, chunk, in_chunks};
 ghost use Rattle.nc_names.specs.Signs.{line_feed};
-ghost use Rattle.nc_session.specs.Replies.{cut, reply_text};
+ghost use Rattle.nc_session.specs.Replies.{cut, framed, reply_text};
+ghost use Rattle.nc_session.specs.declared.base.Base.TheVariants.{Base11};
 ghost use Rattle.nc_session.specs.inner.Turns.{Writes};
 
 use crate::{Base, SessionEnd};
@@ -87,7 +88,27 @@ fn send_chunks<K: Sink>(
     }
 }
 
-/// Writes a reply, framed. Its text is kept once, in `out`.
+// Writes a body in chunks. One that is no longer than a chunk is framed first, and written at once, so that
+// who reads it wakes once.
+fn send_framed<K: Sink>(alloc: Global, body: &[u8], sink: &mut K) -> Result<(), SessionEnd>
+    requires { 0 < length body.now }
+    ensures { Writes (framed Base11 body.now) (K.taken sink.old) (K.taken sink.new)
+        (K.faults sink.old) (K.faults sink.new) result }
+{
+    if is_long(body) {
+        return send_chunks(alloc, body, WRITTEN_CHUNK, sink);
+    }
+    let mut text = Bytes::new(alloc);
+    write_chunks(body, &mut text)?;
+    send(text.as_slice(), sink)
+}
+
+// Whether a body is longer than a chunk.
+fn is_long(body: &[u8]) -> bool {
+    body.len() > WRITTEN_CHUNK
+}
+
+/// Writes a reply, framed. Its text is kept once, in `out`, where it is longer than a chunk.
 pub(crate) fn send_reply<K: Sink>(
     alloc: Global,
     base: Base,
@@ -105,6 +126,6 @@ pub(crate) fn send_reply<K: Sink>(
             out.push_slice(b"]]>]]>")?;
             send(out.as_slice(), sink)
         }
-        Base::Base11 => send_chunks(alloc, out.as_slice(), WRITTEN_CHUNK, sink),
+        Base::Base11 => send_framed(alloc, out.as_slice(), sink),
     }
 }

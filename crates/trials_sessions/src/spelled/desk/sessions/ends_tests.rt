@@ -368,7 +368,8 @@ fn the_desk_ends_a_session(rt: HostRuntime) {
     each_comes_to_in_pieces(&rt, rt.alloc(), TROUBLES);
 }
 
-// A read or a write that fails. What is read comes in one piece, so the second read finds the end.
+// A read or a write that fails. What is read comes in one piece, so the second read finds the end; the hello
+// and each reply are one write.
 const FAILURES: &[Case] = &[
     (
         Faults {
@@ -416,37 +417,7 @@ const FAILURES: &[Case] = &[
             ..NONE
         },
         "^*$;~126|(1}_)!~90|(2}<close-session/>)!",
-        "%~76|",
-        SessionEnd::WriteFault,
-        1,
-    ),
-    (
-        Faults {
-            bad_write: 4,
-            ..NONE
-        },
-        "^*$;~126|(1}_)!~90|(2}<close-session/>)!",
-        "%~76|[",
-        SessionEnd::WriteFault,
-        1,
-    ),
-    (
-        Faults {
-            bad_write: 5,
-            ..NONE
-        },
-        "^*$;~126|(1}_)!~90|(2}<close-session/>)!",
         "%~76|[!",
-        SessionEnd::WriteFault,
-        0,
-    ),
-    (
-        Faults {
-            bad_write: 7,
-            ..NONE
-        },
-        "^*$;~126|(1}_)!~90|(2}<close-session/>)!",
-        "%~76|[!~76|[",
         SessionEnd::WriteFault,
         0,
     ),

@@ -5,7 +5,7 @@ ghost use Rattle.nc_schema.specs.Places as places;
 ghost use Rattle.nc_defaults.specs.Within.{AreWithin, IsWithin, place_here, places_in};
 ghost use Rattle.nc_validate.specs.inner.Parts.{part_from};
 
-use nc_defaults::{Here, Spot, found_below, next_of, place_of, run_end};
+use nc_defaults::{Here, Spot, found_next, next_of, place_of, run_end};
 use nc_names::{Many, Memory, Step};
 use nc_schema::{Node, Schema};
 use nc_tree::Listed;
@@ -40,7 +40,7 @@ fn with_part<'a>(
     }
     let below = place_of(schema, config, steps, here, node, rows);
     out.push(Spot {
-        steps: found_below(config, rows.0, steps, alloc, step)?,
+        steps: found_next(config, rows.0, steps, alloc, step)?,
         here: below,
     })?;
     Ok(out)

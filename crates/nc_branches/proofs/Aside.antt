@@ -18,7 +18,7 @@ use Rattle.nc_branches.specs.inner.Order.{AreUnder, IsUnder}
 use Rattle.nc_branches.specs.Orders.{before_in, first_order}
 use Rattle.nc_branches.specs.inner.Putting.{Aiming, AreAside, IsAside, IsAt, IsPut, last_node}
 use Rattle.nc_branches.specs.Sides.{among, is_front}
-use Rattle.nc_branches.proofs.Placing.{own_under, parts_under, whole_from}
+use Rattle.nc_branches.proofs.Placing.{own_under, parts_under}
 use Rattle.nc_branches.proofs.Places.{goes_on}
 use Rattle.nc_branches.proofs.Putting.{here_among, left_among, right_among}
 use Rattle.nc_branches.proofs.RowSides.{get_common, same_back, split_get, stay, taken_length}
@@ -115,7 +115,6 @@ pub put_left_of : (aim : Aiming) (depth : ℕ) (above : Option ℕ) (branches : 
     AreAside false aim depth above (rows_of fork.twig) → AreAside false aim depth above fork.right.rows → IsPut aim depth above fork.left.rows left → new ≡ left ++ rows_of fork.twig ++ fork.right.rows → IsPut aim depth above branches.rows new
 unfolding AreAside
 put_left_of aim depth above branches fork left new is here right inner same = record {
-  from = λ path under block. let u = parts_under path branches fork is under in subst (AreUnder path) (sym same) (whole_from path fork left (rows_of fork.twig) fork.right.rows (inner.from path u.0 block) u.1 u.2);
   put = λ block level.
       let u = parts_under (take depth aim.steps) branches fork is level.under in
       let put : left ≡ among aim.tables aim.orders aim.steps aim.block fork.left.rows = inner.put block (record { above_is = level.above_is; under = u.0 }) in
@@ -128,7 +127,6 @@ pub put_right_of : (aim : Aiming) (depth : ℕ) (above : Option ℕ) (branches :
     AreAside true aim depth above fork.left.rows → AreAside true aim depth above (rows_of fork.twig) → IsPut aim depth above fork.right.rows right → new ≡ fork.left.rows ++ rows_of fork.twig ++ right → IsPut aim depth above branches.rows new
 unfolding AreAside
 put_right_of aim depth above branches fork right new is left here inner same = record {
-  from = λ path under block. let u = parts_under path branches fork is under in subst (AreUnder path) (sym same) (whole_from path fork fork.left.rows (rows_of fork.twig) right u.0 u.1 (inner.from path u.2 block));
   put = λ block level.
       let u = parts_under (take depth aim.steps) branches fork is level.under in
       let put : right ≡ among aim.tables aim.orders aim.steps aim.block fork.right.rows = inner.put block (record { above_is = level.above_is; under = u.2 }) in
@@ -141,7 +139,6 @@ pub put_between : (aim : Aiming) (depth : ℕ) (above : Option ℕ) (branches : 
     AreAside true aim depth above fork.left.rows → AreAside false aim depth above fork.right.rows → IsPut aim depth above (rows_of fork.twig) here → new ≡ fork.left.rows ++ here ++ fork.right.rows → IsPut aim depth above branches.rows new
 unfolding AreAside
 put_between aim depth above branches fork here new is left right inner same = record {
-  from = λ path under block. let u = parts_under path branches fork is under in subst (AreUnder path) (sym same) (whole_from path fork fork.left.rows here fork.right.rows u.0 (inner.from path u.1 block) u.2);
   put = λ block level.
       let u = parts_under (take depth aim.steps) branches fork is level.under in
       let put : here ≡ among aim.tables aim.orders aim.steps aim.block (rows_of fork.twig) = inner.put block (record { above_is = level.above_is; under = u.1 }) in

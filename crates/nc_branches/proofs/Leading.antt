@@ -44,9 +44,6 @@ put_on aim depth above step twig below at long step_is inner =
     put_below aim depth above step.node twig below (own_rows twig.stands twig.row ++ below) at long
     (let next : suc depth ≡ depth + 1 = omega arith in subst (λ n. last_node None (take n aim.steps) ≡ Some step.node) next (last_taken None depth aim.steps step step_is)) inner refl
 
-pub put_under : (aim : Aiming) (depth : ℕ) (above : Option ℕ) (twig : Shoot) (below : List Row) → Leads aim depth twig → IsPut aim (depth + 1) above twig.below.rows below → AreUnder twig.row.path.steps below
-put_under aim depth above twig below at put = put.from twig.row.path.steps at.under at.block
-
 -- a node is below the first steps to it
 pub raised_under : (n : ℕ) (steps : List Step) (twig : Shoot) (rows : List Row) → steps ≡ take n twig.row.path.steps → AreUnder twig.row.path.steps twig.below.rows → rows ≡ rows_of twig → AreUnder steps rows
 unfolding AreUnder

@@ -39,3 +39,4 @@ pub mod Tallying
 pub mod Laying
 pub mod FreeRows
 pub mod Going
+pub mod Regrowing

@@ -120,25 +120,29 @@ twig_on : (aim : Aiming) (depth : ℕ) (above : Option ℕ) (way side : Ordering
 twig_on aim depth above way side fork ready at is =
     twig_side side depth at.asked fork.twig (record { depth_is = ready.depth_is; own = at.own; own_is = own_at aim depth way fork.twig ready.depth_is at; side_is = is; under = at.under })
 
--- the whole is from the old rows and the block where its parts are
+-- what is so of the three parts is so of the whole, and the other way
+pub whole_all : (P : Row → Type 0) (left here right : List Row) → All P left → All P here → All P right → All P (left ++ here ++ right)
+whole_all P left here right l h r = All-append P (left ++ here) right (All-append P left here l h) r
+
 pub whole_from : (path : List Step) (fork : Fork) (left here right : List Row) → AreUnder path left → AreUnder path here → AreUnder path right → AreUnder path (left ++ here ++ right)
 unfolding AreUnder
-whole_from path fork left here right l h r = All-append (IsUnder path) (left ++ here) right (All-append (IsUnder path) left here l h) r
+whole_from path fork left here right l h r = whole_all (IsUnder path) left here right l h r
+
+pub parts_all : (P : Row → Type 0) (branches : Branches) (fork : Fork) → IsForkOf branches fork → All P branches.rows → All P fork.left.rows × All P (rows_of fork.twig) × All P fork.right.rows
+parts_all P branches fork is all = let t = three P branches fork is all in (t.left, t.here, t.right)
 
 pub parts_under : (path : List Step) (branches : Branches) (fork : Fork) → IsForkOf branches fork → AreUnder path branches.rows → AreUnder path fork.left.rows × AreUnder path (rows_of fork.twig) × AreUnder path fork.right.rows
 unfolding AreUnder
-parts_under path branches fork is all = let t = three (IsUnder path) branches fork is all in (t.left, t.here, t.right)
+parts_under path branches fork is all = parts_all (IsUnder path) branches fork is all
 
 pub put_none : (aim : Aiming) (depth : ℕ) (above : Option ℕ) (old new : List Row) → old ≡ [] → new ≡ aim.block → IsPut aim depth above old new
 put_none aim depth above old new none same = record {
-  from = λ path under block. subst (AreUnder path) (sym same) block;
   put = λ block level. let orders = aim.orders in same ∙ sym (none_among aim.tables orders aim.steps aim.block old none);
 }
 
 pub put_left : (aim : Aiming) (depth : ℕ) (above : Option ℕ) (branches : Branches) (fork : Fork) (left new : List Row) → IsForkOf branches fork → IsReady aim depth above fork → FreeAt aim depth branches.rows → IsAsked Less aim.steps fork.twig → IsPut aim depth above fork.left.rows left → new ≡ left ++ rows_of fork.twig ++ fork.right.rows → IsPut aim depth above branches.rows new
 unfolding AreUnder FreeAt
 put_left aim depth above branches fork left new is ready free at inner same = record {
-  from = λ path under block. let u = parts_under path branches fork is under in subst (AreUnder path) (sym same) (whole_from path fork left (rows_of fork.twig) fork.right.rows (inner.from path u.0 block) u.1 u.2);
   put = λ block level. let orders = aim.orders in
       let u = parts_under (take depth aim.steps) branches fork is level.under in
       let s = split aim depth above fork at.asked ready level.above_is (asked_at aim depth Less fork.twig ready.depth_is at) in
@@ -155,7 +159,6 @@ put_left aim depth above branches fork left new is ready free at inner same = re
 pub put_right : (aim : Aiming) (depth : ℕ) (above : Option ℕ) (branches : Branches) (fork : Fork) (right new : List Row) → IsForkOf branches fork → IsReady aim depth above fork → FreeAt aim depth branches.rows → IsAsked Greater aim.steps fork.twig → IsPut aim depth above fork.right.rows right → new ≡ fork.left.rows ++ rows_of fork.twig ++ right → IsPut aim depth above branches.rows new
 unfolding AreUnder FreeAt
 put_right aim depth above branches fork right new is ready free at inner same = record {
-  from = λ path under block. let u = parts_under path branches fork is under in subst (AreUnder path) (sym same) (whole_from path fork fork.left.rows (rows_of fork.twig) right u.0 u.1 (inner.from path u.2 block));
   put = λ block level. let orders = aim.orders in
       let u = parts_under (take depth aim.steps) branches fork is level.under in
       let s = split aim depth above fork at.asked ready level.above_is (asked_at aim depth Greater fork.twig ready.depth_is at) in
@@ -175,7 +178,6 @@ equal_side a b x side same e = Rattle.std.proofs.lemmas.Cmp.alike_right step_tot
 pub put_here : (aim : Aiming) (depth : ℕ) (above : Option ℕ) (branches : Branches) (fork : Fork) (here new : List Row) → IsForkOf branches fork → IsReady aim depth above fork → FreeAt aim depth branches.rows → IsAsked Equal aim.steps fork.twig → IsPut aim depth above (rows_of fork.twig) here → new ≡ fork.left.rows ++ here ++ fork.right.rows → IsPut aim depth above branches.rows new
 unfolding AreUnder FreeAt
 put_here aim depth above branches fork here new is ready free at inner same = record {
-  from = λ path under block. let u = parts_under path branches fork is under in subst (AreUnder path) (sym same) (whole_from path fork fork.left.rows here fork.right.rows u.0 (inner.from path u.1 block) u.2);
   put = λ block level. let orders = aim.orders in
       let u = parts_under (take depth aim.steps) branches fork is level.under in
       let s = split aim depth above fork at.asked ready level.above_is (asked_at aim depth Equal fork.twig ready.depth_is at) in
@@ -202,7 +204,6 @@ put_last aim depth above twig new leads len same =
     let none : leads.rest ≡ [] = nil_from_length leads.rest (shorter twig.row.path.steps leads.rest leads.length_is (ap length (sym leads.steps_are) ∙ len)) in
     let path : aim.steps ≡ twig.row.path.steps = leads.steps_are ∙ ap (λ xs. twig.row.path.steps ++ xs) none ∙ append-nil twig.row.path.steps in
     record {
-      from = λ path under block. subst (AreUnder path) (sym same) block;
       put = λ block level. let orders = aim.orders in same ∙ sym (gone_among aim.tables orders aim.steps aim.block (rows_of twig) (subst (λ steps. All (IsUnder steps) (rows_of twig)) (sym path) (own_under twig leads.under)));
     }
   where
@@ -213,10 +214,6 @@ put_last aim depth above twig new leads len same =
 pub put_below : (aim : Aiming) (depth : ℕ) (above : Option ℕ) (node : ℕ) (twig : Shoot) (below new : List Row) → Leads aim depth twig → depth + 1 < length aim.steps → last_node None (take (depth + 1) aim.steps) ≡ Some node → IsPut aim (depth + 1) (Some node) twig.below.rows below → new ≡ own_rows twig.stands twig.row ++ below → IsPut aim depth above (rows_of twig) new
 unfolding AreUnder
 put_below aim depth above node twig below new leads long node_is inner same = record {
-  from = λ path under block.
-      let own = all_first (IsUnder path) (own_rows twig.stands twig.row) twig.below.rows under in
-      let rest = inner.from path (all_second (IsUnder path) (own_rows twig.stands twig.row) twig.below.rows under) block in
-      subst (AreUnder path) (sym same) (All-append (IsUnder path) (own_rows twig.stands twig.row) below own rest);
   put = λ block level. let orders = aim.orders in
       let path : take (depth + 1) aim.steps ≡ twig.row.path.steps = ap (take (depth + 1)) leads.steps_are ∙ take_at twig.row.path.steps leads.rest (depth + 1) leads.length_is in
       let put : below ≡ among aim.tables orders aim.steps aim.block twig.below.rows = inner.put block (record { above_is = sym node_is; under = subst (λ steps. AreUnder steps twig.below.rows) (sym path) leads.under }) in

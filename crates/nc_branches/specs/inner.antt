@@ -13,6 +13,8 @@ pub mod Putting
 pub mod Free
 pub mod Ready
 pub mod Turning
+pub mod Outcomes
+pub mod Regrown
 pub mod Aims
 pub mod Layings
 pub mod Ways

@@ -1,5 +1,5 @@
 //! A node that is to stand at a path, with what has to be known of the path.
-ghost use Rattle.std.specs.Prelude.{◌≡◌, ◌<◌, [], drop, length, slice_get, take, ℕ, List, IfOk, IfSome, MatchOption, OnSome, Option, Some, None};
+ghost use Rattle.std.specs.Prelude.{◌≡◌, ◌∷◌, ◌<◌, [], drop, length, slice_get, take, ℕ, List, IfOk, IfSome, MatchOption, OnSome, Option, Some, None};
 ghost use Rattle.std.specs.Option.{option_copied, option_map_or};
 ghost use Rattle.nc_names.specs.declared.path.Row.{Row};
 ghost use Rattle.nc_branches.specs.inner.Shoots.{rows_of};
@@ -13,7 +13,7 @@ use crate::grow::raised;
 use crate::labels::Turn;
 use crate::siblings::is_by_user;
 use crate::tree::{Tree, Twig};
-use nc_names::{Copies, Many, Memory, Place, Step};
+use nc_names::{Copies, Many, Memory, Place, Row, Step};
 use nc_schema::Schema;
 use std::alloc::Global;
 use std::marker::Model;
@@ -216,6 +216,20 @@ impl<'b, 'a> Aim<'b, 'a> {
             return Turn::Kept;
         }
         lay.turn
+    }
+
+    /// The row that is to stand at the path, where no other is.
+    #[tactic(auto, using(crate::proofs::Going::block_alone))]
+    pub(crate) fn only_row(&self) -> Option<&Row>
+        ensures { IfSome result (λ row. self.now.block ≡ row.now ∷ []) }
+    {
+        let Some(twig) = &self.new else {
+            return None;
+        };
+        let Some(row) = twig.only_row() else {
+            return None;
+        };
+        Some(row)
     }
 
     /// The node, where there is one.

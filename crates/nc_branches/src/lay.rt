@@ -18,6 +18,7 @@ use crate::front::Front;
 use crate::grow::copied;
 use crate::labels::Turn;
 use crate::locate::{head, is_entry};
+use crate::outcome::Outcome;
 use crate::put::node_of;
 use crate::siblings::is_by_user;
 use crate::tree::{Tree, Twig};
@@ -171,8 +172,9 @@ fn lay_by<'b, 'a>(
     let turn = aim.turn_at(0);
     let free = lay.laid.is_free(&aim, 0);
     match lay.laid.put(alloc, &aim, 0, None, turn, free)? {
-        None => Ok(None),
-        Some(tree) => Ok(Some(tree)),
+        Outcome::Unknown => Ok(None),
+        Outcome::Kept => Ok(Some(lay.laid.copy()?)),
+        Outcome::Made(tree) => Ok(Some(tree)),
     }
 }
 

@@ -25,7 +25,7 @@ fn is_beside(step: &Step, own: &Step) -> bool
 }
 
 /// Whether a step comes before another by its number, or both are of one list.
-fn is_low(step: &Step, own: &Step) -> bool
+pub(crate) fn is_low(step: &Step, own: &Step) -> bool
     ensures { result ≡ is_low step.now own.now }
 {
     if own.node < step.node {
@@ -35,7 +35,7 @@ fn is_low(step: &Step, own: &Step) -> bool
 }
 
 /// Whether a step comes after another by its number, or both are of one list.
-fn is_high(step: &Step, own: &Step) -> bool
+pub(crate) fn is_high(step: &Step, own: &Step) -> bool
     ensures { result ≡ is_high step.now own.now }
 {
     if step.node < own.node {

@@ -8,14 +8,17 @@ ghost use Rattle.nc_branches.specs.inner.Shoots.{rows_of};
 ghost use Rattle.nc_branches.specs.Sides.{among};
 ghost use Rattle.nc_branches.specs.inner.Gone.{HasFirst};
 ghost use Rattle.nc_branches.specs.inner.Order.{AreUnder};
-ghost use Rattle.nc_branches.specs.inner.Putting.{IsNode, Leads};
+ghost use Rattle.nc_branches.specs.inner.Outcomes.{Becomes, NodeBecomes};
+ghost use Rattle.nc_branches.specs.inner.Putting.{HasBlock, IsNode, Leads};
 ghost use Rattle.nc_branches.specs.inner.Turning.{Puts, PutsIn};
 
 use crate::aim::Aim;
 use crate::front::fronts_of;
 use crate::labels::Turn;
+use crate::outcome::{NodeOutcome, Outcome};
 use crate::part::joined;
-use crate::tree::{Tree, Twig, join};
+use crate::same::is_same_value;
+use crate::tree::{Tree, Twig};
 use crate::way::Way;
 use nc_names::{Copies, Many, Memory, Row, Step, Text, same_steps};
 use nc_schema::Schema;
@@ -53,25 +56,45 @@ impl Twig {
         goes_on(steps, path)
     }
 
+    /// Whether the node has the one row that is to stand at a path to which it leads, and no other.
+    #[tactic(auto, using(crate::proofs::Going::has_block))]
+    fn has_block(&self, aim: &Aim) -> bool
+        ensures { result ≡ true → HasBlock aim.now self.now }
+    {
+        let Some(own) = self.only_row() else {
+            return false;
+        };
+        let Some(row) = aim.only_row() else {
+            return false;
+        };
+        if own.path.steps.len() != row.path.steps.len() {
+            return false;
+        }
+        is_same_value(&own.value, &row.value)
+    }
+
     /// The node with other rows at and below a path, where it is known on which side the path goes on.
     #[cycle(put)]
+    #[tactic(auto, using(crate::proofs::Going::puts_kept))]
     fn put<'b, 'a>(
         &'a self,
         alloc: Global,
         aim: &Aim<'b, 'a>,
         depth: usize,
-    ) -> Result<Option<Option<Twig>>, Memory>
-        ensures { IfOk result (λ it. IfSome it
-            (λ here. PutsIn aim.now depth self.now (option_map_or rows_of here []))) }
+    ) -> Result<NodeOutcome, Memory>
+        ensures { IfOk result (λ it. NodeBecomes it self.now (λ new. PutsIn aim.now depth self.now new)) }
     {
         if !self.is_on_way(aim, depth) {
-            return Ok(None);
+            return Ok(NodeOutcome::Unknown);
         }
         let Some(step) = aim.step(depth) else {
-            return Ok(None);
+            return Ok(NodeOutcome::Unknown);
         };
         if aim.len() == depth + 1 {
-            return Ok(Some(aim.node()?));
+            if self.has_block(aim) {
+                return Ok(NodeOutcome::Kept);
+            }
+            return Ok(NodeOutcome::Made(aim.node()?));
         }
         let turn = aim.turn_at(depth + 1);
         let free = self.below.is_free(aim, depth + 1);
@@ -79,15 +102,17 @@ impl Twig {
             .below
             .put(alloc, aim, depth + 1, Some(step.node), turn, free)?
         {
-            None => Ok(None),
-            Some(below) => Ok(Some(Some(self.with_below(below)?))),
+            Outcome::Unknown => Ok(NodeOutcome::Unknown),
+            Outcome::Kept => Ok(NodeOutcome::Kept),
+            Outcome::Made(below) => Ok(NodeOutcome::Made(Some(self.with_below(below)?))),
         }
     }
 }
 
 impl Tree {
     /// Other rows at and below a path, where it is known on which side the path goes on. Where it was seen
-    /// that no sibling gives way to it, none is looked at for that.
+    /// that no sibling gives way to it, none is looked at for that. Where the row stands there already
+    /// nothing is made.
     #[cycle(put)]
     #[tactic(auto, using(crate::proofs::Going::puts_none))]
     pub(crate) fn put<'b, 'a>(
@@ -98,27 +123,35 @@ impl Tree {
         above: Option<u32>,
         turn: Turn,
         free: bool,
-    ) -> Result<Option<Tree>, Memory>
-        ensures { IfOk result (λ it. IfSome it
-            (λ tree. Puts turn free aim.now depth above self.now.rows tree.rows)) }
+    ) -> Result<Outcome, Memory>
+        ensures { IfOk result (λ it. Becomes it self.now.rows
+            (λ new. Puts turn free aim.now depth above self.now.rows new)) }
     {
         let Some(fork) = self.fork() else {
-            return Ok(Some(aim.planted(alloc, depth)?));
+            return Ok(Outcome::Made(aim.planted(alloc, depth)?));
         };
-        let (way, next) = fork.way(aim, depth, above, turn, free);
+        let side = fork.twig.asked(aim.steps());
+        let (way, next) = fork.way(aim, depth, above, turn, free, side);
         match way {
-            Way::Unknown => Ok(None),
+            Way::Unknown => Ok(Outcome::Unknown),
             Way::Left => match fork.left.put(alloc, aim, depth, above, next, free)? {
-                None => Ok(None),
-                Some(left) => Ok(Some(join(alloc, &left, &fork.twig, &fork.right)?)),
+                Outcome::Unknown => Ok(Outcome::Unknown),
+                Outcome::Kept => Ok(Outcome::Kept),
+                Outcome::Made(left) => Ok(Outcome::Made(fork.with_left(alloc, aim, side, left)?)),
             },
             Way::Here => match fork.twig.put(alloc, aim, depth)? {
-                None => Ok(None),
-                Some(here) => Ok(Some(joined(alloc, &fork.left, here, &fork.right)?)),
+                NodeOutcome::Unknown => Ok(Outcome::Unknown),
+                NodeOutcome::Kept => Ok(Outcome::Kept),
+                NodeOutcome::Made(here) => {
+                    Ok(Outcome::Made(joined(alloc, &fork.left, here, &fork.right)?))
+                }
             },
             Way::Right => match fork.right.put(alloc, aim, depth, above, next, free)? {
-                None => Ok(None),
-                Some(right) => Ok(Some(join(alloc, &fork.left, &fork.twig, &right)?)),
+                Outcome::Unknown => Ok(Outcome::Unknown),
+                Outcome::Kept => Ok(Outcome::Kept),
+                Outcome::Made(right) => Ok(Outcome::Made(fork.with_right(
+                    alloc, aim, side, right,
+                )?)),
             },
         }
     }
@@ -254,8 +287,9 @@ impl Tree {
         let aim = Aim::new(schema, &fronts, steps, node);
         let free = self.is_free(&aim, 0);
         match self.put(alloc, &aim, 0, None, Turn::Kept, free)? {
-            None => Ok(None),
-            Some(tree) => Ok(Some(tree)),
+            Outcome::Unknown => Ok(None),
+            Outcome::Kept => Ok(Some(self.copy()?)),
+            Outcome::Made(tree) => Ok(Some(tree)),
         }
     }
 }

@@ -1,17 +1,29 @@
 //! Whether two trees have the same rows.
 ghost use Rattle.std.specs.Prelude.{◌≡◌, ◌↔◌, true, length, IsTrue};
 ghost use Rattle.std.specs.Option.{option_copied};
+ghost use Rattle.nc_names.specs.Same as same;
 ghost use Rattle.nc_branches.specs.inner.Alike.{AreAlike};
 ghost use Rattle.nc_branches.specs.inner.Shoots.{own_rows};
 
 use crate::tree::{Fork, Tree};
-use nc_names::Row;
+use nc_names::{Row, Text};
 
 /// Whether two rows are the same.
 fn is_same_row(row: &Row, other: &Row) -> bool
     ensures { IsTrue result ↔ (row.now ≡ other.now) }
 {
     row == other
+}
+
+/// Whether two values are the same, or there is none in both.
+pub(crate) fn is_same_value(value: &Option<Text>, other: &Option<Text>) -> bool
+    ensures { result ≡ same.is_same_value value.now other.now }
+{
+    match (value, other) {
+        (None, None) => true,
+        (Some(text), Some(another)) => text == another,
+        _ => false,
+    }
 }
 
 impl Fork {

@@ -7,6 +7,8 @@ ghost use Rattle.nc_branches.specs.inner.Shoots.{Shoot, rows_of};
 ghost use Rattle.nc_branches.specs.inner.Depths.{AreLong};
 ghost use Rattle.nc_branches.specs.inner.Forks.{IsForkOf, rows_of_fork};
 ghost use Rattle.nc_branches.specs.inner.Order.{depth_of, step_cmp};
+ghost use Rattle.nc_branches.specs.inner.Putting.{IsAlone};
+ghost use Rattle.nc_branches.specs.inner.Regrown.{AreMarked};
 ghost use Rattle.nc_branches.specs.Singles.{AreSingle};
 
 use crate::marks::{are_numbered, are_single, are_whole};
@@ -225,6 +227,20 @@ pub(crate) fn order(step: &Step, other: &Step) -> Ordering
 }
 
 impl Twig {
+    /// The node's own row, where it has no other.
+    #[tactic(auto, using(crate::proofs::Going::alone_own))]
+    pub(crate) fn only_row(&self) -> Option<&Row>
+        ensures { IfSome result (λ row. IsAlone row.now self.now) }
+    {
+        if !self.stands {
+            return None;
+        }
+        if !self.below.is_empty() {
+            return None;
+        }
+        Some(self.row.get())
+    }
+
     /// No row of the node has a shorter path.
     #[tactic(auto, using(crate::proofs::Depths::long_twig))]
     fn shortest(&self) -> usize
@@ -251,19 +267,50 @@ fn count_of(left: &Tree, twig: &Twig, right: &Tree) -> Option<u64>
         .checked_add(right.len())
 }
 
+/// What is marked of a node among its siblings.
+#[derive(Clone, Copy)]
+pub(crate) struct Marks {
+    pub(crate) ordered: bool,
+    pub(crate) numbered: bool,
+    pub(crate) whole: bool,
+}
+
+/// Whether neither side is more than one level higher than the other.
+pub(crate) fn are_level(left: &Tree, right: &Tree) -> bool {
+    let (one, two) = (left.height(), right.height());
+    one <= two.saturating_add(1) && two <= one.saturating_add(1)
+}
+
 impl Tree {
     /// A node among its siblings.
     pub(crate) fn of(alloc: Global, left: Tree, twig: Twig, right: Tree) -> Result<Tree, Memory>
+        ensures { IfOk result (λ it. it.rows ≡ left.rows ++ rows_of twig ++ right.rows) }
+    {
+        let ordered = are_parted(&left, &twig, &right);
+        let marks = Marks {
+            ordered,
+            numbered: are_numbered(&left, &twig, &right),
+            whole: are_whole(&left, &twig, &right),
+        };
+        Tree::marked(alloc, left, twig, right, marks)
+    }
+
+    /// A node among its siblings, where it is known what is marked of them.
+    pub(crate) fn marked(
+        alloc: Global,
+        left: Tree,
+        twig: Twig,
+        right: Tree,
+        marks: Marks,
+    ) -> Result<Tree, Memory>
+        requires { AreMarked marks twig left.rows right.rows }
         ensures { IfOk result (λ it. it.rows ≡ left.rows ++ rows_of twig ++ right.rows) }
     {
         let Some(count) = count_of(&left, &twig, &right) else {
             return Err(Memory);
         };
         let height = left.height().max(right.height()).saturating_add(1);
-        let ordered = are_parted(&left, &twig, &right);
-        let single = are_single(ordered, &left, &twig, &right);
-        let numbered = are_numbered(&left, &twig, &right);
-        let whole = are_whole(&left, &twig, &right);
+        let single = are_single(marks.ordered, &left, &twig, &right);
         let shortest = least_of(&left, &twig, &right);
         Ok(Tree {
             root: Some(Arc::new(
@@ -275,10 +322,10 @@ impl Tree {
                     count,
                     height,
                     shortest,
-                    ordered,
+                    ordered: marks.ordered,
                     single,
-                    numbered,
-                    whole,
+                    numbered: marks.numbered,
+                    whole: marks.whole,
                 },
             )?),
         })

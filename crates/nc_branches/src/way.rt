@@ -6,6 +6,7 @@ ghost use Rattle.nc_branches.specs.Branches.{Branches};
 ghost use Rattle.nc_branches.specs.inner.Shoots.{rows_of};
 ghost use Rattle.nc_branches.specs.inner.Forks.{IsForkOf};
 ghost use Rattle.nc_branches.specs.inner.Free.{FreeAt, FreeWhere};
+ghost use Rattle.nc_branches.specs.inner.Places.{IsAsked};
 ghost use Rattle.nc_branches.specs.inner.Putting.{AreAside, IsAside, IsPlain};
 ghost use Rattle.nc_branches.specs.inner.Ready.{IsReady};
 ghost use Rattle.nc_branches.specs.inner.Turning.{IsSingle, IsTurned};
@@ -180,8 +181,8 @@ impl Twig {
 }
 
 impl Fork {
-    /// Where the path goes on, and where it goes among the entries there. Where it was not seen that no
-    /// sibling gives way, each is looked at.
+    /// Where the path goes on, and where it goes among the entries there, where it is known how its step
+    /// compares with the node's. Where it was not seen that no sibling gives way, each is looked at.
     #[tactic(auto, using(crate::proofs::Beside::same_turn))]
     pub(crate) fn way<'b, 'a>(
         &'a self,
@@ -190,7 +191,9 @@ impl Fork {
         above: Option<u32>,
         turn: Turn,
         free: bool,
+        side: Option<Ordering>,
     ) -> (Way, Turn)
+        requires { IfSome side (λ way. IsAsked way aim.now.steps self.now.twig) }
         ensures { (branches : Branches) → IsForkOf branches self.now →
             IsTurned turn aim.now depth branches.rows → FreeWhere free aim.now depth branches.rows →
             Goes result.0 result.1 aim.now depth above branches self.now }
@@ -199,7 +202,7 @@ impl Fork {
             return (self.seen_way(aim, depth, above), turn);
         }
         if self.is_ready(aim, depth, above) {
-            return (self.marked_way(aim, depth, above), turn);
+            return (self.marked_way(aim, depth, above, side), turn);
         }
         let (way, next) = self.numbered_way(aim, depth, above, turn);
         if way != Way::Unknown {
@@ -342,14 +345,15 @@ impl Fork {
         }
     }
 
-    /// Where the path goes on, by the mark.
+    /// Where the path goes on, by the mark, as its step compares with the node's.
     #[tactic(auto, using(crate::proofs::Ways::marked_left, crate::proofs::Ways::marked_here, crate::proofs::Ways::marked_right, crate::proofs::Ways::unknown))]
-    fn marked_way(&self, aim: &Aim, depth: usize, above: Option<u32>) -> Way
-        requires { IsReady aim.now depth above self.now }
+    fn marked_way(&self, aim: &Aim, depth: usize, above: Option<u32>, side: Option<Ordering>) -> Way
+        requires ready { IsReady aim.now depth above self.now }
+        requires asked { IfSome side (λ way. IsAsked way aim.now.steps self.now.twig) }
         ensures { (branches : Branches) → IsForkOf branches self.now → FreeAt aim.now depth branches.rows →
             GoesOn result aim.now depth above branches self.now }
     {
-        match self.twig.asked(aim.steps()) {
+        match side {
             None => Way::Unknown,
             Some(Ordering::Less) => Way::Left,
             Some(Ordering::Equal) => Way::Here,

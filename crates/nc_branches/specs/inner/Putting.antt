@@ -48,13 +48,16 @@ pub record Aiming : Type 0 where
   pub block : List Row
   pub lay : Option Laying
 
--- rows are those of a list and of the block
+-- rows pass a test
+abbrev pub Pass : (Row → Bool) → List Row → Type 0
+Pass test rows = All (λ row. test row ≡ true) rows
+
+-- rows are those of a list and of the block: they pass each test that all of these pass
 abbrev pub IsFrom : List Row → List Row → List Row → Type 0
-IsFrom block old new = (path : List Step) → AreUnder path old → AreUnder path block → AreUnder path new
+IsFrom block old new = (test : Row → Bool) → Pass test old → Pass test block → Pass test new
 
 -- the block is in its place among the others
 pub record IsPut (aim : Aiming) (depth : ℕ) (above : Option ℕ) (old new : List Row) : Type 0 where
-  pub from : IsFrom aim.block old new
   pub put : AreUnder aim.steps aim.block → IsLevel aim.steps depth above old →
       new ≡ among aim.tables aim.orders aim.steps aim.block old
 
@@ -92,3 +95,16 @@ pub record IsAside (before : Bool) (aim : Aiming) (depth : ℕ) (above : Option 
 pub record IsNode (steps : List Step) (rows : List Row) (shoot : Shoot) : Type 0 where
   pub rows_are : rows_of shoot ≡ rows
   pub under : AreUnder steps (rows_of shoot)
+
+-- the node has no row but its own, as the block has one alone, and the two are as deep and have one value
+pub record HasBlock (aim : Aiming) (shoot : Shoot) : Type 0 where
+  pub row : Row
+  pub block_is : aim.block ≡ row ∷ []
+  pub rows_are : rows_of shoot ≡ shoot.row ∷ []
+  pub length_is : length shoot.row.path.steps ≡ length row.path.steps
+  pub value_is : shoot.row.value ≡ row.value
+
+-- a node has no row but its own
+pub record IsAlone (row : Row) (shoot : Shoot) : Type 0 where
+  pub row_is : row ≡ shoot.row
+  pub rows_are : rows_of shoot ≡ row ∷ []

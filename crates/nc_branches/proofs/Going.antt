@@ -11,7 +11,7 @@ use Rattle.nc_names.specs.declared.path.Row.{Row}
 use Rattle.nc_names.specs.declared.path.Step.{Step}
 use Rattle.nc_branches.specs.Branches.{Branches}
 use Rattle.nc_branches.specs.inner.Forks.{IsForkOf}
-use Rattle.nc_branches.specs.inner.Free.{FreeAt, FreeWhere}
+use Rattle.nc_branches.specs.inner.Free.{FreeWhere}
 use Rattle.nc_branches.specs.inner.Order.{AreUnder, IsUnder}
 use Rattle.nc_branches.specs.inner.Putting.{Aiming, HasBlock, IsAlone, Leads, Pass}
 use Rattle.nc_branches.specs.inner.Shoots.{Shoot, own_rows, rows_of}

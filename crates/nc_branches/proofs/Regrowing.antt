@@ -11,10 +11,9 @@ use Rattle.nc_names.specs.declared.path.Row.{Row}
 use Rattle.nc_names.specs.declared.path.Step.{Step}
 use Rattle.nc_branches.specs.Branches.{Branches}
 use Rattle.nc_branches.specs.inner.Forks.{IsForkOf}
-use Rattle.nc_branches.specs.inner.Free.{FreeWhere}
 use Rattle.nc_branches.specs.inner.Order.{AreAfter, AreBefore, AreParted, AreUnder, IsSide, IsUnder, depth_of, step_cmp}
 use Rattle.nc_branches.specs.inner.Places.{IsAsked}
-use Rattle.nc_branches.specs.inner.Putting.{Aiming, IsFrom, Pass}
+use Rattle.nc_branches.specs.inner.Putting.{Aiming, IsFrom}
 use Rattle.nc_branches.specs.inner.Regrown.{IsPassed, IsRegrown}
 use Rattle.nc_branches.specs.inner.Steady.{AreBy, AreNumbered, AreWhole, AreWholeParts, is_high, is_low}
 use Rattle.nc_branches.specs.inner.Turning.{Puts}

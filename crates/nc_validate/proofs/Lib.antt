@@ -6,3 +6,4 @@ pub mod UniqueLemmas
 pub mod CountLemmas
 pub mod Firsts
 pub mod FreeLemmas
+pub mod AloneLemmas

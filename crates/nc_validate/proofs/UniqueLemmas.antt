@@ -1,6 +1,6 @@
 -- Sets of tuples, and the first entry that agrees with one before it.
 use Rattle.std.proofs.Common.{◌≡◌, ◌&&◌, ◌||◌, ◌++◌, ◌+◌, ◌<◌, ◌≤◌, ℕ, Bool, true, false, cond, List, [], ◌∷◌, length, drop, take, get_or, refl, sym, ap, subst, ◌∙◌, arith, Bor, if◌then◌else◌}
-use Rattle.std.specs.Prelude.{Option, Some, None, map, not}
+use Rattle.std.specs.Prelude.{Option, Some, None, map}
 use Rattle.std.specs.BTreeSet.{BTreeSet, contains}
 use Rattle.std.specs.List.{list_any}
 use Rattle.std.specs.Cmp.Lexicographic.{lists_ties, pointwise, slice_cmp}
@@ -15,13 +15,12 @@ use Rattle.nc_names.specs.declared.path.Row.{Row}
 use Rattle.nc_names.specs.declared.path.Step.{Step}
 use Rattle.nc_defaults.specs.Within.{place_here, places_in}
 use Rattle.nc_defaults.specs.declared.spots.Spot.{Spot}
-use Rattle.nc_schema.specs.InUse.{values_below}
 use Rattle.nc_schema.specs.Places.{Place}
 use Rattle.nc_schema.specs.Tables.{Tables}
 use Rattle.nc_schema.specs.Violations.{agree_in, repeated}
 use Rattle.nc_schema.specs.declared.violation.Violation.{Violation}
 use Rattle.nc_validate.specs.inner.First.{first}
-use Rattle.nc_validate.specs.inner.Tuples.{AddsTuple, AddsTuples, HasTuples, extended, is_tuple_in, order, shares, texts, tuples_of}
+use Rattle.nc_validate.specs.inner.Tuples.{AddsTuple, AddsTuples, HasTuples, is_tuple_in, order, shares, texts, tuples_of}
 use Rattle.nc_names.proofs.SameLemmas.{keys_decide}
 use Rattle.nc_validate.proofs.TuplesLemmas.{agree_is, any_map, any_same, any_swap}
 
@@ -40,7 +39,7 @@ pub order_ties : (tuple other : List (Bor (List ℕ))) → is_eq (order tuple ot
 order_ties tuple other =
     sym (lists_ties (λ (a b : Bor (List ℕ)). slice_cmp nat_cmp a.now b.now) (λ a b. sym (is_eq-slice_cmp a.now b.now)) tuple other) ∙ same_texts tuple other
 
-same_turned : (tuple other : List (List ℕ)) → is_same_keys tuple other ≡ is_same_keys other tuple
+pub same_turned : (tuple other : List (List ℕ)) → is_same_keys tuple other ≡ is_same_keys other tuple
 same_turned tuple other = by (is_same_keys tuple other) (is_same_keys other tuple)
     (λ e. (keys_decide other tuple).1 (sym ((keys_decide tuple other).0 e))) (λ e. (keys_decide tuple other).1 (sym ((keys_decide other tuple).0 e)))
   where
@@ -84,21 +83,6 @@ one_more_added first before now tuples tuple so_far added key =
     map_push [] tuple = refl
     map_push (one ∷ tuples) tuple = ap (λ more. texts one ∷ more) (map_push tuples tuple)
 
-pub none_added : (set : BTreeSet (List (Bor (List ℕ)))) → AddsTuples set set []
-none_added set key = sym (or_false (contains order set key))
-
-pub one_added : (before now : BTreeSet (List (Bor (List ℕ)))) (tuple : List (Bor (List ℕ))) → AddsTuple before now (texts tuple) → AddsTuples before now (map texts (tuple ∷ []))
-one_added before now tuple added key = added key ∙ ap (λ b. contains order before key || b) (sym (or_false (is_same_keys (texts key) (texts tuple))))
-
--- whether the set had it
-pub one_there : (set : BTreeSet (List (Bor (List ℕ)))) (tuple : List (Bor (List ℕ))) (there : Bool) → there ≡ contains order set tuple →
-    there ≡ list_any (λ one. contains order set one) (tuple ∷ [])
-one_there set tuple there had = had ∙ sym (or_false (contains order set tuple))
-
-pub had_unless_new : (new there : Bool) → new ≡ not there → not new ≡ there
-had_unless_new new true is = ap not is
-had_unless_new new false is = ap not is
-
 -- the set has the tuples of one entry more
 pub entry_added : (tables : Tables) (leafs : List ℕ) (entries : List Place) (entry : Place) (before now : BTreeSet (List (Bor (List ℕ)))) (tuples : List (List (Bor (List ℕ)))) →
     HasTuples tables leafs entries before → AddsTuples before now (map texts tuples) → map texts tuples ≡ tuples_of tables leafs entry →
@@ -120,26 +104,11 @@ agrees_is tables leafs entries entry set tuples has are =
     (λ other. sym (any_map (is_tuple_in (tuples_of tables leafs other)) texts tuples)
     ∙ ap (λ ts. shares ts (tuples_of tables leafs other)) are ∙ agree_is tables leafs entry other)
 
--- ---- the tuples of one leaf
-one_leaf : (tables : Tables) (leafs : List ℕ) (place : Place) (values : List (Bor (List ℕ))) → length leafs ≡ 1 → texts values ≡ values_below tables place (get_or leafs 0 0) →
-    extended ([] ∷ []) (texts values) ≡ tuples_of tables leafs place
-one_leaf tables [] place values one are = absurd (omega (arith, one))
-one_leaf tables (leaf ∷ []) place values one are = ap (extended ([] ∷ [])) are
-one_leaf tables (leaf ∷ other ∷ more) place values one are = absurd (omega (arith, one))
-
-pub no_value : (tables : Tables) (leafs : List ℕ) (place : Place) (values : List (Bor (List ℕ))) → length leafs ≡ 1 → texts values ≡ values_below tables place (get_or leafs 0 0) →
-    values ≡ [] → [] ≡ tuples_of tables leafs place
-no_value tables leafs place values one are none =
-    ap (λ (vs : List (Bor (List ℕ))). extended ([] ∷ []) (texts vs)) (sym none) ∙ one_leaf tables leafs place values one are
-
-value_alone : (values : List (Bor (List ℕ))) → length values ≡ 1 → map texts (values ∷ []) ≡ extended ([] ∷ []) (texts values)
-value_alone [] one = absurd (omega (arith, one))
-value_alone (value ∷ []) one = refl
-value_alone (value ∷ other ∷ more) one = absurd (omega (arith, one))
-
-pub one_value : (tables : Tables) (leafs : List ℕ) (place : Place) (values : List (Bor (List ℕ))) → length leafs ≡ 1 → texts values ≡ values_below tables place (get_or leafs 0 0) →
-    length values ≡ 1 → map texts (values ∷ []) ≡ tuples_of tables leafs place
-one_value tables leafs place values one are alone = value_alone values alone ∙ one_leaf tables leafs place values one are
+-- the one of a list
+pub only_leaf : (leafs : List ℕ) → length leafs ≡ 1 → get_or leafs 0 0 ∷ [] ≡ leafs
+only_leaf [] one = absurd (omega (arith, one))
+only_leaf (leaf ∷ []) one = refl
+only_leaf (leaf ∷ other ∷ more) one = absurd (omega (arith, one))
 
 -- ---- the walk over the entries
 abbrev pub found_in : Tables → List ℕ → List Place → List Place → Option Violation
@@ -162,6 +131,9 @@ taken_more rows spots i spot within is =
     ∙ map-append (place_of rows) (take i spots) (spot ∷ [])
 
 module _ (tables : Tables) (leafs : List ℕ) (rows : List Row) (spots : List Spot) (i : ℕ) (spot : Spot) (within : i < length spots) (is : spot ≡ get_or spots i spot) where
+  pub entry_taken : (P : List Place → Type 0) → P (places_in rows (take i spots) ++ place_of rows spot ∷ []) → P (places_in rows (take (i + 1) spots))
+  entry_taken P all = subst P (sym (taken_more rows spots i spot within is)) all
+
   pub walk_found : (whole : Option Violation) (found : Violation) → list_any (agree_in tables leafs (place_of rows spot)) (places_in rows (take i spots)) ≡ true →
       found ≡ record { kind = NotUnique; path = record { steps = spot.steps } } →
       found_in tables leafs (places_in rows (take i spots)) (places_in rows (drop i spots)) ≡ whole → Some found ≡ whole
@@ -182,9 +154,11 @@ module _ (tables : Tables) (leafs : List ℕ) (rows : List Row) (spots : List Sp
       ∙ ap (λ (rest : List Spot). found_in tables leafs (places_in rows (take i spots)) (places_in rows rest)) (sym (cut spots i spot within is))
       ∙ so_far
 
-  pub seen_more : (now : BTreeSet (List (Bor (List ℕ)))) → HasTuples tables leafs (places_in rows (take i spots) ++ place_of rows spot ∷ []) now →
-      HasTuples tables leafs (places_in rows (take (i + 1) spots)) now
-  seen_more now has = subst (λ entries. HasTuples tables leafs entries now) (sym (taken_more rows spots i spot within is)) has
+  pub seen_more : (before now : BTreeSet (List (Bor (List ℕ)))) (tuples : List (List (Bor (List ℕ)))) → HasTuples tables leafs (places_in rows (take i spots)) before →
+      AddsTuples before now (map texts tuples) → map texts tuples ≡ tuples_of tables leafs (place_of rows spot) → HasTuples tables leafs (places_in rows (take (i + 1) spots)) now
+  seen_more before now tuples has added are =
+      subst (λ entries. HasTuples tables leafs entries now) (sym (taken_more rows spots i spot within is))
+      (entry_added tables leafs (places_in rows (take i spots)) (place_of rows spot) before now tuples has added are)
 
 pub walk_end : (tables : Tables) (leafs : List ℕ) (rows : List Row) (spots : List Spot) (i : ℕ) (whole : Option Violation) → length spots ≤ i →
     found_in tables leafs (places_in rows (take i spots)) (places_in rows (drop i spots)) ≡ whole → None ≡ whole

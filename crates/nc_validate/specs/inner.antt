@@ -4,3 +4,4 @@ pub mod Children
 pub mod Choices
 pub mod Outlines
 pub mod Tuples
+pub mod Alone

@@ -10,6 +10,7 @@
 //! ordered set of their values, and not one with each. `violation_in` gives the first of all violations.
 #![tactic(auto)]
 
+mod alone;
 mod choices;
 mod counts;
 mod entries;

@@ -11,7 +11,7 @@ use Rattle.nc_protocol.specs.declared.position.Position.{Position}
 use Rattle.nc_payload.specs.declared.own.Found.{Found}
 use Rattle.nc_payload.specs.declared.payload.PayloadFault.{PayloadFault}
 use Rattle.nc_payload.specs.declared.payload.PayloadFault.TheVariants.{Bad, Memory}
-use Rattle.nc_protocol.specs.Payload.{part_edits, list_edits, elem_edits, with_more}
+use Rattle.nc_protocol.specs.Payload.{part_edits, list_edits, elem_edits, made, made_of, with_more}
 use Rattle.nc_protocol.specs.Faults.{inside}
 use Rattle.nc_payload.specs.inner.Reads.{Answers, Owns}
 use Rattle.nc_protocol.specs.Elements.{Reading, with_step}
@@ -30,6 +30,17 @@ elem_below reading at earlier e found (Bad cause) is below =
     let same : list_edits reading (inside reading at is.0) [] e.parts ≡ Err cause = subst (λ within. list_edits reading within [] e.parts ≡ Err cause) is.2.within below in
     rw (is.1, is.2.has_no_fault, same) refl
 elem_below reading at earlier e found Memory is below = tt
+
+-- an element with the edits of what is in it
+pub elem_made : (reading : Reading) (at : Position) (earlier : List Step) (e : Elem) (found : Found) (below edits : List Edit) →
+    Owns reading at earlier e (Ok found) → Answers (list_edits reading found.within [] e.parts) (Ok below) →
+    edits ≡ made reading.tables at.under found.operation found.merge found.place below → Answers (elem_edits reading at earlier e) (Ok edits)
+elem_made reading at earlier e found below edits is answered are =
+    let it = is.0 in
+    let same : list_edits reading (inside reading at it) [] e.parts ≡ Ok below = subst (λ within. list_edits reading within [] e.parts ≡ Ok below) is.2.within (answers_ok (list_edits reading found.within [] e.parts) below answered) in
+    let made_is : edits ≡ made_of reading at it below = are ∙ (λ i. made reading.tables at.under (is.2.operation i) (is.2.merge i) (is.2.place i) below) in
+    let whole : elem_edits reading at earlier e ≡ Ok (made_of reading at it below) = rw (is.1, is.2.has_no_fault, same) refl in
+    answers_is (elem_edits reading at earlier e) edits (whole ∙ ap (λ (x : List Edit). Ok x) (sym made_is))
 
 -- one part more
 pub more_edits : (edits piece : List Edit) (part more : Result (List Edit) Cause) → part ≡ Ok piece →

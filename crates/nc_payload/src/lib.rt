@@ -6,7 +6,7 @@
 //!
 //! The first two answer exactly what `edits_of` and `rows_of` define: the edits or rows, or the first fault
 //! in document order. `Names` answers for each path what `names_path` defines. Want of memory alone is
-//! free.
+//! free; a payload whose paths have more octets of keys than one request may have is refused like it.
 #![tactic(auto)]
 
 mod attributes;
@@ -15,6 +15,7 @@ mod earlier;
 mod elements;
 mod faults;
 mod gather;
+mod key_octets;
 mod made;
 mod marks;
 mod own;

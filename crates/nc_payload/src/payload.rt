@@ -9,6 +9,7 @@ ghost use Rattle.nc_protocol.specs.Payload.{reading_of};
 use crate::causes::one_name;
 use crate::earlier::Earlier;
 use crate::elements::{has_text, remember};
+use crate::key_octets::KeysLeft;
 use crate::made::{config_merged, made_from};
 use crate::own::own;
 use nc_message::{Elem, Part};
@@ -23,7 +24,7 @@ use std::alloc::Global;
 pub enum PayloadFault {
     /// Its first fault.
     Bad(Cause),
-    /// Want of memory.
+    /// Want of memory, or more octets of keys in the paths of its elements than one request may have.
     Memory,
 }
 
@@ -44,11 +45,13 @@ fn read_elem(
     at: &Position,
     earlier: &Earlier,
     elem: &Elem,
+    keys: &mut KeysLeft,
 ) -> Result<Many<Edit>, PayloadFault>
     ensures { Answers (elem_edits (reading_of schema.now) at.now earlier.now elem.now) result }
 {
     let found = own(alloc, schema, at, earlier, elem)?;
-    let below = read_parts(alloc, schema, &found.within, &elem.parts)?;
+    *keys = keys.after(&found.within.above)?;
+    let below = read_parts(alloc, schema, &found.within, &elem.parts, keys)?;
     Ok(made_from(
         alloc,
         schema,
@@ -67,11 +70,12 @@ fn read_part(
     at: &Position,
     earlier: &Earlier,
     part: &Part,
+    keys: &mut KeysLeft,
 ) -> Result<Many<Edit>, PayloadFault>
     ensures { Answers (part_edits (reading_of schema.now) at.now earlier.now part.now) result }
 {
     match part {
-        Part::Child(elem) => read_elem(alloc, schema, at, earlier, elem.get()),
+        Part::Child(elem) => read_elem(alloc, schema, at, earlier, elem.get(), keys),
         Part::Chars(_) => Ok(Many::new(alloc)),
     }
 }
@@ -82,24 +86,27 @@ fn read_parts(
     schema: &Schema,
     at: &Position,
     parts: &Many<Part>,
+    keys: &mut KeysLeft,
 ) -> Result<Many<Edit>, PayloadFault>
     ensures { Answers (list_edits (reading_of schema.now) at.now [] parts.now) result }
 {
     let mut edits = Many::new(alloc);
     let mut earlier = Earlier::new(alloc);
     for part in parts.as_slice() {
-        edits.append(read_part(alloc, schema, at, &earlier, part)?)?;
+        edits.append(read_part(alloc, schema, at, &earlier, part, keys)?)?;
         earlier = remember(alloc, schema, at, part, earlier)?;
     }
     Ok(edits)
 }
 
-/// The edits of a whole `config`, whose own attributes say nothing.
+/// The edits of a whole `config`, whose own attributes say nothing, where the paths to its elements have no
+/// more octets of keys than these.
 pub(crate) fn config_edits(
     alloc: Global,
     schema: &Schema,
     under: Under,
     config: &Elem,
+    keys: KeysLeft,
 ) -> Result<Many<Edit>, PayloadFault>
     ensures { Answers (meant.config_edits (reading_of schema.now) under config.now) result }
 {
@@ -116,7 +123,8 @@ pub(crate) fn config_edits(
         parent: None,
         under,
     };
-    read_parts(alloc, schema, &top, &config.parts)
+    let mut keys = keys;
+    read_parts(alloc, schema, &top, &config.parts, &mut keys)
 }
 
 fn by_default(default_operation: Default3) -> EditOperation
@@ -133,7 +141,8 @@ fn by_default(default_operation: Default3) -> EditOperation
 ///
 /// # Errors
 ///
-/// `Bad` with the first fault in document order.
+/// `Bad` with the first fault in document order; `Memory` also where the keys in the paths to its elements
+/// have more than 134,217,728 octets in all.
 pub fn edits(
     alloc: Global,
     schema: &Schema,
@@ -149,6 +158,7 @@ pub fn edits(
             operation: by_default(default_operation),
         },
         config,
+        KeysLeft::of_request(),
     )
 }
 
@@ -156,11 +166,12 @@ pub fn edits(
 ///
 /// # Errors
 ///
-/// `Bad` with the first fault in document order.
+/// `Bad` with the first fault in document order; `Memory` also where the keys in the paths to its elements
+/// have more than 134,217,728 octets in all.
 pub fn rows(alloc: Global, schema: &Schema, config: &Elem) -> Result<Config, PayloadFault>
     ensures { Answers (meant.rows_of schema.now config.now) result }
 {
-    let merges = config_edits(alloc, schema, Under::Inline, config)?;
+    let merges = config_edits(alloc, schema, Under::Inline, config, KeysLeft::of_request())?;
     Ok(config_merged(alloc, schema, merges)?)
 }
 
@@ -168,11 +179,12 @@ pub fn rows(alloc: Global, schema: &Schema, config: &Elem) -> Result<Config, Pay
 fn merges_of(alloc: Global, schema: &Schema, config: Elem) -> Result<Many<Edit>, PayloadFault>
     ensures { Answers (meant.config_edits (reading_of schema.now) Inline config) result }
 {
-    config_edits(alloc, schema, Under::Inline, &config)
+    config_edits(alloc, schema, Under::Inline, &config, KeysLeft::Any)
 }
 
 /// The same of an inline configuration that is let go as soon as it is read, before its rows are made: of a
-/// large one they do not stand side by side.
+/// large one they do not stand side by side. Its keys have as many octets as they have, since what was kept
+/// has to be readable.
 ///
 /// # Errors
 ///

@@ -17,6 +17,7 @@ ghost use Rattle.nc_payload.specs.inner.Reads.{Answers, meaning};
 
 use crate::PayloadFault;
 use crate::elements::{Named, find_named, keys_read};
+use crate::key_octets::KeysLeft;
 use crate::payload::{config_edits, edits};
 use nc_message::{Elem, Part};
 use nc_names::{Copies, Many, Memory, Path, Step, Text, same_steps};
@@ -25,11 +26,13 @@ use nc_schema::Schema;
 use std::alloc::Global;
 use std::collections::BTreeSet;
 
-/// The places of elements, by the steps to them, and whether there is one.
+/// The places of elements, by the steps to them, whether there is one, and how many octets the keys in the
+/// steps to further ones may have.
 #[derive(Drop)]
 pub(crate) struct Places {
     pub(crate) items: BTreeSet<Many<Step>>,
     pub(crate) some: bool,
+    pub(crate) keys: KeysLeft,
 }
 
 /// The paths that the payload of a request names: those of its elements, those above them, and that of
@@ -47,6 +50,7 @@ impl Places {
         Places {
             items: BTreeSet::new(alloc),
             some: false,
+            keys: KeysLeft::of_request(),
         }
     }
 
@@ -54,6 +58,7 @@ impl Places {
     fn take(&mut self, steps: Many<Step>) -> Result<(), Memory>
         ensures { OnOk result (AddsPlace self.old self.new steps) }
     {
+        self.keys = self.keys.after(&steps)?;
         self.items.insert(steps)?;
         self.some = true;
         Ok(())
@@ -200,7 +205,8 @@ fn of_rows(alloc: Global, schema: &Schema, config: &Elem) -> Result<Names, Memor
         meant.is_at_fault (meant.rows_read (reading_of schema.now) config.now) path)) }
 {
     let places = places_in(alloc, schema, config)?;
-    let fault = fault_path(config_edits(alloc, schema, Under::Inline, config))?;
+    let read = config_edits(alloc, schema, Under::Inline, config, KeysLeft::of_request());
+    let fault = fault_path(read)?;
     Ok(Names { places, fault })
 }
 

@@ -8,13 +8,18 @@ use Rattle.nc_protocol.specs.Payload.{part_edits, elem_edits, list_edits}
 use Rattle.nc_payload.specs.inner.Reads.{Answers}
 use Rattle.nc_protocol.specs.Payload.{reading_of}
 use Rattle.nc_protocol.proofs.PayloadLemmas.{child_is_element}
-use Rattle.nc_payload.proofs.Recursion.{elem_below, parts_more}
+use Rattle.nc_payload.proofs.Recursion.{elem_below, elem_made, parts_more}
 use Rattle.nc_payload.proofs.payload.+read.Goals as goal
 
 pub read_elem-returns-in_err-below : goal.read_elem-returns-in_err-below
 read_elem-returns-in_err-below t c =
     let p = err_from_is_err_and c.from_residual-in_err-below.result c.from_residual-in_err-below.ensures.1 in
     rw (p.1, p.2) (elem_below (reading_of c.args.schema.now) c.args.at.now c.args.earlier.now c.args.elem.now c.in_ok-found.found c.in_err-below.field-0.0 c.in_ok-found.ensures c.in_err-below.ensures)
+
+pub read_elem-returns : goal.read_elem-returns
+read_elem-returns t c =
+    elem_made (reading_of c.args.schema.now) c.args.at.now c.args.earlier.now c.args.elem.now c.in_ok-found.found c.in_ok-below.below c.in_ok-made_from.field-0
+    c.in_ok-found.ensures c.in_ok-below.ensures c.in_ok-made_from.ensures
 
 pub read_part-returns-in-Child : goal.read_part-returns-in-Child
 read_part-returns-in-Child t c =

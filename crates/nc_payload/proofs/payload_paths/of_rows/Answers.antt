@@ -10,4 +10,4 @@ unfolding is_named
 returns c =
     let read = config_edits (reading_of c.args.schema.now) Inline c.args.config.now in
     λ path i. c.in_ok-places.ensures path i
-    || (c.in_ok-fault.ensures read c.config_edits.ensures path ∙ sym (same_fault (rows_merged c.args.schema.now) read path)) i
+    || (c.in_ok-fault.ensures read c.config_edits-read.ensures path ∙ sym (same_fault (rows_merged c.args.schema.now) read path)) i

@@ -5,7 +5,7 @@
 //! `deny` is answered by the data nodes at which access control denies something without a rule, each with
 //! its number and `all` or `write` (RFC 8341 3.5.2), and one whose name begins with `nodes` by the names of
 //! the data nodes in the order of their numbers. Nothing stands on this crate. What modules mean, and which
-//! rules they break, is shown by the folders of cases/.
+//! rules they break, is shown by the folders of cases/. Modules are worked whole by the laws of proofs/.
 #![tactic(auto)]
 
 use nc_names::{Bytes, Many, Memory, Text};

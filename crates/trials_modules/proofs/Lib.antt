@@ -6,3 +6,7 @@ pub mod Sample
 pub mod Leafs
 pub mod EachKind
 pub mod Faulty
+pub mod Numbered
+pub mod Kept
+pub mod KeptTypes
+pub mod Begun

@@ -1,12 +1,16 @@
 //! The candidate is kept, and is then running (RFC 6241 8.3.4.1).
-ghost use Rattle.std.specs.Prelude.{◌≡◌, ◌≤◌, true, IfOk, OnErr};
+ghost use Rattle.std.specs.Prelude.{◌≡◌, ◌≤◌, [], true, IfOk, OnErr};
+ghost use Rattle.nc_names.specs.declared.cause.CauseKind.TheVariants.{DiskFault};
 ghost use Rattle.nc_schema.specs.Configuration.{IsConfiguration};
 ghost use Rattle.nc_schema.specs.Record.{record_size};
 ghost use Rattle.nc_names.specs.Limits.{body_limit};
 ghost use Rattle.nc_schema.specs.Violations.{IsValid};
+ghost use Rattle.nc_model.specs.Policy.{policy_of};
 ghost use Rattle.nc_model.specs.State.{base_of, candidate_in_force};
+ghost use Rattle.nc_protocol.specs.Refusals.{refused_for};
+ghost use Rattle.nc_protocol.specs.declared.verdict.Verdict.TheVariants.{Done};
 ghost use Rattle.nc_machine.specs.Lasting.{LeavesStanding, Withstands, lasting};
-ghost use Rattle.nc_machine.specs.inner.Turns.{Commits, IsKeeping, failed_in};
+ghost use Rattle.nc_machine.specs.inner.Turns.{Commits, IsKeeping, answered_by, failed_in};
 
 use crate::server::Server;
 use nc_courses::refused;
@@ -15,6 +19,35 @@ use nc_nacm::Policy;
 use nc_names::{CauseKind, Memory};
 use nc_protocol::{Cause, Request, Verdict};
 use nc_tree::{Keeper, Kept};
+
+/// The policy of what is to be running, and both replies: that of a commit that is kept, and that of one for
+/// which the disk failed.
+#[derive(Drop)]
+struct Prepared {
+    policy: Policy,
+    done: Outcome,
+    failed: Outcome,
+}
+
+// What a commit of the candidate makes before anything is kept.
+fn prepare(server: &Server, session: u32, request: &Request) -> Result<Prepared, Memory>
+    ensures { IfOk result (λ it. it ≡ record {
+      policy = policy_of server.now.schema (candidate_in_force server.now);
+      done = answered_by server.now session request.now Done;
+      failed = answered_by server.now session request.now (refused_for DiskFault []);
+    }) }
+{
+    let alloc = server.alloc();
+    let policy = Policy::of(alloc, server.schema(), server.in_force())?;
+    let fault = refused(alloc, Cause::plain(alloc, CauseKind::DiskFault))?;
+    let failed = server.answered(session, request, fault)?;
+    let done = server.answered(session, request, Verdict::Done)?;
+    Ok(Prepared {
+        policy,
+        done,
+        failed,
+    })
+}
 
 /// A commit that nothing but the disk can make fail. Both replies, the policy of what is to be running, and
 /// what is kept are made before anything is kept: after that nothing needs memory.
@@ -38,19 +71,29 @@ pub(crate) fn commit<K: Keeper>(
     ensures withstands { Withstands K.base (lasting K.doubt K.moment K.leaves K.continues) true
         (candidate_in_force server.old) keeper.old keeper.new (failed_in result) }
 {
-    let alloc = server.alloc();
-    let done = server.answered(session, request, Verdict::Done)?;
-    let fault = refused(alloc, Cause::plain(alloc, CauseKind::DiskFault))?;
-    let failed = server.answered(session, request, fault)?;
-    let policy = Policy::of(alloc, server.schema(), server.in_force())?;
-    let ready = keeper.prepare(server.base(), server.in_force())?;
+    let prepared = prepare(server, session, request)?;
+    // Replies are let go by calls of `drop`: taken apart here, at each exit, they took the proof nine minutes.
+    let ready = match keeper.prepare(server.base(), server.in_force()) {
+        Ok(ready) => ready,
+        Err(memory) => {
+            drop(prepared);
+            return Err(memory);
+        }
+    };
+    let Prepared {
+        policy,
+        done,
+        failed,
+    } = prepared;
     match keeper.keep(ready) {
         Kept::Kept => {
+            drop(failed);
             server.run_candidate(policy);
             server.count_faults(keeper.faults());
             Ok(done)
         }
         Kept::Failed { doubt: _ } => {
+            drop(done);
             server.count_faults(keeper.faults());
             Ok(failed)
         }

@@ -120,7 +120,7 @@ def look_at_messages(program, room, by):
         timer = Timer(program, device(room, {"ex": texts}, initial), rules)
         seconds, ran = timer.time(requests, before=before, limit=LIMIT)
         taken = f"more than {LIMIT} s" if ran.cut else ms(seconds * len(requests))
-        told = "ended" if ran.cut else f"{ran.errors} refused" if ran.errors else "answered"
+        told = "ended" if ran.cut else ran.told or (f"{ran.errors} refused" if ran.errors else "answered")
         row(name, f"{sum(map(len, requests)):,}", taken, kb(ran.memory), told)
         if ran.cut or seconds * len(requests) > PATIENCE:
             slow.append(name)

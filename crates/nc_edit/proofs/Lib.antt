@@ -1,7 +1,14 @@
+pub mod AloneLemmas
 pub mod ApartLemmas
+pub mod BelowBlocks
+pub mod BelowLacks
+pub mod BelowPaths
+pub mod BelowRows
+pub mod Between
 pub mod CaseLemmas
 pub mod FirstDenied
 pub mod FreeLemmas
 pub mod KeptLemmas
 pub mod StillLemmas
 pub mod StoodLemmas
+pub mod TurnsAlone

@@ -92,8 +92,8 @@ fn gives_way(schema: &Schema, rows: &Many<Row>, row: &Row) -> bool
     rows.as_slice().iter().any(|other| excludes(schema, &other.path.steps, &row.path.steps))
 }
 
-// Whether a data node belongs to a case of a choice.
-fn has_case(schema: &Schema, number: u32) -> bool
+/// Whether a data node belongs to a case of a choice.
+pub(crate) fn has_case(schema: &Schema, number: u32) -> bool
     ensures { result ≡ denied.has_case schema.now number }
 {
     match schema.node(number) {

@@ -7,7 +7,8 @@ ghost use Rattle.nc_protocol.specs.declared.asked.ErrorOption.TheVariants.{Rollb
 ghost use Rattle.nc_edit.specs.Partly.{LeavesPart};
 ghost use Rattle.nc_edit.specs.inner.Turns as turns;
 
-use crate::asks::{Asked, Asks, Free};
+use crate::alone::run_freely;
+use crate::asks::{Asked, Asks};
 use crate::causes::{anchor_names, cause_at};
 use crate::made::make;
 use crate::missed::{lacks_anchor, missed};
@@ -38,7 +39,8 @@ fn refusal<A: Asks>(
     asks.denied(alloc, schema, config, edit)
 }
 
-fn goes(goes_on: bool, causes: &Many<Cause>) -> bool
+/// Whether a next edit is made: none was refused, or it goes on.
+pub(crate) fn goes(goes_on: bool, causes: &Many<Cause>) -> bool
     ensures { result ≡ (goes_on || applied.is_empty causes.now) }
 {
     goes_on || causes.is_empty()
@@ -65,8 +67,8 @@ fn one_more<A: Asks>(
     Ok(())
 }
 
-// One edit more, unless one was refused and it does not go on.
-fn turn<A: Asks>(
+/// One edit more, unless one was refused and it does not go on.
+pub(crate) fn turn<A: Asks>(
     alloc: Global,
     schema: &Schema,
     config: &mut Config,
@@ -151,6 +153,26 @@ fn applied_by<A: Asks>(
     }
 }
 
+// All edits, or none of them, where every right is given.
+fn run_whole_freely(
+    alloc: Global,
+    schema: &Schema,
+    config: &mut Config,
+    edits: &[Edit],
+) -> Result<Many<Cause>, Memory>
+    ensures ok { IfOk result (λ causes. record { rows = config.new; causes = causes }
+        ≡ applied.applied schema.now every_right Rollback config.old edits.now) }
+    ensures err { OnErr result (config.new ≡ config.old) }
+{
+    let mut draft = config.copy()?;
+    let causes = run_freely(alloc, schema, &mut draft, edits, false)?;
+    if !causes.is_empty() {
+        return Ok(causes);
+    }
+    *config = draft;
+    Ok(causes)
+}
+
 /// Makes edits in their order, with the rights that they need, and answers why some are refused: under
 /// `Stop` the first refused one is the last that is looked at, under `Continue` each refused one is left
 /// out, and under `Rollback` a refused one leaves the configuration as it was (RFC 6241 7.2, 8.5). Where
@@ -172,7 +194,8 @@ pub fn apply<R: Rights>(
 }
 
 /// The same where every right is given (RFC 8341 3.3.4.1): no change is looked at for its right, so that an
-/// edit costs what it touches.
+/// edit costs what it touches. A new entry or container with presence is put in once, with what the edits
+/// below it bring.
 pub fn apply_freely(
     alloc: Global,
     schema: &Schema,
@@ -185,5 +208,9 @@ pub fn apply_freely(
     ensures part { OnErr result (LeavesPart schema.now
         every_right on_error config.old edits.now config.new) }
 {
-    applied_by(alloc, schema, config, edits, on_error, &Free)
+    match on_error {
+        ErrorOption::Stop => run_freely(alloc, schema, config, edits, false),
+        ErrorOption::Continue => run_freely(alloc, schema, config, edits, true),
+        ErrorOption::Rollback => run_whole_freely(alloc, schema, config, edits),
+    }
 }

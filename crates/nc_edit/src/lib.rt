@@ -7,6 +7,7 @@
 //! free.
 #![tactic(auto)]
 
+mod alone;
 mod asked;
 mod asks;
 mod causes;

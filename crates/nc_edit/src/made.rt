@@ -101,8 +101,8 @@ pub(crate) fn keeps_rows(schema: &Schema, config: &Config, path: &Path, action: 
     }
 }
 
-// The rows that an edit puts at and below its node, where it does not leave those that stand.
-fn own_block(
+/// The rows that an edit puts at and below its node, where it does not leave those that stand.
+pub(crate) fn own_block(
     alloc: Global,
     schema: &Schema,
     path: &Path,

@@ -6,11 +6,14 @@ ghost use Rattle.nc_names.specs.declared.cause.CauseKind.TheVariants.{Absent};
 ghost use Rattle.nc_schema.specs.Blocks as blocks;
 ghost use Rattle.nc_schema.specs.Kinds as kinds;
 ghost use Rattle.nc_schema.specs.Standing as standing;
+ghost use Rattle.nc_tree.specs.inner.Lacking as lacking;
+ghost use Rattle.nc_edit.specs.inner.Alone as alone;
 
-use nc_names::{CauseKind, Many, Memory, Path, Place, Text};
+use nc_names::{CauseKind, Copies, Many, Memory, Path, Place, Step, Text};
 use nc_protocol::{Action, Edit};
 use nc_schema::{Kind, Schema};
 use nc_tree::{Config, node_of};
+use std::alloc::Global;
 
 fn is_plain_container(kind: Kind) -> bool
     ensures { result ≡ kinds.is_plain_container kind }
@@ -37,6 +40,138 @@ fn is_there(schema: &Schema, config: &Config, path: &Path) -> bool
         !config.lacks_above(schema, path)
     } else {
         config.exists(path)
+    }
+}
+
+/// Whether a node of the kind has a row where it exists.
+pub(crate) fn stands_for_itself(kind: Kind) -> bool
+    ensures { result ≡ kinds.stands_for_itself kind }
+{
+    match kind {
+        Kind::Container { presence } => presence,
+        Kind::Leaf | Kind::LeafList => false,
+        Kind::List => true,
+    }
+}
+
+fn path_of(alloc: Global, steps: &[Step]) -> Result<Path, Memory>
+    ensures { IfOk result (λ it. it.steps ≡ steps.now) }
+{
+    let mut all = Many::new(alloc);
+    for step in steps {
+        all.push(step.copy()?)?;
+    }
+    Ok(Path { steps: all })
+}
+
+// Whether the node at these steps has a row where it exists, and does not.
+#[tactic(auto, unfolding(nc_tree::specs::inner::Lacking::lacks))]
+fn lacks(alloc: Global, schema: &Schema, config: &Config, steps: &[Step]) -> Result<bool, Memory>
+    ensures { IfOk result (λ it. it ≡ lacking.lacks schema.now config.now steps.now) }
+{
+    let Some(node) = node_of(schema, steps) else {
+        return Ok(false);
+    };
+    if !stands_for_itself(node.kind) {
+        return Ok(false);
+    }
+    let path = path_of(alloc, steps)?;
+    Ok(!config.has(&path))
+}
+
+// Whether an entry or a container with presence above a path does not stand, so many steps deep or deeper.
+#[tactic(auto, using(crate::proofs::AloneLemmas::lacks_found, crate::proofs::AloneLemmas::lacks_more, crate::proofs::AloneLemmas::lacks_end))]
+fn lacks_from(
+    alloc: Global,
+    schema: &Schema,
+    config: &Config,
+    steps: &[Step],
+    from: usize,
+) -> Result<bool, Memory>
+    ensures { IfOk result (λ it. it ≡ alone.lacks_at schema.now config.now from steps.now) }
+{
+    for at in from..steps.len() {
+        let lacking = lacks(alloc, schema, config, &steps[..at])?;
+        if lacking {
+            return Ok(true);
+        }
+    }
+    Ok(false)
+}
+
+fn is_there_from(
+    alloc: Global,
+    schema: &Schema,
+    config: &Config,
+    path: &Path,
+    from: usize,
+) -> Result<bool, Memory>
+    ensures { IfOk result (λ it. it ≡ alone.is_there_at schema.now from config.now path.now) }
+{
+    if is_plain_at(schema, path) {
+        let lacking = lacks_from(alloc, schema, config, path.steps.as_slice(), from)?;
+        Ok(!lacking)
+    } else {
+        Ok(config.exists(path))
+    }
+}
+
+// Absent, where an entry or a container with presence above the path, so many steps deep or deeper, does not
+// stand.
+fn absent_from(
+    alloc: Global,
+    schema: &Schema,
+    config: &Config,
+    path: &Path,
+    from: usize,
+) -> Result<Option<CauseKind>, Memory>
+    ensures { IfOk result (λ it. option_map (λ kind. meant.cause_at kind path.now []) it
+        ≡ meant.cause_where (alone.lacks_at schema.now config.now from path.now.steps)
+        (meant.cause_at Absent path.now [])) }
+{
+    let lacking = lacks_from(alloc, schema, config, path.steps.as_slice(), from)?;
+    if lacking {
+        return Ok(Some(CauseKind::Absent));
+    }
+    Ok(None)
+}
+
+/// The same as `missed`, where what stands above so many steps of the path is there.
+pub(crate) fn missed_from(
+    alloc: Global,
+    schema: &Schema,
+    config: &Config,
+    path: &Path,
+    action: &Action,
+    from: usize,
+) -> Result<Option<CauseKind>, Memory>
+    ensures { IfOk result (λ it. option_map (λ kind. meant.cause_at kind path.now []) it
+        ≡ alone.missed_at schema.now from config.now path.now action.now) }
+{
+    match action {
+        Action::Nothing => {
+            let there = is_there_from(alloc, schema, config, path, from)?;
+            if there {
+                return Ok(None);
+            }
+            Ok(Some(CauseKind::Absent))
+        }
+        Action::Merge { .. } | Action::Replace { .. } => {
+            absent_from(alloc, schema, config, path, from)
+        }
+        Action::Create { .. } => {
+            if config.exists(path) {
+                return Ok(Some(CauseKind::Exists));
+            }
+            absent_from(alloc, schema, config, path, from)
+        }
+        Action::Delete => {
+            if config.exists(path) {
+                return Ok(None);
+            }
+            Ok(Some(CauseKind::Absent))
+        }
+        Action::Remove => Ok(None),
     }
 }
 

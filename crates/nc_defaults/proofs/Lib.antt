@@ -4,4 +4,5 @@ pub mod PartsLemmas
 pub mod Runs
 pub mod SpanLemmas
 pub mod SpotsLemmas
+pub mod SoughtLemmas
 pub mod StepLemmas

@@ -180,7 +180,7 @@ none_there tables place parent number is none =
     ∙ no_places_in tables place number (children_of tables.nodes parent) none
 
 -- an instance of a data node leads there
-node_below : (tables : Tables) (place : Place) (number : ℕ) (node : Node) (part : Part) → is_of number part ≡ true → node_there (place_of tables place node part) ≡ Some number
+pub node_below : (tables : Tables) (place : Place) (number : ℕ) (node : Node) (part : Part) → is_of number part ≡ true → node_there (place_of tables place node part) ≡ Some number
 node_below tables place number node part is = by part.step (same_number (option_map (λ (step : Step). step.node) part.step) (Some number) is)
   where
     by : (next : Option Step) → option_map (λ (step : Step). step.node) next ≡ Some number →

@@ -1,3 +1,4 @@
 pub mod Children
+pub mod Sought
 pub mod Within
 pub mod inner

@@ -6,6 +6,7 @@ ghost use Rattle.nc_schema.specs.Children.{is_same_number};
 ghost use Rattle.nc_schema.specs.Kinds as kinds;
 ghost use Rattle.nc_schema.specs.Places as places;
 ghost use Rattle.nc_defaults.specs.Children.{children_of};
+ghost use Rattle.nc_defaults.specs.Sought.{AreUpward, sought};
 ghost use Rattle.nc_defaults.specs.Within.{AreWithin, IsWithin, place_here, places_in};
 ghost use Rattle.nc_defaults.specs.inner.Lists.{has_places_at};
 ghost use Rattle.nc_defaults.specs.inner.Runs.{next_at};
@@ -14,6 +15,7 @@ ghost use Rattle.nc_defaults.specs.inner.Walks.{places_at, places_under, places_
 
 use crate::children::Children;
 use crate::here::{Here, place_of};
+use crate::sought::{is_sought, seeks_any};
 use crate::spans::{Run, has_run, runs_of, step_of};
 use crate::steps::{Steps, found_next, own_below};
 use nc_names::{Copies, Many, Memory, Step};
@@ -132,46 +134,55 @@ fn add_ends<'a>(
     Ok(())
 }
 
-/// Adds an instance of a data node, whose number is `number - 1`, and all places below it.
+/// Adds an instance of a data node, whose number is `number - 1`, and all places below it that are sought.
 #[cycle(spots)]
 fn add_place<'a>(
     out: &mut Many<Spot<'a>>,
     children: &Children<'_>,
+    marks: &[bool],
     config: &'a Listed,
     spot: Spot<'a>,
     number: u32,
 ) -> Result<(), Memory>
-    requires { IsWithin config.now spot.here }
-    ensures places { OnOk result (places_in config.now out.new ≡ places_in config.now out.old
+    requires here { IsWithin config.now spot.here }
+    requires marks { AreUpward children.now.nodes marks.now }
+    ensures places { OnOk result (sought marks.now (places_in config.now out.new)
+        ≡ sought marks.now (places_in config.now out.old
         ++ place_here config.now spot.entry.steps spot.entry.here
-        ∷ places_under children.now (place_here config.now spot.entry.steps spot.entry.here) number) }
+        ∷ places_under children.now (place_here config.now spot.entry.steps spot.entry.here) number)) }
     ensures within { AreWithin config.now out.old → AreWithin config.now out.new }
 {
     let steps = spot.steps.copy()?;
     let here = spot.here;
     out.push(spot)?;
-    add_below(out, children, config, steps.as_slice(), here, number)?;
+    add_below(out, children, marks, config, steps.as_slice(), here, number)?;
     Ok(())
 }
 
-/// Adds the places below one, of the data nodes from a number on. A data node has a higher number than the
+/// Adds the places below one that are sought, of the data nodes from a number on. A data node has a higher number than the
 /// one in which it stands, so that the walk looks at no more than those that it adds.
 #[cycle(spots)]
 fn add_below<'a>(
     out: &mut Many<Spot<'a>>,
     children: &Children<'_>,
+    marks: &[bool],
     config: &'a Listed,
     steps: &[Step],
     here: Here,
     number: u32,
 ) -> Result<(), Memory>
-    requires { IsWithin config.now here }
-    ensures places { OnOk result (places_in config.now out.new ≡ places_in config.now out.old
-        ++ places_under children.now (place_here config.now steps.now here) number) }
+    requires here { IsWithin config.now here }
+    requires marks { AreUpward children.now.nodes marks.now }
+    ensures places { OnOk result (sought marks.now (places_in config.now out.new)
+        ≡ sought marks.now (places_in config.now out.old
+        ++ places_under children.now (place_here config.now steps.now here) number)) }
     ensures within { AreWithin config.now out.old → AreWithin config.now out.new }
 {
     let numbers = children.in_parent(node_there(steps));
     if !children.have_places(numbers) {
+        return Ok(());
+    }
+    if !seeks_any(marks, numbers) {
         return Ok(());
     }
     let runs = runs_of(out.alloc(), config, steps.len(), here.from, here.to)?;
@@ -179,16 +190,26 @@ fn add_below<'a>(
         if *child < number {
             continue;
         }
-        add_child(out, children, config, steps, here, runs.as_slice(), *child)?;
+        add_child(
+            out,
+            children,
+            marks,
+            config,
+            steps,
+            here,
+            runs.as_slice(),
+            *child,
+        )?;
     }
     Ok(())
 }
 
-/// Adds the places of a data node that stands in the place, with those below them.
+/// Adds the places of a data node that stands in the place, with those below them, where they are sought.
 #[cycle(spots)]
 fn add_child<'a>(
     out: &mut Many<Spot<'a>>,
     children: &Children<'_>,
+    marks: &[bool],
     config: &'a Listed,
     steps: &[Step],
     here: Here,
@@ -196,15 +217,29 @@ fn add_child<'a>(
     number: u32,
 ) -> Result<(), Memory>
     requires here { IsWithin config.now here }
+    requires marks { AreUpward children.now.nodes marks.now }
     requires runs { AreRuns (length steps.now) config.now here.from here.to runs.now }
-    ensures places { OnOk result (places_in config.now out.new ≡ places_in config.now out.old
-        ++ places_at children.now (place_here config.now steps.now here) number) }
+    ensures places { OnOk result (sought marks.now (places_in config.now out.new)
+        ≡ sought marks.now (places_in config.now out.old
+        ++ places_at children.now (place_here config.now steps.now here) number)) }
     ensures within { AreWithin config.now out.old → AreWithin config.now out.new }
 {
+    if !is_sought(marks, Some(number)) {
+        return Ok(());
+    }
     let Some(node) = children.node(number) else {
         return Ok(());
     };
-    add_parts(out, children, config, steps, here, runs, (number, node))?;
+    add_parts(
+        out,
+        children,
+        marks,
+        config,
+        steps,
+        here,
+        runs,
+        (number, node),
+    )?;
     Ok(())
 }
 
@@ -213,6 +248,7 @@ fn add_child<'a>(
 fn add_parts<'a>(
     out: &mut Many<Spot<'a>>,
     children: &Children<'_>,
+    marks: &[bool],
     config: &'a Listed,
     steps: &[Step],
     here: Here,
@@ -220,12 +256,14 @@ fn add_parts<'a>(
     child: (u32, &Node),
 ) -> Result<(), Memory>
     requires within { IsWithin config.now here }
+    requires marks { AreUpward children.now.nodes marks.now }
     requires runs { AreRuns (length steps.now) config.now here.from here.to runs.now }
     requires known { child.0 < length children.now.nodes }
     requires few { child.0 + 1 < 2 ^ 32 }
-    ensures places { OnOk result (places_in config.now out.new ≡ places_in config.now out.old
+    ensures places { OnOk result (sought marks.now (places_in config.now out.new)
+        ≡ sought marks.now (places_in config.now out.old
         ++ places_with children.now (place_here config.now steps.now here) child.entry.0 child.entry.1.now
-        (places.place_parts (place_here config.now steps.now here) child.entry.0 child.entry.1.now.kind)) }
+        (places.place_parts (place_here config.now steps.now here) child.entry.0 child.entry.1.now.kind))) }
     ensures within { AreWithin config.now out.old → AreWithin config.now out.new }
 {
     let alloc = out.alloc();
@@ -246,7 +284,7 @@ fn add_parts<'a>(
             steps: own_below(steps, alloc, step)?,
             here: place_of(schema, config, steps, here, node, (here.from, here.from)),
         };
-        add_place(out, children, config, spot, number + 1)?;
+        add_place(out, children, marks, config, spot, number + 1)?;
         return Ok(());
     }
     if !children.have_places_in(Some(number)) {
@@ -261,7 +299,7 @@ fn add_parts<'a>(
             continue;
         };
         let below = spot_of(alloc, schema, config, steps, here, node, run, step)?;
-        add_place(out, children, config, below, number + 1)?;
+        add_place(out, children, marks, config, below, number + 1)?;
     }
     Ok(())
 }
@@ -283,7 +321,35 @@ pub(crate) fn places_below<'a>(
     if !children.have_places_in(node_there(steps)) {
         return Ok(out);
     }
-    add_below(&mut out, children, config, steps, here, 0)?;
+    add_below(&mut out, children, &[], config, steps, here, 0)?;
+    Ok(out)
+}
+
+/// Places that are sought by these marks: a place and those below it, without some that are not.
+pub fn places_sought<'a>(
+    alloc: Global,
+    children: &Children<'_>,
+    marks: &[bool],
+    config: &'a Listed,
+    steps: &[Step],
+    here: Here,
+) -> Result<Many<Spot<'a>>, Memory>
+    requires here { IsWithin config.now here }
+    requires marks { AreUpward children.now.nodes marks.now }
+    ensures places { IfOk result (λ it. sought marks.now (places_in config.now it)
+        ≡ sought marks.now (places.places_from children.now (place_here config.now steps.now here))) }
+    ensures within { IfOk result (AreWithin config.now) }
+{
+    let mut own = Many::new(alloc);
+    for step in steps {
+        own.push(step.copy()?)?;
+    }
+    let top = Spot {
+        steps: Steps::own(own),
+        here,
+    };
+    let mut out = Many::new(alloc);
+    add_place(&mut out, children, marks, config, top, 0)?;
     Ok(out)
 }
 
@@ -300,15 +366,6 @@ pub fn places_from<'a>(
         ≡ places.places_from children.now (place_here config.now steps.now here)) }
     ensures within { IfOk result (AreWithin config.now) }
 {
-    let mut own = Many::new(alloc);
-    for step in steps {
-        own.push(step.copy()?)?;
-    }
-    let top = Spot {
-        steps: Steps::own(own),
-        here,
-    };
-    let mut out = Many::new(alloc);
-    add_place(&mut out, children, config, top, 0)?;
-    Ok(out)
+    let found = places_sought(alloc, children, &[], config, steps, here)?;
+    Ok(found)
 }

@@ -1,5 +1,5 @@
-//! What rows leave of the room in a record.
-ghost use Rattle.std.specs.Prelude.{◌≡◌, [], length, unwrap_or};
+//! How many bytes rows take in a record, and what they leave of its room.
+ghost use Rattle.std.specs.Prelude.{◌≡◌, ◌+◌, [], length, unwrap_or, IfSome};
 ghost use Rattle.nc_branches.specs.Sizes.{Leaves, row_size, size_of};
 ghost use Rattle.nc_branches.specs.inner.Shoots.{rows_of};
 
@@ -19,40 +19,49 @@ fn len_of(value: &Option<Text>) -> u64
     }
 }
 
-/// What a row leaves of so many bytes, or `None` where it takes more.
-fn after_row(row: &Row, room: u64) -> Option<u64>
-    ensures { Leaves (row_size row.now) room result }
+/// How many bytes a row takes, or `None` past 2^64.
+fn row_bytes(row: &Row) -> Option<u64>
+    ensures { IfSome result (λ n. n ≡ row_size row.now) }
 {
-    room.checked_sub(HEAD)?.checked_sub(len_of(&row.value))
+    HEAD.checked_add(len_of(&row.value))
 }
 
 impl Twig {
-    /// What the rows of the node leave of so many bytes, or `None` where they take more.
-    #[cycle(room_after)]
-    #[tactic(auto, using(crate::proofs::Rooms::own_full, crate::proofs::Rooms::own_first, crate::proofs::Rooms::none_own))]
-    fn room_after(&self, room: u64) -> Option<u64>
-        ensures { Leaves (size_of (rows_of self.now)) room result }
+    /// How many bytes the rows of the node take, or `None` past 2^64.
+    #[tactic(auto, using(crate::proofs::Rooms::own_more, crate::proofs::Rooms::none_own))]
+    fn bytes(&self) -> Option<u64>
+        ensures { IfSome result (λ n. n ≡ size_of (rows_of self.now)) }
     {
         if self.stands {
-            let room = after_row(self.row.get(), room)?;
-            return self.below.room_after(room);
+            let own = row_bytes(self.row.get())?;
+            return own.checked_add(self.below.bytes());
         }
-        self.below.room_after(room)
+        Some(self.below.bytes())
     }
+}
+
+/// How many bytes the rows of three parts take, or `None` past 2^64.
+pub(crate) fn bytes_of(left: &Tree, twig: &Twig, right: &Tree) -> Option<u64>
+    ensures { IfSome result (λ n. n
+        ≡ size_of left.now.rows + size_of (rows_of twig.now) + size_of right.now.rows) }
+{
+    let here = twig.bytes()?;
+    let first = left.bytes().checked_add(here)?;
+    first.checked_add(right.bytes())
+}
+
+/// What so many bytes leave of others, or `None` where they are more.
+fn left_of(bytes: u64, room: u64) -> Option<u64>
+    ensures { Leaves bytes room result }
+{
+    room.checked_sub(bytes)
 }
 
 impl Tree {
     /// What the rows leave of so many bytes of a record, or `None` where they take more.
-    #[cycle(room_after)]
-    #[tactic(auto, using(crate::proofs::Rooms::no_rows, crate::proofs::Rooms::left_full, crate::proofs::Rooms::here_full, crate::proofs::Rooms::all_parts))]
     pub fn room_after(&self, room: u64) -> Option<u64>
         ensures { Leaves (size_of self.now.rows) room result }
     {
-        let Some(fork) = self.fork() else {
-            return Some(room);
-        };
-        let room = fork.left.room_after(room)?;
-        let room = fork.twig.room_after(room)?;
-        fork.right.room_after(room)
+        left_of(self.bytes(), room)
     }
 }

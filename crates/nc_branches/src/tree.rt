@@ -10,9 +10,11 @@ ghost use Rattle.nc_branches.specs.inner.Order.{depth_of, step_cmp};
 ghost use Rattle.nc_branches.specs.inner.Putting.{IsAlone};
 ghost use Rattle.nc_branches.specs.inner.Regrown.{AreMarked};
 ghost use Rattle.nc_branches.specs.Singles.{AreSingle};
+ghost use Rattle.nc_branches.specs.Sizes.{size_of};
 
 use crate::marks::{are_numbered, are_single, are_whole};
 use crate::parted::are_parted;
+use crate::room::bytes_of;
 use nc_names::{Copies, Memory, Row, Shared, Step};
 use std::alloc::Global;
 use std::cmp::Ordering;
@@ -38,10 +40,10 @@ pub(crate) struct Twig {
     pub(crate) below: Tree,
 }
 
-/// A data node among its siblings. Where it is ordered, the rows on its left come before its step, and
-/// those on its right after it; where it is numbered, they do so by their numbers. Where it is single, no two
-/// of all these rows have one path, and where it is whole, each entry among them has a row of its own.
-/// Nothing rests on the height but time.
+/// A data node among its siblings, with how many rows there are, and how many bytes they take in a record.
+/// Where it is ordered, the rows on its left come before its step, and those on its right after it; where it
+/// is numbered, they do so by their numbers. Where it is single, no two of all these rows have one path, and
+/// where it is whole, each entry among them has a row of its own. Nothing rests on the height but time.
 #[cycle(tree)]
 #[derive(Drop)]
 pub(crate) struct Fork {
@@ -49,6 +51,7 @@ pub(crate) struct Fork {
     pub(crate) twig: Twig,
     pub(crate) right: Tree,
     count: u64,
+    bytes: u64,
     height: u64,
     shortest: usize,
     pub(crate) ordered: bool,
@@ -131,6 +134,17 @@ impl Tree {
         match &self.root {
             None => 0,
             Some(fork) => fork.count,
+        }
+    }
+
+    /// How many bytes the rows take in a record, beside those of its head.
+    #[tactic(auto, using(crate::proofs::Rooms::three_sizes))]
+    pub(crate) fn bytes(&self) -> u64
+        ensures { result ≡ size_of self.now.rows }
+    {
+        match &self.root {
+            None => 0,
+            Some(fork) => fork.bytes,
         }
     }
 
@@ -309,6 +323,9 @@ impl Tree {
         let Some(count) = count_of(&left, &twig, &right) else {
             return Err(Memory);
         };
+        let Some(bytes) = bytes_of(&left, &twig, &right) else {
+            return Err(Memory);
+        };
         let height = left.height().max(right.height()).saturating_add(1);
         let single = are_single(marks.ordered, &left, &twig, &right);
         let shortest = least_of(&left, &twig, &right);
@@ -320,6 +337,7 @@ impl Tree {
                     twig,
                     right,
                     count,
+                    bytes,
                     height,
                     shortest,
                     ordered: marks.ordered,

@@ -4,6 +4,7 @@ use Rattle.std.specs.declared.sync.Arc.{Arc}
 use Rattle.std.specs.declared.alloc.Global.{Global}
 use Rattle.nc_branches.specs.Branches.{Branches}
 use Rattle.nc_branches.specs.Singles.{AreSingle}
+use Rattle.nc_branches.specs.Sizes.{size_of}
 use Rattle.nc_branches.specs.inner.Shoots.{rows_of}
 use Rattle.nc_branches.specs.inner.Depths.{AreLong}
 use Rattle.nc_branches.specs.inner.Order.{AreParted}
@@ -18,9 +19,11 @@ branches_of (Some fork) = record {
   cells = 2 + fork.value.left.cells + fork.value.twig.below.cells + fork.value.right.cells;
 }
 
--- the count is that of the rows, none has a shorter path, and what is marked as ordered, single, numbered or whole is
+-- the count is that of the rows, and the bytes are those that they take in a record; none has a shorter path, and what is
+-- marked as ordered, single, numbered or whole is
 pub record IsSoundFork (fork : Fork) : Type 0 where
   pub count : fork.count ≡ length (fork.left.rows ++ rows_of fork.twig ++ fork.right.rows)
+  pub bytes : fork.bytes ≡ size_of fork.left.rows + size_of (rows_of fork.twig) + size_of fork.right.rows
   pub shortest : AreLong fork.shortest (fork.left.rows ++ rows_of fork.twig ++ fork.right.rows)
   pub parted : fork.ordered ≡ true → AreParted fork.twig fork.left.rows fork.right.rows
   pub single : fork.single ≡ true → AreSingle (fork.left.rows ++ rows_of fork.twig ++ fork.right.rows)

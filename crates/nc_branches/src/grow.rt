@@ -4,7 +4,8 @@ ghost use Rattle.nc_names.specs.Same as same;
 ghost use Rattle.nc_branches.specs.inner.Shoots.{rows_of};
 ghost use Rattle.nc_branches.specs.inner.Order.{AreUnder};
 
-use crate::tree::{Tree, Twig, balanced};
+use crate::balance::balanced;
+use crate::tree::{Tree, Twig};
 use nc_names::{Copies, Many, Memory, Path, Row, Shared, Step};
 use std::alloc::Global;
 

@@ -5,9 +5,10 @@ ghost use Rattle.nc_branches.specs.Tallies.{IsTallied};
 ghost use Rattle.nc_branches.specs.inner.Known.{Adds, Knows, KnowsMore};
 ghost use Rattle.nc_branches.specs.inner.Shoots.{own_rows, rows_of};
 
+use crate::balance::balanced;
 use crate::grow::raised;
 use crate::locate::is_entry;
-use crate::tree::{Tree, Twig, balanced};
+use crate::tree::{Tree, Twig};
 use nc_names::{Copies, Memory, Row, Shared};
 use std::alloc::Global;
 use std::cmp::Ordering;

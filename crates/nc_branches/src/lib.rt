@@ -13,6 +13,7 @@
 #![tactic(auto)]
 
 mod aim;
+mod balance;
 mod beneath;
 mod cases;
 mod children;

@@ -7,9 +7,10 @@ ghost use Rattle.nc_branches.specs.inner.Located.{Exchanges};
 ghost use Rattle.nc_branches.specs.inner.Order.{AreUnder};
 ghost use Rattle.nc_branches.specs.inner.Shoots.{rows_of};
 
+use crate::balance::join;
 use crate::locate::{entry_in, is_entry};
 use crate::part::joined;
-use crate::tree::{Tree, Twig, join};
+use crate::tree::{Tree, Twig};
 use nc_names::{Copies, Memory, Row, Shared, Step};
 use std::alloc::Global;
 use std::cmp::Ordering;

@@ -6,8 +6,9 @@ ghost use Rattle.nc_branches.specs.Branches.{rows_in, without_block};
 ghost use Rattle.nc_branches.specs.inner.Shoots.{rows_of};
 ghost use Rattle.nc_branches.specs.inner.Order.{AreUnder};
 
+use crate::balance::{concat, join};
 use crate::look::Where;
-use crate::tree::{Tree, Twig, concat, join};
+use crate::tree::{Tree, Twig};
 use nc_names::{Copies, Many, Memory, Row, Step};
 use std::alloc::Global;
 

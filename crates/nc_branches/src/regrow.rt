@@ -7,9 +7,10 @@ ghost use Rattle.nc_branches.specs.inner.Shoots.{rows_of};
 ghost use Rattle.nc_branches.specs.inner.Steady.{AreNumbered, AreWhole, AreWholeParts, is_high, is_low};
 
 use crate::aim::Aim;
+use crate::balance::join;
 use crate::marks::{are_numbered, are_whole, is_high, is_low};
 use crate::parted::are_parted;
-use crate::tree::{Fork, Marks, Tree, Twig, are_level, join};
+use crate::tree::{Fork, Marks, Tree, Twig, are_level};
 use nc_names::{Copies, Memory, Step};
 use std::alloc::Global;
 use std::cmp::Ordering;

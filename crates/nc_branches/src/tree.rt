@@ -5,7 +5,7 @@ ghost use Rattle.std.specs.Option.{option_copied};
 ghost use Rattle.nc_branches.specs.Branches.{Branches, no_branches};
 ghost use Rattle.nc_branches.specs.inner.Shoots.{Shoot, rows_of};
 ghost use Rattle.nc_branches.specs.inner.Depths.{AreLong};
-ghost use Rattle.nc_branches.specs.inner.Forks.{IsForkOf, rows_of_fork};
+ghost use Rattle.nc_branches.specs.inner.Forks.{IsForkOf};
 ghost use Rattle.nc_branches.specs.inner.Order.{depth_of, step_cmp};
 ghost use Rattle.nc_branches.specs.inner.Putting.{IsAlone};
 ghost use Rattle.nc_branches.specs.inner.Regrown.{AreMarked};
@@ -181,7 +181,7 @@ impl Tree {
     }
 
     /// How many siblings stand one above another. Nothing rests on it but time.
-    fn height(&self) -> u64 {
+    pub(crate) fn height(&self) -> u64 {
         match &self.root {
             None => 0,
             Some(fork) => fork.height,
@@ -347,152 +347,5 @@ impl Tree {
                 },
             )?),
         })
-    }
-}
-
-/// A node among its siblings, where the left side may be two levels too high.
-fn lean_left(alloc: Global, left: &Tree, twig: &Twig, right: &Tree) -> Result<Tree, Memory>
-    ensures { IfOk result (λ it. it.rows ≡ left.now.rows ++ rows_of twig.now ++ right.now.rows) }
-{
-    let Some(fork) = left.fork() else {
-        return Tree::of(alloc, left.copy()?, twig.copy()?, right.copy()?);
-    };
-    if fork.left.height() < fork.right.height() {
-        return turn_right(alloc, fork, twig, right);
-    }
-    let inner = Tree::of(alloc, fork.right.copy()?, twig.copy()?, right.copy()?)?;
-    Tree::of(alloc, fork.left.copy()?, fork.twig.copy()?, inner)
-}
-
-/// The same, where what stands between is the highest.
-fn turn_right(alloc: Global, fork: &Fork, twig: &Twig, right: &Tree) -> Result<Tree, Memory>
-    ensures { IfOk result (λ it. it.rows ≡ rows_of_fork fork.now ++ rows_of twig.now ++ right.now.rows) }
-{
-    let Some(middle) = fork.right.fork() else {
-        let inner = Tree::of(alloc, Tree::empty(), twig.copy()?, right.copy()?)?;
-        return Tree::of(alloc, fork.left.copy()?, fork.twig.copy()?, inner);
-    };
-    let first = Tree::of(
-        alloc,
-        fork.left.copy()?,
-        fork.twig.copy()?,
-        middle.left.copy()?,
-    )?;
-    let last = Tree::of(alloc, middle.right.copy()?, twig.copy()?, right.copy()?)?;
-    Tree::of(alloc, first, middle.twig.copy()?, last)
-}
-
-/// A node among its siblings, where the right side may be two levels too high.
-fn lean_right(alloc: Global, left: &Tree, twig: &Twig, right: &Tree) -> Result<Tree, Memory>
-    ensures { IfOk result (λ it. it.rows ≡ left.now.rows ++ rows_of twig.now ++ right.now.rows) }
-{
-    let Some(fork) = right.fork() else {
-        return Tree::of(alloc, left.copy()?, twig.copy()?, right.copy()?);
-    };
-    if fork.right.height() < fork.left.height() {
-        return turn_left(alloc, left, twig, fork);
-    }
-    let inner = Tree::of(alloc, left.copy()?, twig.copy()?, fork.left.copy()?)?;
-    Tree::of(alloc, inner, fork.twig.copy()?, fork.right.copy()?)
-}
-
-/// The same, where what stands between is the highest.
-fn turn_left(alloc: Global, left: &Tree, twig: &Twig, fork: &Fork) -> Result<Tree, Memory>
-    ensures { IfOk result (λ it. it.rows ≡ left.now.rows ++ rows_of twig.now ++ rows_of_fork fork.now) }
-{
-    let Some(middle) = fork.left.fork() else {
-        let inner = Tree::of(alloc, left.copy()?, twig.copy()?, Tree::empty())?;
-        return Tree::of(alloc, inner, fork.twig.copy()?, fork.right.copy()?);
-    };
-    let first = Tree::of(alloc, left.copy()?, twig.copy()?, middle.left.copy()?)?;
-    let last = Tree::of(
-        alloc,
-        middle.right.copy()?,
-        fork.twig.copy()?,
-        fork.right.copy()?,
-    )?;
-    Tree::of(alloc, first, middle.twig.copy()?, last)
-}
-
-/// A node among its siblings, where one side may be two levels too high.
-pub(crate) fn balanced(
-    alloc: Global,
-    left: &Tree,
-    twig: &Twig,
-    right: &Tree,
-) -> Result<Tree, Memory>
-    ensures { IfOk result (λ it. it.rows ≡ left.now.rows ++ rows_of twig.now ++ right.now.rows) }
-{
-    if left.height() > right.height().saturating_add(1) {
-        return lean_left(alloc, left, twig, right);
-    }
-    if right.height() > left.height().saturating_add(1) {
-        return lean_right(alloc, left, twig, right);
-    }
-    Tree::of(alloc, left.copy()?, twig.copy()?, right.copy()?)
-}
-
-/// A node among its siblings, where the left side is the higher.
-fn join_left(alloc: Global, left: &Tree, twig: &Twig, right: &Tree) -> Result<Tree, Memory>
-    ensures { IfOk result (λ it. it.rows ≡ left.now.rows ++ rows_of twig.now ++ right.now.rows) }
-{
-    if left.height() <= right.height().saturating_add(1) {
-        return balanced(alloc, left, twig, right);
-    }
-    let Some(fork) = left.fork() else {
-        return balanced(alloc, left, twig, right);
-    };
-    let joined = join_left(alloc, &fork.right, twig, right)?;
-    balanced(alloc, &fork.left, &fork.twig, &joined)
-}
-
-/// A node among its siblings, where the right side is the higher.
-fn join_right(alloc: Global, left: &Tree, twig: &Twig, right: &Tree) -> Result<Tree, Memory>
-    ensures { IfOk result (λ it. it.rows ≡ left.now.rows ++ rows_of twig.now ++ right.now.rows) }
-{
-    if right.height() <= left.height().saturating_add(1) {
-        return balanced(alloc, left, twig, right);
-    }
-    let Some(fork) = right.fork() else {
-        return balanced(alloc, left, twig, right);
-    };
-    let joined = join_right(alloc, left, twig, &fork.left)?;
-    balanced(alloc, &joined, &fork.twig, &fork.right)
-}
-
-/// A node among its siblings, however high they are.
-pub(crate) fn join(alloc: Global, left: &Tree, twig: &Twig, right: &Tree) -> Result<Tree, Memory>
-    ensures { IfOk result (λ it. it.rows ≡ left.now.rows ++ rows_of twig.now ++ right.now.rows) }
-{
-    if left.height() < right.height() {
-        return join_right(alloc, left, twig, right);
-    }
-    join_left(alloc, left, twig, right)
-}
-
-/// The last node, and what stands before it.
-fn cut_last(alloc: Global, tree: &Tree) -> Result<Option<(Tree, Twig)>, Memory>
-    ensures { IfOk result (λ it. MatchOption it (tree.now.rows ≡ [])
-        (λ cut. tree.now.rows ≡ cut.0.rows ++ rows_of cut.1)) }
-{
-    let Some(fork) = tree.fork() else {
-        return Ok(None);
-    };
-    match cut_last(alloc, &fork.right)? {
-        None => Ok(Some((fork.left.copy()?, fork.twig.copy()?))),
-        Some((rest, last)) => {
-            let joined = join(alloc, &fork.left, &fork.twig, &rest)?;
-            Ok(Some((joined, last)))
-        }
-    }
-}
-
-/// Siblings after others.
-pub(crate) fn concat(alloc: Global, left: &Tree, right: &Tree) -> Result<Tree, Memory>
-    ensures { IfOk result (λ it. it.rows ≡ left.now.rows ++ right.now.rows) }
-{
-    match cut_last(alloc, left)? {
-        None => right.copy(),
-        Some((rest, last)) => join(alloc, &rest, &last, right),
     }
 }

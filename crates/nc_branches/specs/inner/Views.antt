@@ -19,8 +19,8 @@ branches_of (Some fork) = record {
   cells = 2 + fork.value.left.cells + fork.value.twig.below.cells + fork.value.right.cells;
 }
 
--- the count is that of the rows, and the bytes are those that they take in a record; none has a shorter path, and what is
--- marked as ordered, single, numbered or whole is
+-- the count is that of the rows, and the bytes are those that they take in a record; none has a shorter path, and what
+-- is marked as ordered, single, numbered or whole is
 pub record IsSoundFork (fork : Fork) : Type 0 where
   pub count : fork.count ≡ length (fork.left.rows ++ rows_of fork.twig ++ fork.right.rows)
   pub bytes : fork.bytes ≡ size_of fork.left.rows + size_of (rows_of fork.twig) + size_of fork.right.rows

@@ -87,7 +87,7 @@ begun bytes is kept = record {
 }
 
 -- ---- the sample
-sample_is_kept : IsKept sample
+pub sample_is_kept : IsKept sample
 unfolding access_yang chars encode out-Statement out roll-Statement roll shown-the_row-Statement-0 shown hidden keyword_of keywords word_of built_in_of built_ins built_in_word spaces is_true_text is_false_text is_unbounded is_order is_version
 sample_is_kept = record { access = refl; own = refl; apart = refl; revised = refl; ends = refl }
 
@@ -95,7 +95,7 @@ pub sample_begins : IsBegun (file sample ∷ []) [] (scoping_of sample) off
 sample_begins = begun sample sample_is_text sample_is_kept
 
 -- its types keep their rules, too, and those of ietf-netconf-acm
-both_typed : (bytes : List ℕ) → are_all (is_typed (holds (texts_of bytes) off) (texts_of bytes)) levels (top_at 0 (root_of access_yang)) ≡ true →
+pub both_typed : (bytes : List ℕ) → are_all (is_typed (holds (texts_of bytes) off) (texts_of bytes)) levels (top_at 0 (root_of access_yang)) ≡ true →
     are_all (is_typed (holds (texts_of bytes) off) (texts_of bytes)) levels (top_at 1 (root_of bytes)) ≡ true →
     (text : ℕ) (top : Located) → root (texts_of bytes) text ≡ Some top → are_all (is_typed (holds (texts_of bytes) off) (texts_of bytes)) levels top ≡ true
 both_typed bytes access own zero top e =

@@ -25,6 +25,7 @@ use Rattle.nc_yang_scopes.specs.declared.naming.TextFault.{TextFault}
 use Rattle.nc_yang_nodes.specs.Alike.{SeenNode, seen_node}
 use Rattle.nc_yang_nodes.specs.Denials.{is_word_of}
 use Rattle.nc_yang_nodes.specs.Roles.{FeatureTest}
+use Rattle.nc_yang_nodes.specs.declared.planned.Plan.{Plan}
 use Rattle.nc_yang_nodes.specs.declared.planned.Planned.{Planned}
 use Rattle.nc_yang_data.specs.Data.{drafts}
 use Rattle.nc_yang_data.specs.Drafts.{is_user_text}
@@ -59,6 +60,12 @@ faults_are scoping tables named number (p ∷ ps) = λ i.
     option_map_or (λ (l : Located). map (in_text l.place.text) (node_faults scoping.texts tables named l.place.text number l.statement)) (slice_get scoping.located p.statement) []
     ++ faults_are scoping tables named (number + 1) ps i
 
+pub own_faults : (scoping : Scoping) (on : FeatureTest) (plan : Plan) →
+    faults_from scoping (drafts scoping plan) (names_case scoping on plan) 0 plan.nodes ≡ faults_seen scoping.texts on (seen scoping plan)
+own_faults scoping on plan =
+    (λ i. faults_from scoping (drafts_are scoping on plan i) (named_is scoping on plan i) 0 plan.nodes)
+    ∙ faults_are scoping (drafts_of scoping.texts (seen scoping plan).nodes) (case_named scoping.texts on (seen scoping plan).choices) 0 plan.nodes
+
 first_none : {A : Type 0} (xs ys : List A) → xs ++ ys ≡ [] → xs ≡ []
 first_none [] ys e = refl
 first_none (x ∷ xs) ys e = absurd (cc)
@@ -66,17 +73,10 @@ first_none (x ∷ xs) ys e = absurd (cc)
 module _ (modules : List ModuleText) (texts : List Statement) (has : HaveStatements modules texts) (steps : ℕ) (s : FeatureTest → Seen)
     (gives : (on : FeatureTest) → given_in texts on steps (length texts) ≡ Some (s on))
     (lines : List (List ℕ)) (tables : Tables) (d : Defines modules lines tables) where
-  own_faults : faults_from d.scoping (drafts d.scoping d.gives.plan) (names_case d.scoping d.on d.gives.plan) 0 d.gives.plan.nodes
-      ≡ faults_seen d.scoping.texts d.on (seen d.scoping d.gives.plan)
-  own_faults =
-      (λ i. faults_from d.scoping (drafts_are d.scoping d.on d.gives.plan i) (named_is d.scoping d.on d.gives.plan i) 0 d.gives.plan.nodes)
-      ∙ faults_are d.scoping (drafts_of d.scoping.texts (seen d.scoping d.gives.plan).nodes)
-      (case_named d.scoping.texts d.on (seen d.scoping d.gives.plan).choices) 0 d.gives.plan.nodes
-
   -- where a schema is defined, none is broken
   pub none_broken : faults_seen texts d.on (s d.on) ≡ []
   none_broken =
-      sym (own_faults
+      sym (own_faults d.scoping d.on d.gives.plan
       ∙ (λ i. faults_seen (texts_are modules texts has steps s gives lines tables d i) d.on (seen_is modules texts has steps s gives lines tables d i)))
       ∙ first_none (faults_from d.scoping (drafts d.scoping d.gives.plan) (names_case d.scoping d.on d.gives.plan) 0 d.gives.plan.nodes) _
       d.gives.is.is.keeps

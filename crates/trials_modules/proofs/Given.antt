@@ -145,10 +145,10 @@ some_there (Some a) x e = refl
 module _ (scoping : Scoping) (on : FeatureTest) where
   -- a statement gives the same, in the same way
   module _ (m : Moment) (p : Plan) (l : Located) where
-    record Agrees (more : ℕ → Plan) (inside : Spot) (block : List Located) (r : Part) : Type 0 where
-      adds : (n : ℕ) → slice_get scoping.located n ≡ Some l → seen scoping (more n) ≡ with_seen l (spot m) r (seen scoping p)
-      stands : inside ≡ inner_spot (spot m) (seen scoping p) r
-      has : block ≡ inside_of scoping.texts l r
+    pub record Agrees (more : ℕ → Plan) (inside : Spot) (block : List Located) (r : Part) : Type 0 where
+      pub adds : (n : ℕ) → slice_get scoping.located n ≡ Some l → seen scoping (more n) ≡ with_seen l (spot m) r (seen scoping p)
+      pub stands : inside ≡ inner_spot (spot m) (seen scoping p) r
+      pub has : block ≡ inside_of scoping.texts l r
 
     node_agrees : (deny : Deny) →
         Agrees (λ n. record p { nodes = p.nodes ++ node_of n m.context deny ∷ [] })
@@ -214,13 +214,13 @@ module _ (scoping : Scoping) (on : FeatureTest) where
     by_keyword deny UsesWord = uses_agrees deny
     by_keyword deny k = refl
 
-    by_support : (b : Bool) (deny : Deny) (k : Keyword) →
+    pub by_support : (b : Bool) (deny : Deny) (k : Keyword) →
         MatchOption (cond b (role_of deny k) None) (cond b (part_by deny k) None ≡ None) (λ z. MatchOption (cond b (part_by deny k) None) ⊥ (λ r.
         Agrees (λ n. added n m.context z p) (spot (record { context = inner m.context p z; before = p; statement = l })) (block scoping.texts l z) r))
     by_support true deny k = by_keyword deny k
     by_support false deny k = refl
 
-    no_part : role scoping.texts on l ≡ None → part scoping.texts on l ≡ None
+    pub no_part : role scoping.texts on l ≡ None → part scoping.texts on l ≡ None
     no_part is =
         subst (λ o. MatchOption o (part scoping.texts on l ≡ None) (λ z. MatchOption (part scoping.texts on l) ⊥ (λ r.
         Agrees (λ n. added n m.context z p) (spot (record { context = inner m.context p z; before = p; statement = l })) (block scoping.texts l z) r))) is

@@ -10,3 +10,6 @@ pub mod Numbered
 pub mod Kept
 pub mod KeptTypes
 pub mod Begun
+pub mod Reached
+pub mod Laid
+pub mod Placed

@@ -26,7 +26,7 @@ opened_more number (x ∷ xs) ys =
     ∙ sym (append_assoc (children number x) (opened (number + 1) xs) (opened (number + suc (length xs)) ys))
 
 -- so a layer with all that follow it is that layer, and what stands in all of them
-whole : (more number : ℕ) (layer : List Entry) → End more number layer → layers more number layer ≡ layer ++ opened number (layers more number layer)
+pub whole : (more number : ℕ) (layer : List Entry) → End more number layer → layers more number layer ≡ layer ++ opened number (layers more number layer)
 whole zero number layer ends = sym (ap (λ z. layer ++ z) ends ∙ append-nil layer)
 whole (suc more) number layer ends =
     ap (λ z. layer ++ z) (whole more (number + length layer) (opened number layer) ends

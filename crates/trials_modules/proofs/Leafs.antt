@@ -49,105 +49,105 @@ path on = unwrap_or (part_of Path (typed on 27)) (top_of sample)
 
 -- what `type string`, `type uint16` and the leafref mean
 host_means : (on : FeatureTest) → Means (holds (texts_of sample) on) (texts_of sample) (typed on 23) (Entry (String lengths false []) [] [])
-unfolding access_yang chars encode out-Statement out roll-Statement roll shown-the_row-Statement-0 shown hidden keyword_of keywords word_of is_word_of built_in_of built_ins built_in_word
+unfolding sample_seen access_yang chars encode out-Statement out roll-Statement roll shown-the_row-Statement-0 shown hidden keyword_of keywords word_of is_word_of built_in_of built_ins built_in_word
 host_means on = by_itself (typed on 23) Chars (Entry (String lengths false []) [] []) refl refl refl
 
 name_means : (on : FeatureTest) → Means (holds (texts_of sample) on) (texts_of sample) (typed on 25) (Entry (String lengths false []) [] [])
-unfolding access_yang chars encode out-Statement out roll-Statement roll shown-the_row-Statement-0 shown hidden keyword_of keywords word_of is_word_of built_in_of built_ins built_in_word
+unfolding sample_seen access_yang chars encode out-Statement out roll-Statement roll shown-the_row-Statement-0 shown hidden keyword_of keywords word_of is_word_of built_in_of built_ins built_in_word
 name_means on = by_itself (typed on 25) Chars (Entry (String lengths false []) [] []) refl refl refl
 
 tag_means : (on : FeatureTest) → Means (holds (texts_of sample) on) (texts_of sample) (typed on 26) (Entry (Whole (integers Uint16)) [] [])
-unfolding access_yang chars encode out-Statement out roll-Statement roll shown-the_row-Statement-0 shown hidden keyword_of keywords word_of is_word_of built_in_of built_ins built_in_word
+unfolding sample_seen access_yang chars encode out-Statement out roll-Statement roll shown-the_row-Statement-0 shown hidden keyword_of keywords word_of is_word_of built_in_of built_ins built_in_word
 tag_means on = by_itself (typed on 26) Uint16 (Entry (Whole (integers Uint16)) [] []) refl refl refl
 
 up_means : (on : FeatureTest) → Means (holds (texts_of sample) on) (texts_of sample) (typed on 27) (Refers (path on) true)
-unfolding access_yang chars encode out-Statement out roll-Statement roll shown-the_row-Statement-0 shown hidden keyword_of keywords word_of is_word_of built_in_of built_ins built_in_word
+unfolding sample_seen access_yang chars encode out-Statement out roll-Statement roll shown-the_row-Statement-0 shown hidden keyword_of keywords word_of is_word_of built_in_of built_ins built_in_word
 up_means on = by_itself (typed on 27) LeafRef (Refers (path on) true) refl refl refl
 
 -- the path of the leafref leads up to `top` and down to the names of ports
 up_leads : (on : FeatureTest) → leads_in (texts_of sample) (tables_of (texts_of sample) on (sample_seen on)) 27 (path on) ≡ Some (record { target = 25; above = Some 22 })
-unfolding access_yang chars encode out-Statement out roll-Statement roll shown-the_row-Statement-0 shown hidden keyword_of keywords word_of is_word_of is_true_text is_user_text leafref_end
+unfolding sample_seen access_yang chars encode out-Statement out roll-Statement roll shown-the_row-Statement-0 shown hidden keyword_of keywords word_of is_word_of is_true_text is_user_text leafref_end
 up_leads on = refl
 
 -- ---- their statements are there, and those of their types
 top_there : (on : FeatureTest) → is_some (defined_by (sample_seen on).nodes 22) ≡ true
-unfolding access_yang chars encode out-Statement out roll-Statement roll shown-the_row-Statement-0 shown hidden keyword_of keywords word_of is_word_of
+unfolding sample_seen access_yang chars encode out-Statement out roll-Statement roll shown-the_row-Statement-0 shown hidden keyword_of keywords word_of is_word_of
 top_there on = refl
 
 top_alone : (on : FeatureTest) → own_of top.kind (stated on 22) ≡ []
-unfolding access_yang chars encode out-Statement out roll-Statement roll shown-the_row-Statement-0 shown hidden keyword_of keywords word_of is_word_of
+unfolding sample_seen access_yang chars encode out-Statement out roll-Statement roll shown-the_row-Statement-0 shown hidden keyword_of keywords word_of is_word_of
 top_alone on = refl
 
 host_there : (on : FeatureTest) → is_some (defined_by (sample_seen on).nodes 23) ≡ true
-unfolding access_yang chars encode out-Statement out roll-Statement roll shown-the_row-Statement-0 shown hidden keyword_of keywords word_of is_word_of
+unfolding sample_seen access_yang chars encode out-Statement out roll-Statement roll shown-the_row-Statement-0 shown hidden keyword_of keywords word_of is_word_of
 host_there on = refl
 
 host_alone : (on : FeatureTest) → own_of host.kind (stated on 23) ≡ []
-unfolding access_yang chars encode out-Statement out roll-Statement roll shown-the_row-Statement-0 shown hidden keyword_of keywords word_of is_word_of
+unfolding sample_seen access_yang chars encode out-Statement out roll-Statement roll shown-the_row-Statement-0 shown hidden keyword_of keywords word_of is_word_of
 host_alone on = refl
 
 host_typed : (on : FeatureTest) → is_some (part_of TypeName (stated on 23)) ≡ true
-unfolding access_yang chars encode out-Statement out roll-Statement roll shown-the_row-Statement-0 shown hidden keyword_of keywords word_of is_word_of
+unfolding sample_seen access_yang chars encode out-Statement out roll-Statement roll shown-the_row-Statement-0 shown hidden keyword_of keywords word_of is_word_of
 host_typed on = refl
 
 host_based : (on : FeatureTest) → base_of (texts_of sample) (typed on 23) ≡ None
-unfolding access_yang chars encode out-Statement out roll-Statement roll shown-the_row-Statement-0 shown hidden keyword_of keywords word_of is_word_of built_in_of built_ins built_in_word
+unfolding sample_seen access_yang chars encode out-Statement out roll-Statement roll shown-the_row-Statement-0 shown hidden keyword_of keywords word_of is_word_of built_in_of built_ins built_in_word
 host_based on = refl
 
 port_there : (on : FeatureTest) → is_some (defined_by (sample_seen on).nodes 24) ≡ true
-unfolding access_yang chars encode out-Statement out roll-Statement roll shown-the_row-Statement-0 shown hidden keyword_of keywords word_of is_word_of
+unfolding sample_seen access_yang chars encode out-Statement out roll-Statement roll shown-the_row-Statement-0 shown hidden keyword_of keywords word_of is_word_of
 port_there on = refl
 
 port_alone : (on : FeatureTest) → own_of port.kind (stated on 24) ≡ []
-unfolding access_yang chars encode out-Statement out roll-Statement roll shown-the_row-Statement-0 shown hidden keyword_of keywords word_of is_word_of
+unfolding sample_seen access_yang chars encode out-Statement out roll-Statement roll shown-the_row-Statement-0 shown hidden keyword_of keywords word_of is_word_of
 port_alone on = refl
 
 name_there : (on : FeatureTest) → is_some (defined_by (sample_seen on).nodes 25) ≡ true
-unfolding access_yang chars encode out-Statement out roll-Statement roll shown-the_row-Statement-0 shown hidden keyword_of keywords word_of is_word_of
+unfolding sample_seen access_yang chars encode out-Statement out roll-Statement roll shown-the_row-Statement-0 shown hidden keyword_of keywords word_of is_word_of
 name_there on = refl
 
 name_alone : (on : FeatureTest) → own_of port_name.kind (stated on 25) ≡ []
-unfolding access_yang chars encode out-Statement out roll-Statement roll shown-the_row-Statement-0 shown hidden keyword_of keywords word_of is_word_of
+unfolding sample_seen access_yang chars encode out-Statement out roll-Statement roll shown-the_row-Statement-0 shown hidden keyword_of keywords word_of is_word_of
 name_alone on = refl
 
 name_typed : (on : FeatureTest) → is_some (part_of TypeName (stated on 25)) ≡ true
-unfolding access_yang chars encode out-Statement out roll-Statement roll shown-the_row-Statement-0 shown hidden keyword_of keywords word_of is_word_of
+unfolding sample_seen access_yang chars encode out-Statement out roll-Statement roll shown-the_row-Statement-0 shown hidden keyword_of keywords word_of is_word_of
 name_typed on = refl
 
 name_based : (on : FeatureTest) → base_of (texts_of sample) (typed on 25) ≡ None
-unfolding access_yang chars encode out-Statement out roll-Statement roll shown-the_row-Statement-0 shown hidden keyword_of keywords word_of is_word_of built_in_of built_ins built_in_word
+unfolding sample_seen access_yang chars encode out-Statement out roll-Statement roll shown-the_row-Statement-0 shown hidden keyword_of keywords word_of is_word_of built_in_of built_ins built_in_word
 name_based on = refl
 
 tag_there : (on : FeatureTest) → is_some (defined_by (sample_seen on).nodes 26) ≡ true
-unfolding access_yang chars encode out-Statement out roll-Statement roll shown-the_row-Statement-0 shown hidden keyword_of keywords word_of is_word_of
+unfolding sample_seen access_yang chars encode out-Statement out roll-Statement roll shown-the_row-Statement-0 shown hidden keyword_of keywords word_of is_word_of
 tag_there on = refl
 
 tag_alone : (on : FeatureTest) → own_of tag.kind (stated on 26) ≡ []
-unfolding access_yang chars encode out-Statement out roll-Statement roll shown-the_row-Statement-0 shown hidden keyword_of keywords word_of is_word_of
+unfolding sample_seen access_yang chars encode out-Statement out roll-Statement roll shown-the_row-Statement-0 shown hidden keyword_of keywords word_of is_word_of
 tag_alone on = refl
 
 tag_typed : (on : FeatureTest) → is_some (part_of TypeName (stated on 26)) ≡ true
-unfolding access_yang chars encode out-Statement out roll-Statement roll shown-the_row-Statement-0 shown hidden keyword_of keywords word_of is_word_of
+unfolding sample_seen access_yang chars encode out-Statement out roll-Statement roll shown-the_row-Statement-0 shown hidden keyword_of keywords word_of is_word_of
 tag_typed on = refl
 
 tag_based : (on : FeatureTest) → base_of (texts_of sample) (typed on 26) ≡ None
-unfolding access_yang chars encode out-Statement out roll-Statement roll shown-the_row-Statement-0 shown hidden keyword_of keywords word_of is_word_of built_in_of built_ins built_in_word
+unfolding sample_seen access_yang chars encode out-Statement out roll-Statement roll shown-the_row-Statement-0 shown hidden keyword_of keywords word_of is_word_of built_in_of built_ins built_in_word
 tag_based on = refl
 
 up_there : (on : FeatureTest) → is_some (defined_by (sample_seen on).nodes 27) ≡ true
-unfolding access_yang chars encode out-Statement out roll-Statement roll shown-the_row-Statement-0 shown hidden keyword_of keywords word_of is_word_of
+unfolding sample_seen access_yang chars encode out-Statement out roll-Statement roll shown-the_row-Statement-0 shown hidden keyword_of keywords word_of is_word_of
 up_there on = refl
 
 up_alone : (on : FeatureTest) → own_of up.kind (stated on 27) ≡ []
-unfolding access_yang chars encode out-Statement out roll-Statement roll shown-the_row-Statement-0 shown hidden keyword_of keywords word_of is_word_of
+unfolding sample_seen access_yang chars encode out-Statement out roll-Statement roll shown-the_row-Statement-0 shown hidden keyword_of keywords word_of is_word_of
 up_alone on = refl
 
 up_typed : (on : FeatureTest) → is_some (part_of TypeName (stated on 27)) ≡ true
-unfolding access_yang chars encode out-Statement out roll-Statement roll shown-the_row-Statement-0 shown hidden keyword_of keywords word_of is_word_of
+unfolding sample_seen access_yang chars encode out-Statement out roll-Statement roll shown-the_row-Statement-0 shown hidden keyword_of keywords word_of is_word_of
 up_typed on = refl
 
 up_based : (on : FeatureTest) → base_of (texts_of sample) (typed on 27) ≡ None
-unfolding access_yang chars encode out-Statement out roll-Statement roll shown-the_row-Statement-0 shown hidden keyword_of keywords word_of is_word_of built_in_of built_ins built_in_word
+unfolding sample_seen access_yang chars encode out-Statement out roll-Statement roll shown-the_row-Statement-0 shown hidden keyword_of keywords word_of is_word_of built_in_of built_ins built_in_word
 up_based on = refl
 
 -- ---- whatever schema it has

@@ -71,7 +71,7 @@ pub record IsPlanned (bytes : List ℕ) : Type 0 where
 
 -- ---- the module that is worked whole
 sample_is_laid : IsLaid sample (sample_seen off)
-unfolding access_yang chars encode out-Statement out roll-Statement roll shown-the_row-Statement-0 shown hidden keyword_of keywords word_of is_word_of
+unfolding sample_seen access_yang chars encode out-Statement out roll-Statement roll shown-the_row-Statement-0 shown hidden keyword_of keywords word_of is_word_of
 sample_is_laid = record { ends = refl; plain = refl; gives = sample_gives off; few = lit≤ tt; shallow = refl }
 
 pub sample_plan : IsPlanned sample

@@ -51,7 +51,7 @@ sample_is_text = record { utf8 = refl; reads = refl; short = refl }
 abbrev pub steps : ℕ
 steps = 64
 
-abbrev pub sample_seen : FeatureTest → Seen
+unfoldable pub sample_seen : FeatureTest → Seen
 sample_seen on = unwrap_or (given_in (texts_of sample) on steps 2) unseen
 
 sample_ends : (on : FeatureTest) → is_some (given_in (texts_of sample) on steps 2) ≡ true
@@ -59,6 +59,7 @@ unfolding access_yang chars encode out-Statement out roll-Statement roll shown-t
 sample_ends on = refl
 
 pub sample_gives : (on : FeatureTest) → given_in (texts_of sample) on steps 2 ≡ Some (sample_seen on)
+unfolding sample_seen
 sample_gives on = some_there (given_in (texts_of sample) on steps 2) unseen (sample_ends on)
 
 -- ---- its data nodes
@@ -138,7 +139,7 @@ abbrev pub sample_nodes : List Node
 sample_nodes = top ∷ host ∷ port ∷ port_name ∷ tag ∷ up ∷ []
 
 pub nodes_are : (on : FeatureTest) → (tables_of (texts_of sample) on (sample_seen on)).nodes ≡ access_nodes ++ sample_nodes
-unfolding access_yang chars encode out-Statement out roll-Statement roll shown-the_row-Statement-0 shown hidden keyword_of keywords word_of is_word_of is_true_text is_user_text
+unfolding sample_seen access_yang chars encode out-Statement out roll-Statement roll shown-the_row-Statement-0 shown hidden keyword_of keywords word_of is_word_of is_true_text is_user_text
 nodes_are on = refl
 
 -- whatever schema it has, those are its data nodes, but for the numbers of types and for defaults

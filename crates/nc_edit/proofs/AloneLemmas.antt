@@ -29,7 +29,7 @@ use Rattle.nc_protocol.specs.declared.request.Cause.{Cause}
 use Rattle.nc_tree.specs.inner.Lacking.{lacks, lacks_from}
 use Rattle.nc_edit.specs.inner.Alone.{AreBelow, AreFree, AreUnder, BringsUnder, GoesBelow, IsNew, is_free, is_merge, lacks_at, missed_at, refusal_at, turn_at}
 use Rattle.nc_edit.specs.inner.Denied.{has_case}
-use Rattle.nc_edit.specs.inner.Own.{own_block}
+use Rattle.nc_made.specs.Own.{own_block}
 use Rattle.nc_edit.specs.inner.Turns.{turn}
 use Rattle.nc_edit.proofs.BelowPaths.{rest_of, starts_on}
 use Rattle.nc_edit.proofs.TurnsAlone.{block_all, lacks_top, node_stands, node_under, run_alone, run_top, run_under, turn_top}

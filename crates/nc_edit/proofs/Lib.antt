@@ -8,7 +8,6 @@ pub mod Between
 pub mod CaseLemmas
 pub mod FirstDenied
 pub mod FreeLemmas
-pub mod KeptLemmas
 pub mod StillLemmas
 pub mod StoodLemmas
 pub mod TurnsAlone

@@ -9,8 +9,8 @@ ghost use Rattle.nc_edit.specs.inner.Denied as denied;
 
 use crate::asked::{Asking, ask_dropped, ask_new, is_ordered, may_move, refs};
 use crate::causes::{cause_at, decision_names};
-use crate::made::{keeps_rows, make, new_block};
 use crate::single::are_single;
+use nc_made::{keeps_rows, make, new_block};
 use nc_names::{CauseKind, Copies, Many, Memory, Path, Row};
 use nc_protocol::{Cause, Edit, Rights};
 use nc_schema::Schema;

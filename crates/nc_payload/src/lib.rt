@@ -2,7 +2,7 @@
 //! edits of an edit-config's `config`, `rows` the configuration that an inline `config` holds, and `Names`
 //! is the paths that the payload of a request names. It stands on the trees of `nc_message`, the schema of
 //! `nc_schema` with `nc_paths` and `nc_types`, the definitions of `nc_protocol`, the configurations of
-//! `nc_tree` and the edits of `nc_edit`.
+//! `nc_tree`, and `nc_made`, which makes one edit.
 //!
 //! The first two answer exactly what `edits_of` and `rows_of` define: the edits or rows, or the first fault
 //! in document order. `Names` answers for each path what `names_path` defines. Want of memory alone is

@@ -4,7 +4,7 @@ ghost use Rattle.nc_protocol.specs.Payload as meant;
 ghost use Rattle.nc_payload.specs.inner.Reads.{edit_at};
 
 use crate::gather::in_order;
-use nc_edit::make;
+use nc_made::make;
 use nc_names::{Copies, Many, Memory, Path, Place, Row};
 use nc_protocol::{Action, Edit, EditOperation, Under};
 use nc_schema::Schema;

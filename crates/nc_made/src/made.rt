@@ -5,7 +5,7 @@ ghost use Rattle.nc_schema.specs.Standing as standing;
 ghost use Rattle.nc_schema.specs.Blocks as blocks;
 ghost use Rattle.nc_schema.specs.Kinds as kinds;
 ghost use Rattle.nc_protocol.specs.declared.edit.Action.TheVariants.{Merge};
-ghost use Rattle.nc_edit.specs.inner.Own as own;
+ghost use Rattle.nc_made.specs.Own as own;
 
 use nc_names::{Copies, Many, Memory, Path, Place, Row, Text};
 use nc_protocol::{Action, Edit};
@@ -14,7 +14,7 @@ use nc_tree::{Config, node_of, rows_of_node};
 use std::alloc::Global;
 
 /// Whether a leaf or a leaf-list entry is at the path.
-pub(crate) fn is_value_at(schema: &Schema, path: &Path) -> bool
+fn is_value_at(schema: &Schema, path: &Path) -> bool
     ensures { result ≡ blocks.at_node schema.now path.now kinds.has_value }
 {
     match node_of(schema, path.steps.as_slice()) {
@@ -52,7 +52,7 @@ fn merged_block(
 }
 
 /// The rows at and below the node once an edit is made.
-pub(crate) fn new_block(
+pub fn new_block(
     alloc: Global,
     schema: &Schema,
     config: &Config,
@@ -87,7 +87,7 @@ fn place_by(action: &Action, place: &Place) -> Result<Place, Memory>
 
 /// Whether an edit leaves the rows at and below its node as they are; else it puts rows of its own.
 #[tactic(auto, using(crate::proofs::KeptLemmas::merge_kept, crate::proofs::KeptLemmas::merge_put))]
-pub(crate) fn keeps_rows(schema: &Schema, config: &Config, path: &Path, action: &Action) -> bool
+pub fn keeps_rows(schema: &Schema, config: &Config, path: &Path, action: &Action) -> bool
     ensures kept { result ≡ true → meant.new_block schema.now config.now path.now action.now
         ≡ standing.block_at config.now path.now.steps }
     ensures put { result ≡ false → meant.new_block schema.now config.now path.now action.now
@@ -102,7 +102,7 @@ pub(crate) fn keeps_rows(schema: &Schema, config: &Config, path: &Path, action: 
 }
 
 /// The rows that an edit puts at and below its node, where it does not leave those that stand.
-pub(crate) fn own_block(
+pub fn own_block(
     alloc: Global,
     schema: &Schema,
     path: &Path,

@@ -140,11 +140,19 @@ fn serve_started<Q: Desk, S: Source, K: Sink>(
     )
 }
 
-// Whether the session of an End was live.
+fn is_live(outcome: &Outcome) -> bool
+    ensures { Ending outcome.now result }
+{
+    !matches!(outcome, Outcome::NotLive)
+}
+
+// Whether the session of an End was live. The outcome is let go.
 fn was_live(outcome: Outcome) -> bool
     ensures { Ending outcome result }
 {
-    !matches!(&outcome, Outcome::NotLive)
+    let live = is_live(&outcome);
+    drop(outcome);
+    live
 }
 
 // Enters the session's End, where it is to be entered.

@@ -1,6 +1,7 @@
 //! The server's hello (RFC 6241 8.1).
 ghost use Rattle.std.specs.Prelude.{◌≡◌, ◌++◌, ◌∷◌, [], map, IfOk, OnOk, OnErr};
 ghost use Rattle.std.specs.Fmt.{decimal};
+ghost use Rattle.nc_protocol.specs.Content as content;
 ghost use Rattle.nc_protocol.specs.Words.{session_id_word};
 ghost use Rattle.nc_names.specs.Appending.{Appends};
 ghost use Rattle.nc_session.specs.ServerHello as hellos;
@@ -16,16 +17,21 @@ use nc_protocol::request_words;
 use nc_schema::Schema;
 use std::alloc::Global;
 
+// A name of the base namespace.
+fn base_name(alloc: Global, name: &str) -> Result<QName, Memory>
+    ensures { IfOk result (λ it. it ≡ content.base_name name.now) }
+{
+    let space = Text::from_text(alloc, request_words::base_namespace())?;
+    let name = Text::from_text(alloc, name)?;
+    Ok(QName { space, name })
+}
+
 // An element of the base namespace.
 fn base_element(alloc: Global, name: &str, parts: Many<Part>) -> Result<Elem, Memory>
     ensures { IfOk result (λ it. it ≡ hellos.base_elem name.now parts) }
 {
-    let name = QName {
-        space: Text::from_text(alloc, request_words::base_namespace())?,
-        name: Text::from_text(alloc, name)?,
-    };
     Ok(Elem {
-        name,
+        name: base_name(alloc, name)?,
         bounds: Bounds::new(),
         attrs: Many::new(alloc),
         parts,

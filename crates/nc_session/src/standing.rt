@@ -1,10 +1,11 @@
 //! How a request leaves its session.
-ghost use Rattle.std.specs.Prelude.{◌≡◌};
+ghost use Rattle.std.specs.Prelude.{◌≡◌, Ok};
+ghost use Rattle.nc_model.specs.Laws.{asks_close};
 ghost use Rattle.nc_model.specs.Step.{is_done};
 ghost use Rattle.nc_session.specs.Sessions.{is_close, standing_after};
 
 use nc_model::{Entry, Event, Outcome};
-use nc_protocol::{Asked, Verdict};
+use nc_protocol::{Asked, Cause, Verdict};
 
 /// How the last request of a session left it.
 #[derive(Clone, Copy, Debug)]
@@ -17,11 +18,27 @@ pub(crate) enum Standing {
     Dead,
 }
 
+fn is_close_session(asked: &Asked) -> bool
+    ensures { result ≡ asks_close (Ok asked.now) }
+{
+    matches!(asked, Asked::CloseSession)
+}
+
+// Whether a request asks for close-session.
+fn asks_to_close(asked: &Result<Asked, Cause>) -> bool
+    ensures { result ≡ asks_close asked.now }
+{
+    match asked {
+        Ok(asked) => is_close_session(asked),
+        Err(_) => false,
+    }
+}
+
 fn closes(event: &Event) -> bool
     ensures { result ≡ is_close event.now }
 {
     match event {
-        Event::Request { request, .. } => matches!(request.asked, Ok(Asked::CloseSession)),
+        Event::Request { request, .. } => asks_to_close(&request.asked),
         _ => false,
     }
 }

@@ -62,6 +62,7 @@ fn finish<K: Sink>(
 {
     let settled = settle(core, &entry, out, sink);
     core.let_go(out);
+    drop(entry);
     settled
 }
 

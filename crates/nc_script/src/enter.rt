@@ -23,6 +23,8 @@ pub(crate) fn submit<K: Keeper>(
     ensures { Comes (lasting K.doubt K.moment K.leaves K.continues) machine.old machine.new event at result }
 {
     if machine.count() == MOST_REQUESTS {
+        // Let go by a call: taken apart here, variant by variant, the event took the proof a minute.
+        drop(event);
         return Err(StepFault::Spent);
     }
     match machine.handle(event, at) {

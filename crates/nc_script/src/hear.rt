@@ -76,7 +76,9 @@ fn conclude(
     ensures tallied { Tallied tally.old tally.new (entry ∷ []) }
 {
     tally.count(&entry);
-    settle(core, &entry, text)
+    let settled = settle(core, &entry, text);
+    drop(entry);
+    settled
 }
 
 // Enters a request, and answers it.

@@ -124,12 +124,19 @@ fn hear_in<K: Keeper>(
     match state {
         State::Live { session, mut core } => {
             if core.feed(piece).is_err() {
+                drop(core);
                 return Err(StepFault::Memory);
             }
             match listen(machine, session, &mut core, text, at, tally) {
-                Ok(Some(end)) => Ok(State::Over { end }),
+                Ok(Some(end)) => {
+                    drop(core);
+                    Ok(State::Over { end })
+                }
                 Ok(None) => Ok(State::Live { session, core }),
-                Err(fault) => Err(fault),
+                Err(fault) => {
+                    drop(core);
+                    Err(fault)
+                }
             }
         }
         State::Over { end } => Ok(State::Over { end }),

@@ -54,9 +54,13 @@ pub(crate) fn enter<R: Wait, K: Keeper, C: Clock>(
 {
     let mut held = match turn.take(rt, pass) {
         Ok(held) => held,
-        Err(spent) => return Err(DeskFault::Spent {
-            ticket: spent.ticket,
-        }),
+        Err(spent) => {
+            // Let go by a call: taken apart here, variant by variant, the event took the proof a minute.
+            drop(event);
+            return Err(DeskFault::Spent {
+                ticket: spent.ticket,
+            });
+        }
     };
     match held.submit(event) {
         Ok(entry) => {

@@ -6,3 +6,4 @@ pub mod FoundLemmas
 pub mod KnownLemmas
 pub mod MarkLemmas
 pub mod RankLemmas
+pub mod TopLemmas

@@ -5,10 +5,10 @@ ghost use Rattle.std.specs.Ordering.{is_lt};
 ghost use Rattle.nc_names.specs.declared.path.Row.{Row};
 ghost use Rattle.nc_changes.specs.inner.Asked as inner;
 
-use crate::marks::are_apart;
+use crate::tops::{are_all_apart, are_seen_apart};
 use nc_names::{Many, Memory, Row, Step};
 use nc_schema::Schema;
-use nc_tree::node_of;
+use nc_tree::{Config, node_of};
 use std::alloc::Global;
 use std::cmp::Ordering;
 
@@ -169,20 +169,20 @@ fn rows_apart<'a>(
     Ok(asked)
 }
 
-/// Of the rows of a configuration those that may be updated, and those that come anew: these stand now where
-/// those that go stood, between `above` and `below`. Entries that the user orders do not rise, nor do the
-/// rows in them: where these are many, one look at all rows tells that none of them stands twice.
-pub(crate) fn rows_asked<'a>(
+// Of the rows of a configuration those that may be updated, and those that come anew, by a look at each of
+// them. Entries that the user orders do not rise, nor do the rows in them: where these are many, one look at
+// all rows tells that none of them stands twice.
+fn rows_looked_at<'a>(
     alloc: Global,
     schema: &Schema,
-    old_rows: &[&'a Row],
+    old: &Config,
     above: &[&'a Row],
     gone: &[&'a Row],
     come: &[&'a Row],
     below: &[&'a Row],
 ) -> Result<Many<&'a Row>, Memory>
-    requires { map (λ row. row.now) old_rows.now
-        ≡ map (λ row. row.now) above.now ++ (map (λ row. row.now) gone.now ++ map (λ row. row.now) below.now) }
+    requires { old.now ≡ map (λ row. row.now) above.now
+        ++ (map (λ row. row.now) gone.now ++ map (λ row. row.now) below.now) }
     ensures { IfOk result (λ it. inner.AreAsked schema.now (map (λ row. row.now) above.now)
         (map (λ row. row.now) gone.now) (map (λ row. row.now) come.now) (map (λ row. row.now) below.now)
         (map (λ row. row.now) it)) }
@@ -191,9 +191,35 @@ pub(crate) fn rows_asked<'a>(
     if asked.len() <= come.len().saturating_add(FEW) {
         return Ok(asked);
     }
-    let apart = are_apart(alloc, old_rows)?;
+    let apart = are_all_apart(alloc, old)?;
     if !apart {
         return Ok(asked);
+    }
+    let fewer = rows_apart(alloc, schema, above, gone, come, below)?;
+    Ok(fewer)
+}
+
+/// Of the rows of a configuration those that may be updated, and those that come anew: these stand now where
+/// those that go stood, between `above` and `below`. Where it is seen at once that no two rows that stood
+/// have one path, none of the others is looked at.
+pub(crate) fn rows_asked<'a>(
+    alloc: Global,
+    schema: &Schema,
+    old: &Config,
+    above: &[&'a Row],
+    gone: &[&'a Row],
+    come: &[&'a Row],
+    below: &[&'a Row],
+) -> Result<Many<&'a Row>, Memory>
+    requires { old.now ≡ map (λ row. row.now) above.now
+        ++ (map (λ row. row.now) gone.now ++ map (λ row. row.now) below.now) }
+    ensures { IfOk result (λ it. inner.AreAsked schema.now (map (λ row. row.now) above.now)
+        (map (λ row. row.now) gone.now) (map (λ row. row.now) come.now) (map (λ row. row.now) below.now)
+        (map (λ row. row.now) it)) }
+{
+    let apart = are_seen_apart(alloc, old)?;
+    if !apart {
+        return rows_looked_at(alloc, schema, old, above, gone, come, below);
     }
     let fewer = rows_apart(alloc, schema, above, gone, come, below)?;
     Ok(fewer)

@@ -226,7 +226,7 @@ fn changes_among<'a>(
     let gone = behind(before, first);
     let come = behind(after, first);
     let below = behind(old_rows, left);
-    let asked = rows_asked(alloc, schema, old_rows, above, gone, come, below)?;
+    let asked = rows_asked(alloc, schema, old, above, gone, come, below)?;
     let stood = Found::of(alloc, old, old_rows, asked.len())?;
     let stand = Found::of(alloc, new, new_rows, gone.len())?;
     Ok(Changes {

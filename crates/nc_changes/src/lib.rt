@@ -14,6 +14,7 @@ mod found;
 mod marks;
 mod moved;
 mod ranks;
+mod tops;
 
 pub use differ::{Differing, changes, differs, is_same_value, is_updated};
 pub use marks::are_apart;

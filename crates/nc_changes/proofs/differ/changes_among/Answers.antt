@@ -24,7 +24,8 @@ returns c =
 
 pub rows_asked-requires : goal.rows_asked-requires
 rows_asked-requires c =
-    (parts_found (rows_of c.args.old_rows.now) (rows_of c.args.new_rows.now) (rows_of c.front-above.result.now) (rows_of c.front-before.result.now)
+    sym c.requires.old
+    ∙ (parts_found (rows_of c.args.old_rows.now) (rows_of c.args.new_rows.now) (rows_of c.front-above.result.now) (rows_of c.front-before.result.now)
     (rows_of c.front-after.result.now) (rows_of c.behind-gone.result.now) (rows_of c.behind-come.result.now) (rows_of c.behind-below.result.now)
     c.common_first-first.result c.before_last-left.result.0 c.before_last-left.result.1 c.common_first-first.ensures.same c.before_last-left.ensures
     c.front-above.ensures c.front-before.ensures c.front-after.ensures c.behind-gone.ensures c.behind-come.ensures c.behind-below.ensures).0

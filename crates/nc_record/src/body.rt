@@ -1,7 +1,6 @@
 //! A configuration is written as a body.
-ghost use Rattle.std.specs.Prelude.{◌≡◌, ◌≤◌, ◌<◌, ◌^◌, ◌++◌, ◌-◌, ◌+◌, length, map, min, IfOk, IsUtf8};
+ghost use Rattle.std.specs.Prelude.{◌≡◌, ◌≤◌, ◌<◌, ◌^◌, ◌++◌, ◌-◌, length, map, min, IfOk, IsUtf8};
 ghost use Rattle.std.specs.List.{flat_map};
-ghost use Rattle.std.specs.Option.{option_copied, option_map_or};
 ghost use Rattle.nc_names.specs.Limits.{body_limit};
 ghost use Rattle.nc_record.specs.Reading.{AreTexts};
 ghost use Rattle.nc_record.specs.inner.Given.{AreShort};
@@ -10,12 +9,6 @@ ghost use Rattle.nc_schema.specs.Record.{in_four_bytes, last_node, record_body, 
 use nc_names::{Bytes, Memory, Row};
 use nc_tree::Config;
 use std::alloc::Global;
-
-/// The bytes of a body that do not belong to a row: its kind, and how many rows there are.
-const HEAD: u64 = 5;
-
-/// The bytes of a row beside its value: the number of its data node, and the length of the value.
-const ROW_HEAD: u64 = 8;
 
 /// What a body begins with: it holds a whole configuration.
 const WHOLE: u8 = 1;
@@ -40,26 +33,23 @@ fn node_of(row: &Row) -> u32
     }
 }
 
-// How many bytes a row takes, none where there is no row.
-fn room_of(row: Option<&Row>) -> u64
-    ensures { result
-        ≡ min (option_map_or (λ it. 8 + length (value_bytes it)) (option_copied row.entry) 0) (2 ^ 64 - 1) }
-{
-    match row {
-        Some(row) => ROW_HEAD.saturating_add(text_of(row).len() as u64),
-        None => 0,
-    }
-}
-
-/// How many bytes the body of a configuration has, or 2^64 - 1 where there are more. It takes no memory.
+/// How many bytes the body of a configuration has, or 2^64 - 1 where there are more. A configuration tells at
+/// once whether it has at most so many, so they are found by halves, and no row is looked at. It takes no
+/// memory.
 pub fn whole_size(config: &Config) -> u64
     ensures { result ≡ min (record_size config.now) (2 ^ 64 - 1) }
 {
-    let mut size = HEAD;
-    for place in 0..config.len() {
-        size = size.saturating_add(room_of(config.row(place)));
+    let mut low = 0;
+    let mut high = u64::MAX;
+    while low < high {
+        let middle = low + (high - low) / 2;
+        if config.is_within(middle) {
+            high = middle;
+        } else {
+            low = middle + 1;
+        }
     }
-    size
+    low
 }
 
 // Adds a number in four bytes, the highest first.
@@ -94,17 +84,6 @@ fn push_rows(body: &mut Bytes, rows: &[&Row]) -> Result<(), Memory>
     Ok(())
 }
 
-// How much room rows take, with what comes before them. Nothing rests on it but time and memory.
-fn room_for(rows: &[&Row]) -> usize {
-    let mut room = HEAD as usize;
-    for row in rows {
-        room = room
-            .saturating_add(ROW_HEAD as usize)
-            .saturating_add(text_of(*row).len());
-    }
-    room
-}
-
 /// The body of a record of a configuration, whose size is within the limit. The value of each row is a text.
 #[tactic(auto, using(crate::proofs::Sizes::few_rows, crate::proofs::Sizes::short_values))]
 pub fn whole(alloc: Global, config: &Config) -> Result<Bytes, Memory>
@@ -114,7 +93,8 @@ pub fn whole(alloc: Global, config: &Config) -> Result<Bytes, Memory>
 {
     let all = config.rows(alloc)?;
     let rows = all.as_slice();
-    let mut body = Bytes::from_vec(Vec::with_capacity(alloc, room_for(rows))?);
+    let room = whole_size(config) as usize;
+    let mut body = Bytes::from_vec(Vec::with_capacity(alloc, room)?);
     body.push(WHOLE)?;
     push_number(&mut body, config.len() as u32)?;
     push_rows(&mut body, rows)?;

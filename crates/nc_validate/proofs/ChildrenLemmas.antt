@@ -12,7 +12,7 @@ use Rattle.nc_names.specs.declared.cause.CauseKind.{CauseKind}
 use Rattle.nc_names.specs.declared.cause.CauseKind.TheVariants.{Mandatory, MandatoryChoice, TooFew, TooMany}
 use Rattle.nc_names.specs.declared.path.Step.{Step}
 use Rattle.nc_schema.specs.Kinds.{has_entries, holds_nodes, is_leaf}
-use Rattle.nc_schema.specs.Places.{Part, Place, or_empty, parts_of, place_of, place_parts, places_from, places_of, top_place}
+use Rattle.nc_schema.specs.Places.{Part, Place, or_empty, parts_of, place_of, place_parts, places_of}
 use Rattle.nc_schema.specs.Tables.{Tables}
 use Rattle.nc_schema.specs.Violations.{child_violations, choice_violations, is_choice_before, is_required, structural_violations, unique_violations, violated, violations_at}
 use Rattle.nc_schema.specs.declared.node.Case.{Case}
@@ -118,11 +118,10 @@ unbounded tables place number node free =
     by false zero None free false false count required = refl
 
 -- ---- all places
-pub walk_is : (tables : Tables) (rows : List Row) (spots : List Spot) (place : Place) → places_in rows spots ≡ places_from tables place → place ≡ top_place rows →
+pub walk_is : (tables : Tables) (rows : List Row) (spots : List Spot) → flat_map (violations_at tables) (places_in rows spots) ≡ structural_violations tables rows →
     first (flat_map (λ spot. violations_at tables (place_here rows spot.steps spot.here)) spots) ≡ slice_get (structural_violations tables rows) 0
-walk_is tables rows spots place are is =
-    ap first (sym (flat_map-map (violations_at tables) (λ (spot : Spot). place_here rows spot.steps spot.here) spots))
-    ∙ ap (λ ps. first (flat_map (violations_at tables) ps)) (are ∙ ap (places_from tables) is)
+walk_is tables rows spots are =
+    ap first (sym (flat_map-map (violations_at tables) (λ (spot : Spot). place_here rows spot.steps spot.here) spots) ∙ are)
     ∙ first_get (structural_violations tables rows)
 
 -- ---- the `unique` statements of a data node

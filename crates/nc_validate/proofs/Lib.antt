@@ -6,4 +6,5 @@ pub mod UniqueLemmas
 pub mod CountLemmas
 pub mod Firsts
 pub mod FreeLemmas
+pub mod AskedLemmas
 pub mod AloneLemmas

@@ -4,4 +4,5 @@ pub mod Children
 pub mod Choices
 pub mod Outlines
 pub mod Tuples
+pub mod Asked
 pub mod Alone

@@ -11,6 +11,7 @@
 #![tactic(auto)]
 
 mod alone;
+mod asked;
 mod choices;
 mod counts;
 mod entries;

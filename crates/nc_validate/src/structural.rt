@@ -10,13 +10,14 @@ ghost use Rattle.nc_validate.specs.inner.Children.{bare_from, begun_choices};
 ghost use Rattle.nc_validate.specs.inner.Children.{child_at, nodes_from, uniques_of};
 ghost use Rattle.nc_validate.specs.inner.Outlines.{IsOutline};
 
+use crate::asked::spots_asked;
 use crate::choices::{first_of_bare, first_of_choice};
 use crate::counts::{first_of_counts, is_bounded};
 use crate::entries::entries;
 use crate::faults::is_found;
 use crate::outline::{Outline, outline_of};
 use crate::unique::first_repeated;
-use nc_defaults::{Children, Here, Spot, has_places, node_there, places_from, top};
+use nc_defaults::{Children, Here, Spot, has_places, node_there};
 use nc_names::{Many, Memory, Step};
 use nc_schema::{Node, Schema, Violation};
 use nc_tree::Listed;
@@ -101,10 +102,10 @@ fn first_of_uniques<'a>(
     Ok(found)
 }
 
-// Whether nothing is asked of a data node, as of most: it is of no case, and its count and its entries are
-// free.
+/// Whether nothing is asked of a data node, as of most: it is of no case, and its count and its entries are
+/// free.
 #[tactic(auto, using(crate::proofs::FreeLemmas::none_asked))]
-fn is_free(node: &Node) -> bool
+pub(crate) fn is_free(node: &Node) -> bool
     ensures { (tables : Tables) (place : Place) (number : ℕ) → result ≡ true →
         violations.child_violations tables place number node.now ≡ [] }
 {
@@ -234,7 +235,7 @@ fn first_at<'a>(
     Ok(bare)
 }
 
-// The first violation of all places.
+// The first violation of all places. Those in which nothing is asked are left out.
 fn first_of_places<'a>(
     alloc: Global,
     outline: &Outline<'a>,
@@ -244,7 +245,7 @@ fn first_of_places<'a>(
     ensures { IfOk result (λ it. it
         ≡ slice_get (violations.structural_violations outline.now.schema.now config.now) 0) }
 {
-    let spots = places_from(alloc, &outline.children, config, &[], top(config))?;
+    let spots = spots_asked(alloc, outline, config)?;
     for spot in spots.as_slice() {
         let found = first_at(alloc, outline, config, spot.steps.as_slice(), spot.here)?;
         if is_found(&found) {

@@ -1,13 +1,14 @@
--- Steps that were put into a set, and numbers beside them.
+-- Steps that were put into a set, and numbers beside them; the first few steps, and those after them.
 use Rattle.std.proofs.Common.{◌≡◌, ◌==◌, ◌||◌, ◌&&◌, ℕ, Bool, true, false, cond, List, [], ◌∷◌, ◌++◌, refl, sym, ap, ◌∙◌}
 use Rattle.std.proofs.lemmas.Bool.{eqb-true}
+use Rattle.std.proofs.lemmas.List.{append-nil, append_assoc}
 use Rattle.std.proofs.lemmas.List.Folds.{list_any-append}
 use Rattle.std.specs.List.{list_any}
 use Rattle.std.specs.BTreeSet.{BTreeSet, contains}
 use Rattle.std.specs.Ordering.{is_eq}
 use Rattle.nc_names.proofs.StepOrder.{step_ties}
 use Rattle.nc_names.specs.contracts.path.StepOrd.TheImpl.{ghosts}
-use Rattle.nc_names.specs.Same.{is_same_step}
+use Rattle.nc_names.specs.Same.{is_same_keys, is_same_step}
 use Rattle.nc_names.specs.declared.path.Step.{Step}
 use Rattle.nc_schema.specs.Standing.{cases_differ, cases_of}
 use Rattle.nc_schema.specs.Tables.{Tables}
@@ -15,7 +16,7 @@ use Rattle.nc_schema.specs.declared.node.Case.{Case}
 use Rattle.nc_schema.specs.declared.node.Node.{Node}
 use Rattle.nc_protocol.specs.Faults.{clashes, stands_once}
 use Rattle.nc_protocol.specs.declared.position.Under.{Under}
-use Rattle.nc_payload.specs.inner.Earlier.{AddsNumber, AddsStep, AreNumbersOf, AreStepsOf}
+use Rattle.nc_payload.specs.inner.Earlier.{AddsNumber, AddsSought, AddsStep, AreNumbersOf, AreSought, has_no_keys, is_sought}
 
 turned : (s b : Bool) → cond s true b ≡ (b || s)
 turned true true = refl
@@ -32,10 +33,28 @@ or_false : (b : Bool) → (b || false) ≡ b
 or_false true = refl
 or_false false = refl
 
+and_false : (b : Bool) → (b && false) ≡ false
+and_false true = refl
+and_false false = refl
+
+-- a step that is not looked up is none that is
+not_sought : (each : Bool) (step other : Step) → is_sought each step ≡ false → is_sought each other ≡ true → is_same_step step other ≡ false
+not_sought true step other is_not sought = absurd (let clash : true ≡ false = is_not in cc)
+not_sought false step other is_not sought = apart (step.node == other.node) step.keys other.keys is_not sought
+  where
+    apart : (b : Bool) (some others : List (List ℕ)) → has_no_keys some ≡ false → has_no_keys others ≡ true → (b && is_same_keys some others) ≡ false
+    apart b [] others is_not bare = absurd (let clash : true ≡ false = is_not in cc)
+    apart b (key ∷ some) [] is_not bare = and_false b
+    apart b (key ∷ some) (other ∷ others) is_not bare = absurd (let clash : false ≡ true = bare in cc)
+
+pub none_sought : (each : Bool) (set : BTreeSet Step) (step : Step) → is_sought each step ≡ false → AddsSought each set set step
+none_sought each set step is_not other sought =
+    sym (ap (λ b. contains ghosts.cmp set other || b) (not_sought each step other is_not sought) ∙ or_false (contains ghosts.cmp set other))
+
 -- one step more, in the list and beside it
-pub steps_more : (list : List Step) (before after : BTreeSet Step) (step : Step) → AreStepsOf list before → AddsStep before after step → AreStepsOf (list ++ step ∷ []) after
-steps_more list before after step are added other =
-    added other ∙ ap (λ b. b || is_same_step step other) (are other)
+pub sought_more : (each : Bool) (list : List Step) (before after : BTreeSet Step) (step : Step) → AreSought each list before → AddsSought each before after step → AreSought each (list ++ step ∷ []) after
+sought_more each list before after step are added other sought =
+    added other sought ∙ ap (λ b. b || is_same_step step other) (are other sought)
     ∙ ap (λ b. list_any (λ one. is_same_step one other) list || b) (sym (or_false (is_same_step step other)))
     ∙ sym (list_any-append (λ one. is_same_step one other) list (step ∷ []))
 
@@ -96,3 +115,22 @@ pub no_cases : (tables : Tables) (cases : List Case) (list : List Step) → case
 no_cases tables cases [] none = refl
 no_cases tables cases (step ∷ list) none =
     (λ i. cases_differ (none i) (cases_of tables step.node) || list_any (λ other. cases_differ cases (cases_of tables other.node)) list) ∙ no_cases tables cases list none
+
+-- one step more, among the first few or after them
+pub few_more : (few more : List Step) (step : Step) → more ≡ [] → ((few ++ step ∷ []) ++ more) ≡ ((few ++ more) ++ step ∷ [])
+few_more few more step none =
+    (λ i. (few ++ step ∷ []) ++ none i) ∙ append-nil (few ++ step ∷ []) ∙ ap (λ (steps : List Step). steps ++ step ∷ []) (sym (append-nil few))
+    ∙ (λ i. (few ++ sym none i) ++ step ∷ [])
+
+pub many_more : (few more : List Step) (step : Step) → (few ++ (more ++ step ∷ [])) ≡ ((few ++ more) ++ step ∷ [])
+many_more few more step = sym (append_assoc few more (step ∷ []))
+
+-- a step is among the first few or after them, and so is one of another case
+pub among_both : (step : Step) (few more : List Step) →
+    list_any (λ other. is_same_step other step) (few ++ more) ≡ (list_any (λ other. is_same_step other step) few || list_any (λ other. is_same_step other step) more)
+among_both step few more = list_any-append (λ other. is_same_step other step) few more
+
+pub case_of_both : (tables : Tables) (cases : List Case) (few more : List Step) →
+    list_any (λ other. cases_differ cases (cases_of tables other.node)) (few ++ more)
+    ≡ (list_any (λ other. cases_differ cases (cases_of tables other.node)) few || list_any (λ other. cases_differ cases (cases_of tables other.node)) more)
+case_of_both tables cases few more = list_any-append (λ (other : Step). cases_differ cases (cases_of tables other.node)) few more

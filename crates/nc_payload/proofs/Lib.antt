@@ -1,3 +1,4 @@
+pub mod ContentLemmas
 pub mod EarlierLemmas
 pub mod Naming
 pub mod PlacesLemmas

@@ -1,147 +1,112 @@
-//! The steps of the elements of one parent, so far, in an order in which they are looked up.
-ghost use Rattle.std.specs.Prelude.{◌≡◌, ◌==◌, ◌&&◌, ◌∷◌, ◌++◌, [], not, IfOk};
+//! The steps of the elements of one parent, so far.
+ghost use Rattle.std.specs.Prelude.{◌≡◌, ◌∷◌, ◌++◌, [], true, option_to_list, IfOk};
 ghost use Rattle.std.specs.List.{list_any};
 ghost use Rattle.nc_names.specs.Same as same;
 ghost use Rattle.nc_schema.specs.Standing as standing;
-ghost use Rattle.nc_payload.specs.inner.Earlier.{AddsNumber, AddsStep};
 
-use nc_names::{Copies, Many, Memory, Step};
-use nc_schema::{Case, Node, Schema};
+use crate::indexed::{Indexed, is_among, is_of_other_case};
+use nc_names::{Many, Memory, Step};
+use nc_schema::{Node, Schema};
 use std::alloc::Global;
-use std::collections::BTreeSet;
 use std::marker::Model;
 
-/// Steps in the order in which they came. Contracts see their list.
+// So many steps are gone over: an entry seldom has more children, and an index takes memory of its own.
+const FEW: usize = 8;
+
+/// Steps in the order in which they came: the first few, and an index of those after them. Contracts see
+/// their list.
 #[derive(Drop)]
 pub(crate) struct Earlier {
-    list: Many<Step>,
-    steps: BTreeSet<Step>,
-    numbers: Many<u32>,
+    few: Many<Step>,
+    more: Indexed,
 }
 
 impl Model for Earlier {
-    ghost use Rattle.std.specs.Prelude.{List};
+    ghost use Rattle.std.specs.Prelude.{List, ◌++◌};
     ghost use Rattle.nc_names.specs.declared.path.Step.{Step};
-    ghost use Rattle.nc_payload.specs.inner.Earlier.{AreNumbersOf, AreStepsOf};
 
     ghost Value = { List Step };
 
-    ghost view = { λ e. e.list };
-
-    ghost invariant = { λ e. AreStepsOf e.list e.steps × AreNumbersOf e.list e.numbers };
+    ghost view = { λ e. e.few ++ e.more };
 }
 
-fn has_number(numbers: &Many<u32>, number: u32) -> bool
-    ensures { result ≡ list_any (λ other. other == number) numbers.now }
+// Whether a further step is one of the first few.
+fn is_one_of_few(few: &Many<Step>, more: &Indexed) -> bool
+    ensures { result ≡ true → more.now ≡ [] }
 {
-    numbers.as_slice().iter().any(|other| *other == number)
-}
-
-// The numbers with one more, unless it is there.
-fn with_number(numbers: Many<u32>, number: u32) -> Result<Many<u32>, Memory>
-    ensures { IfOk result (λ it. AddsNumber numbers it number) }
-{
-    if has_number(&numbers, number) {
-        return Ok(numbers);
+    if few.len() >= FEW {
+        return false;
     }
-    let mut numbers = numbers;
-    numbers.push(number)?;
-    Ok(numbers)
+    more.is_empty()
 }
 
-// The set with a step more.
-#[tactic(auto, using(crate::proofs::EarlierLemmas::step_added))]
-fn with_step(steps: BTreeSet<Step>, step: &Step) -> Result<BTreeSet<Step>, Memory>
-    ensures { IfOk result (λ it. AddsStep steps it step.now) }
-{
-    let mut steps = steps;
-    steps.insert(step.copy()?)?;
-    Ok(steps)
-}
-
-fn differs(one: &Case, others: &Many<Case>) -> bool
-    ensures { result ≡
-        list_any (λ other. one.now.choice == other.choice && not (one.now.case == other.case)) others.now }
-{
-    others.as_slice().iter().any(|other| one.choice == other.choice && one.case != other.case)
-}
-
-fn cases_differ(some: &Many<Case>, others: &Many<Case>) -> bool
-    ensures { result ≡ standing.cases_differ some.now others.now }
-{
-    some.as_slice().iter().any(|one| differs(one, others))
-}
-
-/// Whether a node belongs to another case of a choice than the node beside it.
-#[tactic(auto, using(crate::proofs::Naming::none_differ))]
-fn is_of_other_case(schema: &Schema, node: &Node, other: u32) -> bool
-    ensures { result ≡ standing.cases_differ node.now.cases (standing.cases_of schema.now other) }
-{
-    match schema.node(other) {
-        Some(found) => cases_differ(&node.cases, &found.cases),
-        None => false,
-    }
-}
-
-fn is_any_of_other_case(schema: &Schema, node: &Node, numbers: &Many<u32>) -> bool
+fn has_other_case_among(few: &Many<Step>, schema: &Schema, node: &Node) -> bool
     ensures { result ≡ list_any
-        (λ other. standing.cases_differ node.now.cases (standing.cases_of schema.now other)) numbers.now }
+        (λ other. standing.cases_differ node.now.cases (standing.cases_of schema.now other.node)) few.now }
 {
-    numbers
-        .as_slice()
+    if node.cases.is_empty() {
+        return false;
+    }
+    few.as_slice()
         .iter()
-        .any(|other| is_of_other_case(schema, node, *other))
+        .any(|other| is_of_other_case(schema, node, other.node))
 }
 
 impl Earlier {
-    /// No steps. It takes no memory.
-    pub(crate) fn new(alloc: Global) -> Earlier
+    /// No steps; whether each further one is looked up, or those without keys. It takes no memory.
+    pub(crate) fn new(alloc: Global, each: bool) -> Earlier
         ensures { result ≡ [] }
     {
         Earlier {
-            list: Many::new(alloc),
-            steps: BTreeSet::new(alloc),
-            numbers: Many::new(alloc),
+            few: Many::new(alloc),
+            more: Indexed::new(alloc, each),
         }
     }
 
     /// The steps with one more, the last.
-    #[tactic(auto, using(crate::proofs::EarlierLemmas::steps_more, crate::proofs::EarlierLemmas::numbers_more))]
+    #[tactic(auto, using(crate::proofs::EarlierLemmas::few_more, crate::proofs::EarlierLemmas::many_more))]
     pub(crate) fn with(self, step: Step) -> Result<Earlier, Memory>
         ensures { IfOk result (λ it. it ≡ self ++ step ∷ []) }
     {
-        let Earlier {
-            list,
-            steps,
-            numbers,
-        } = self;
-        let numbers = with_number(numbers, step.node)?;
-        let steps = with_step(steps, &step)?;
-        let mut list = list;
-        list.push(step)?;
-        Ok(Earlier {
-            list,
-            steps,
-            numbers,
-        })
+        let Earlier { few, more } = self;
+        if is_one_of_few(&few, &more) {
+            let mut few = few;
+            few.push(step)?;
+            return Ok(Earlier { few, more });
+        }
+        let more = more.with(step)?;
+        Ok(Earlier { few, more })
+    }
+
+    /// The steps with one more, if there is one.
+    pub(crate) fn with_any(self, step: Option<Step>) -> Result<Earlier, Memory>
+        ensures { IfOk result (λ it. it ≡ self ++ option_to_list step) }
+    {
+        match step {
+            Some(step) => self.with(step),
+            None => Ok(self),
+        }
     }
 
     /// Whether a step is among them.
+    #[tactic(auto, using(crate::proofs::EarlierLemmas::among_both))]
     pub(crate) fn has(&self, step: &Step) -> bool
         ensures { result ≡ list_any (λ other. same.is_same_step other step.now) self.now }
     {
-        self.steps.contains(step)
+        let early = is_among(&self.few, step);
+        let late = self.more.has(step);
+        early || late
     }
 
     /// Whether one of them leads to a node of another case than a node beside it.
+    #[tactic(auto, using(crate::proofs::EarlierLemmas::case_of_both))]
     pub(crate) fn has_other_case(&self, schema: &Schema, node: &Node) -> bool
         ensures { result ≡ list_any
             (λ other. standing.cases_differ node.now.cases (standing.cases_of schema.now other.node))
             self.now }
     {
-        if node.cases.is_empty() {
-            return false;
-        }
-        is_any_of_other_case(schema, node, &self.numbers)
+        let early = has_other_case_among(&self.few, schema, node);
+        let late = self.more.has_other_case(schema, node);
+        early || late
     }
 }

@@ -1,5 +1,5 @@
 //! Elements of a payload, the data nodes that they name, and the texts in them.
-ghost use Rattle.std.specs.Prelude.{◌≡◌, ◌++◌, ◌∷◌, [], ◌==◌, Some, not, IfOk, OnOk};
+ghost use Rattle.std.specs.Prelude.{◌≡◌, ◌++◌, ◌∷◌, [], ◌==◌, Some, not, IfSome, IfOk, OnOk};
 ghost use Rattle.std.specs.Prelude.{option_and_then, option_map};
 ghost use Rattle.std.specs.List.{list_any};
 ghost use Rattle.std.specs.Option.{option_copied};
@@ -7,7 +7,7 @@ ghost use Rattle.nc_names.specs.Signs as signs;
 ghost use Rattle.nc_schema.specs.Order.{keys_above};
 ghost use Rattle.nc_schema.specs.Children as children;
 ghost use Rattle.nc_protocol.specs.Elements as meant;
-ghost use Rattle.nc_payload.specs.inner.Reads.{Answers, meaning};
+ghost use Rattle.nc_payload.specs.inner.Reads.{IsText, meaning, with_child};
 ghost use Rattle.nc_protocol.specs.Payload.{reading_of};
 
 use crate::earlier::Earlier;
@@ -54,6 +54,22 @@ pub(crate) fn text_in(alloc: Global, parts: &Many<Part>) -> Result<Text, Memory>
         push_text_of(part, &mut text)?;
     }
     Ok(text)
+}
+
+// The text of an element that has nothing else, which is not put together.
+fn only_text(parts: &Many<Part>) -> Option<&Text>
+    ensures { IfSome result (λ it. IsText parts.now it.now) }
+{
+    if parts.len() != 1 {
+        return None;
+    }
+    let Some((first, _)) = parts.as_slice().split_first() else {
+        return None;
+    };
+    match first {
+        Part::Chars(text) => Some(text),
+        Part::Child(_) => None,
+    }
 }
 
 fn push_text_of(part: &Part, out: &mut Text) -> Result<(), Memory>
@@ -126,6 +142,15 @@ pub(crate) fn value_in(
 ) -> Result<Option<Text>, Memory>
     ensures { IfOk result (λ it. it ≡ meant.value_in (reading_of schema.now) (meaning named.entry)) }
 {
+    if let Some(text) = only_text(&named.elem.parts) {
+        return canonical(
+            alloc,
+            schema,
+            named.number,
+            text.as_str(),
+            &named.elem.bounds,
+        );
+    }
     if has_child(&named.elem.parts) {
         return Ok(None);
     }
@@ -286,17 +311,18 @@ pub(crate) fn steps_to(
         .copied_with(step_of(alloc, schema, at.under, named)?)
 }
 
-/// Remembers the step of a part, if it is an element that names a data node.
+/// Remembers the step to a child, if there is one.
 pub(crate) fn remember(
     alloc: Global,
     schema: &Schema,
     at: &Position,
-    part: &Part,
+    child: Option<Named<'_>>,
     earlier: Earlier,
 ) -> Result<Earlier, Memory>
-    ensures { IfOk result (λ it. it ≡ meant.with_step (reading_of schema.now) at.now earlier part.now) }
+    ensures { IfOk result (λ it. it ≡
+        with_child (reading_of schema.now) at.now earlier (option_map meaning child.entry)) }
 {
-    match named_part(schema, at.parent, part) {
+    match child {
         Some(named) => earlier.with(step_of(alloc, schema, at.under, named)?),
         None => Ok(earlier),
     }

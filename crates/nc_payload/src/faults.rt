@@ -1,25 +1,31 @@
 //! The faults of one element of a payload, in their order.
-ghost use Rattle.std.specs.Prelude.{◌≡◌, ◌==◌, ◌&&◌, ◌∷◌, [], not, IfOk, Some};
+ghost use Rattle.std.specs.Prelude.{◌≡◌, ◌==◌, ◌&&◌, ◌∷◌, [], not, option_map, IfOk, Some};
 ghost use Rattle.std.specs.List.{list_any};
 ghost use Rattle.nc_names.specs.Same as same;
 ghost use Rattle.nc_names.specs.Same.{is_same_text};
 ghost use Rattle.nc_schema.specs.Standing as standing;
 ghost use Rattle.nc_protocol.specs.Faults as meant;
-ghost use Rattle.nc_payload.specs.inner.Reads.{meaning};
+ghost use Rattle.nc_payload.specs.inner.Reads.{child_fault, content_of, element_by, meaning, shape_by};
+ghost use Rattle.nc_payload.specs.inner.Reads.{value_by, within_of};
 ghost use Rattle.nc_protocol.specs.Payload.{reading_of};
 
 use crate::attributes::{attributes_fault, operation_of};
 use crate::causes::{one_name, two_names};
+use crate::content::{Content, read_content};
 use crate::earlier::Earlier;
 use crate::elements::{
-    Named, first_child, has_child, has_text, is_dropped, is_key, named_part, remember, step_of,
-    steps_to, value_in,
+    Named, first_child, has_child, has_text, is_dropped, is_key, named_part, remember, steps_to,
 };
 use nc_message::{Attr, Part};
 use nc_names::{CauseKind, Copies, Many, Memory, QName, Step, Text};
 use nc_protocol::{Cause, EditOperation, Position, Under};
 use nc_schema::{Kind, Node, Schema};
 use std::alloc::Global;
+
+/// Whether each element there is a row, which stands once.
+pub(crate) fn are_rows(under: Under) -> bool {
+    matches!(under, Under::Rows { .. } | Under::Inline)
+}
 
 fn stands_once(under: Under, kind: Kind) -> bool
     ensures { result ≡ meant.stands_once under kind }
@@ -51,14 +57,14 @@ fn shape_fault(
     schema: &Schema,
     at: &Position,
     earlier: &Earlier,
+    content: &Content,
     named: Named<'_>,
 ) -> Result<Option<Cause>, Memory>
     ensures { IfOk result (λ it. it ≡
-        meant.shape_fault (reading_of schema.now) at.now earlier.now (meaning named.entry)) }
+        shape_by (reading_of schema.now) at.now earlier.now content.now.step (meaning named.entry)) }
 {
-    let step = step_of(alloc, schema, at.under, named)?;
     let bad = has_bad_content(named.node.kind, &named.elem.parts);
-    let clash = has_clash(schema, at.under, named.node, &step, earlier);
+    let clash = has_clash(schema, at.under, named.node, &content.step, earlier);
     if bad || clash {
         return Ok(Some(Cause::inside(
             CauseKind::BadElement,
@@ -95,10 +101,11 @@ fn value_fault(
     alloc: Global,
     schema: &Schema,
     at: &Position,
+    content: &Content,
     named: Named<'_>,
 ) -> Result<Option<Cause>, Memory>
     ensures { IfOk result (λ it. it ≡
-        meant.value_fault (reading_of schema.now) at.now (meaning named.entry)) }
+        value_by (reading_of schema.now) at.now content.now.value (meaning named.entry)) }
 {
     let operation = operation_of(at.under, &named.elem.attrs);
     if !is_read(
@@ -109,7 +116,7 @@ fn value_fault(
     ) {
         return Ok(None);
     }
-    if value_in(alloc, schema, named)?.is_some() {
+    if content.value.is_some() {
         return Ok(None);
     }
     Ok(Some(Cause::inside(
@@ -119,24 +126,41 @@ fn value_fault(
     )))
 }
 
-/// The first fault of an element without those of its keys.
-fn element_fault(
+// The first fault of an element without those of its keys, by what it says.
+fn fault_by(
     alloc: Global,
     schema: &Schema,
     at: &Position,
     earlier: &Earlier,
+    content: &Content,
     named: Named<'_>,
 ) -> Result<Option<Cause>, Memory>
     ensures { IfOk result (λ it. it ≡
-        meant.element_fault (reading_of schema.now) at.now earlier.now (meaning named.entry)) }
+        element_by (reading_of schema.now) at.now earlier.now content.now (meaning named.entry)) }
 {
-    if let Some(cause) = shape_fault(alloc, schema, at, earlier, named)? {
+    if let Some(cause) = shape_fault(alloc, schema, at, earlier, content, named)? {
         return Ok(Some(cause));
     }
     if let Some(cause) = attributes_fault(alloc, schema, at, named)? {
         return Ok(Some(cause));
     }
-    value_fault(alloc, schema, at, named)
+    value_fault(alloc, schema, at, content, named)
+}
+
+// The same, where what it says is what was read of it.
+fn element_fault(
+    alloc: Global,
+    schema: &Schema,
+    at: &Position,
+    earlier: &Earlier,
+    content: &Content,
+    named: Named<'_>,
+) -> Result<Option<Cause>, Memory>
+    requires { content.now ≡ content_of (reading_of schema.now) at.now.under (meaning named) }
+    ensures { IfOk result (λ it. it ≡
+        meant.element_fault (reading_of schema.now) at.now earlier.now (meaning named.entry)) }
+{
+    fault_by(alloc, schema, at, earlier, content, named)
 }
 
 fn under_edited(operation: EditOperation) -> Under
@@ -162,17 +186,12 @@ fn under_element(under: Under, attrs: &Many<Attr>) -> Under
     }
 }
 
-/// Where the children of an element stand.
-pub(crate) fn inside(
-    alloc: Global,
-    schema: &Schema,
-    at: &Position,
-    named: Named<'_>,
-) -> Result<Position, Memory>
-    ensures { IfOk result (λ it. it ≡ meant.inside (reading_of schema.now) at.now (meaning named.entry)) }
+/// Where the children of an element stand, by what it says.
+pub(crate) fn inside(at: &Position, content: &Content, named: Named<'_>) -> Result<Position, Memory>
+    ensures { IfOk result (λ it. it ≡ within_of at.now content.now (meaning named.entry)) }
 {
     Ok(Position {
-        above: steps_to(alloc, schema, at, named)?,
+        above: at.above.copied_with(content.step.copy()?)?,
         parent: Some(named.number),
         under: under_element(at.under, &named.elem.attrs),
     })
@@ -208,17 +227,32 @@ fn missing_key(
     Ok(None)
 }
 
+fn named_key_fault(
+    alloc: Global,
+    schema: &Schema,
+    at: &Position,
+    earlier: &Earlier,
+    key: Named<'_>,
+) -> Result<Option<Cause>, Memory>
+    ensures { IfOk result (λ it. it ≡
+        meant.element_fault (reading_of schema.now) at.now earlier.now (meaning key.entry)) }
+{
+    let content = read_content(alloc, schema, at.under, key)?;
+    element_fault(alloc, schema, at, earlier, &content, key)
+}
+
 fn key_fault(
     alloc: Global,
     schema: &Schema,
     at: &Position,
     earlier: &Earlier,
-    part: &Part,
+    child: Option<Named<'_>>,
 ) -> Result<Option<Cause>, Memory>
-    ensures { IfOk result (λ it. it ≡ meant.key_fault (reading_of schema.now) at.now earlier.now part.now) }
+    ensures { IfOk result (λ it. it ≡
+        child_fault (reading_of schema.now) at.now earlier.now (option_map meaning child.entry)) }
 {
-    match named_part(schema, at.parent, part) {
-        Some(child) if is_key(schema, at, child) => element_fault(
+    match child {
+        Some(child) if is_key(schema, at, child) => named_key_fault(
             alloc, schema, at, earlier, child,
         ),
         _ => Ok(None),
@@ -233,12 +267,13 @@ fn keys_fault(
 ) -> Result<Option<Cause>, Memory>
     ensures { IfOk result (λ it. it ≡ meant.keys_fault (reading_of schema.now) at.now [] parts.now) }
 {
-    let mut earlier = Earlier::new(alloc);
+    let mut earlier = Earlier::new(alloc, are_rows(at.under));
     for part in parts.as_slice() {
-        if let Some(cause) = key_fault(alloc, schema, at, &earlier, part)? {
+        let child = named_part(schema, at.parent, part);
+        if let Some(cause) = key_fault(alloc, schema, at, &earlier, child)? {
             return Ok(Some(cause));
         }
-        earlier = remember(alloc, schema, at, part, earlier)?;
+        earlier = remember(alloc, schema, at, child, earlier)?;
     }
     Ok(None)
 }
@@ -270,13 +305,15 @@ pub(crate) fn own_fault(
     at: &Position,
     earlier: &Earlier,
     within: &Position,
+    content: &Content,
     named: Named<'_>,
 ) -> Result<Option<Cause>, Memory>
-    requires { within.now ≡ meant.inside (reading_of schema.now) at.now (meaning named) }
+    requires within { within.now ≡ meant.inside (reading_of schema.now) at.now (meaning named) }
+    requires content { content.now ≡ content_of (reading_of schema.now) at.now.under (meaning named) }
     ensures { IfOk result (λ it. it ≡
         meant.own_fault (reading_of schema.now) at.now earlier.now (meaning named.entry)) }
 {
-    if let Some(cause) = element_fault(alloc, schema, at, earlier, named)? {
+    if let Some(cause) = element_fault(alloc, schema, at, earlier, content, named)? {
         return Ok(Some(cause));
     }
     entry_fault(alloc, schema, at, within, named)

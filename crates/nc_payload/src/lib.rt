@@ -11,10 +11,12 @@
 
 mod attributes;
 mod causes;
+mod content;
 mod earlier;
 mod elements;
 mod faults;
 mod gather;
+mod indexed;
 mod key_octets;
 mod made;
 mod marks;

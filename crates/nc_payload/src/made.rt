@@ -1,9 +1,11 @@
 //! The edits of an element, from its operation and the edits of what is in it.
-ghost use Rattle.std.specs.Prelude.{◌≡◌, ◌∷◌, IfOk};
+ghost use Rattle.std.specs.Prelude.{◌≡◌, ◌∷◌, Some, IfOk};
 ghost use Rattle.nc_protocol.specs.Payload as meant;
-ghost use Rattle.nc_payload.specs.inner.Reads.{edit_at};
+ghost use Rattle.nc_payload.specs.inner.Reads.{edit_at, merge_at};
 
 use crate::gather::in_order;
+use crate::own::Found;
+use crate::payload::Read;
 use nc_made::make;
 use nc_names::{Copies, Many, Memory, Path, Place, Row};
 use nc_protocol::{Action, Edit, EditOperation, Under};
@@ -11,8 +13,41 @@ use nc_schema::Schema;
 use nc_tree::Config;
 use std::alloc::Global;
 
+/// What is read of an element, with the edits of what is in it.
+pub(crate) fn with_below(
+    alloc: Global,
+    schema: &Schema,
+    under: Under,
+    found: Found,
+    below: Many<Edit>,
+) -> Result<Read, Memory>
+    ensures edits { IfOk result (λ it. it.edits ≡ meant.made schema.now under found.operation
+        (merge_at found.within.above found.content.value) found.place below) }
+    ensures step { IfOk result (λ it. it.step ≡ Some found.content.step) }
+{
+    let Found {
+        content,
+        within,
+        operation,
+        place,
+    } = found;
+    let merge = Edit {
+        path: Path {
+            steps: within.above,
+        },
+        action: Action::Merge {
+            value: content.value,
+        },
+        place: Place::Kept,
+    };
+    Ok(Read {
+        edits: made_from(alloc, schema, under, operation, merge, place, below)?,
+        step: Some(content.step),
+    })
+}
+
 /// The edits of an element where it stands.
-pub(crate) fn made_from(
+fn made_from(
     alloc: Global,
     schema: &Schema,
     under: Under,

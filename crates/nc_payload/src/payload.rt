@@ -1,16 +1,18 @@
 //! The edits of a payload.
-ghost use Rattle.std.specs.Prelude.{◌≡◌, [], ◌∷◌};
+ghost use Rattle.std.specs.Prelude.{◌≡◌, [], option_map};
 ghost use Rattle.nc_protocol.specs.Payload as meant;
+ghost use Rattle.nc_protocol.specs.Elements.{named, named_part, step_of};
 ghost use Rattle.nc_protocol.specs.Payload.{elem_edits, part_edits, list_edits};
 ghost use Rattle.nc_protocol.specs.declared.position.Under.TheVariants.{Inline};
-ghost use Rattle.nc_payload.specs.inner.Reads.{Answers};
+ghost use Rattle.nc_payload.specs.inner.Reads.{Answers, ReadsAs};
 ghost use Rattle.nc_protocol.specs.Payload.{reading_of};
 
 use crate::causes::one_name;
 use crate::earlier::Earlier;
-use crate::elements::{has_text, remember};
+use crate::elements::has_text;
+use crate::faults::are_rows;
 use crate::key_octets::KeysLeft;
-use crate::made::{config_merged, made_from};
+use crate::made::{config_merged, with_below};
 use crate::own::own;
 use nc_message::{Elem, Part};
 use nc_names::{CauseKind, Many, Memory, Step};
@@ -38,6 +40,14 @@ impl From<Memory> for PayloadFault {
     }
 }
 
+/// The edits of an element or of another part of one, and the last step of the path to its data node, if it
+/// has one.
+#[derive(Drop)]
+pub(crate) struct Read {
+    pub(crate) edits: Many<Edit>,
+    pub(crate) step: Option<Step>,
+}
+
 #[cycle(read)]
 fn read_elem(
     alloc: Global,
@@ -46,21 +56,15 @@ fn read_elem(
     earlier: &Earlier,
     elem: &Elem,
     keys: &mut KeysLeft,
-) -> Result<Many<Edit>, PayloadFault>
-    ensures { Answers (elem_edits (reading_of schema.now) at.now earlier.now elem.now) result }
+) -> Result<Read, PayloadFault>
+    ensures { ReadsAs (elem_edits (reading_of schema.now) at.now earlier.now elem.now)
+        (option_map (step_of (reading_of schema.now) at.now.under)
+        (named (reading_of schema.now) at.now.parent elem.now)) result }
 {
     let found = own(alloc, schema, at, earlier, elem)?;
     *keys = keys.after(&found.within.above)?;
     let below = read_parts(alloc, schema, &found.within, &elem.parts, keys)?;
-    Ok(made_from(
-        alloc,
-        schema,
-        at.under,
-        found.operation,
-        found.merge,
-        found.place,
-        below,
-    )?)
+    Ok(with_below(alloc, schema, at.under, found, below)?)
 }
 
 #[cycle(read)]
@@ -71,12 +75,17 @@ fn read_part(
     earlier: &Earlier,
     part: &Part,
     keys: &mut KeysLeft,
-) -> Result<Many<Edit>, PayloadFault>
-    ensures { Answers (part_edits (reading_of schema.now) at.now earlier.now part.now) result }
+) -> Result<Read, PayloadFault>
+    ensures { ReadsAs (part_edits (reading_of schema.now) at.now earlier.now part.now)
+        (option_map (step_of (reading_of schema.now) at.now.under)
+        (named_part (reading_of schema.now) at.now.parent part.now)) result }
 {
     match part {
         Part::Child(elem) => read_elem(alloc, schema, at, earlier, elem.get(), keys),
-        Part::Chars(_) => Ok(Many::new(alloc)),
+        Part::Chars(_) => Ok(Read {
+            edits: Many::new(alloc),
+            step: None,
+        }),
     }
 }
 
@@ -91,10 +100,11 @@ fn read_parts(
     ensures { Answers (list_edits (reading_of schema.now) at.now [] parts.now) result }
 {
     let mut edits = Many::new(alloc);
-    let mut earlier = Earlier::new(alloc);
+    let mut earlier = Earlier::new(alloc, are_rows(at.under));
     for part in parts.as_slice() {
-        edits.append(read_part(alloc, schema, at, &earlier, part, keys)?)?;
-        earlier = remember(alloc, schema, at, part, earlier)?;
+        let read = read_part(alloc, schema, at, &earlier, part, keys)?;
+        edits.append(read.edits)?;
+        earlier = earlier.with_any(read.step)?;
     }
     Ok(edits)
 }

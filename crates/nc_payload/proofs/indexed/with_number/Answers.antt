@@ -1,7 +1,7 @@
 use Rattle.std.proofs.Common.{◌∙◌, sym, subst, ℕ, List}
 use Rattle.nc_payload.specs.inner.Earlier.{AddsNumber}
 use Rattle.nc_payload.proofs.EarlierLemmas.{number_there, number_pushed}
-use Rattle.nc_payload.proofs.earlier.with_number.Goals as goal
+use Rattle.nc_payload.proofs.indexed.with_number.Goals as goal
 
 pub returns-then-has_number : goal.returns-then-has_number
 returns-then-has_number c = number_there c.args.number c.args.numbers (sym c.has_number.ensures ∙ c.if-has_number.true)

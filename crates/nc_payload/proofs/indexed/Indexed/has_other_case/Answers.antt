@@ -3,7 +3,7 @@ use Rattle.std.specs.List.{list_any}
 use Rattle.nc_names.specs.declared.path.Step.{Step}
 use Rattle.nc_schema.specs.Standing.{cases_differ, cases_of}
 use Rattle.nc_payload.proofs.EarlierLemmas.{no_cases}
-use Rattle.nc_payload.proofs.earlier.Earlier.has_other_case.Goals as goal
+use Rattle.nc_payload.proofs.indexed.Indexed.has_other_case.Goals as goal
 
 pub returns-then-is_empty : goal.returns-then-is_empty
 returns-then-is_empty c = sym (no_cases c.args.schema.now c.args.node.now.cases c.args.self.now (c.is_empty.ensures.0 c.if-is_empty.true))

@@ -15,7 +15,7 @@ use Rattle.nc_names.specs.declared.path.Row.{Row}
 use Rattle.nc_names.specs.declared.path.Step.{Step}
 use Rattle.nc_schema.specs.Blocks.{at_node, entries_beside, rows_of_node, with_block}
 use Rattle.nc_schema.specs.Kinds.{has_value}
-use Rattle.nc_schema.specs.Standing.{block_at, cases_of, has_entry, is_by_user}
+use Rattle.nc_schema.specs.Standing.{block_at, cases_of, exists, has_entry, is_by_user}
 use Rattle.nc_schema.specs.Tables.{Tables}
 use Rattle.nc_schema.specs.declared.node.Case.{Case}
 use Rattle.nc_schema.specs.declared.node.Node.{Node}
@@ -139,27 +139,51 @@ merge_place (Replace new) place e kept = cc
 merge_place Delete place e kept = cc
 merge_place Remove place e kept = cc
 
--- the rows of a new node
-pub new_rows : (tables : Tables) (rows : List Row) (edit : Edit) → IsNew tables rows edit → left_by tables rows edit ≡ with_block tables rows edit.path Kept (own_block tables edit.path edit.action)
-new_rows tables rows edit is =
-    (λ i. with_block tables rows edit.path (merge_place edit.action edit.place is.merges is.kept i) (new_block tables rows edit.path edit.action))
-    ∙ ap (with_block tables rows edit.path Kept) (block edit.action is.merges)
+-- the rows that a merge of what does not exist leaves
+pub merged_rows : (tables : Tables) (rows : List Row) (edit : Edit) → is_merge edit.action ≡ true → edit.place ≡ Kept → exists rows edit.path.steps ≡ false →
+    left_by tables rows edit ≡ with_block tables rows edit.path Kept (own_block tables edit.path edit.action)
+merged_rows tables rows edit merges kept new =
+    (λ i. with_block tables rows edit.path (merge_place edit.action edit.place merges kept i) (new_block tables rows edit.path edit.action))
+    ∙ ap (with_block tables rows edit.path Kept) (block edit.action merges)
   where
     block : (action : Action) → is_merge action ≡ true → new_block tables rows edit.path action ≡ own_block tables edit.path action
     block Nothing e = cc
-    block (Merge value) e = ap (λ b. cond (b && not (at_node tables edit.path has_value)) (block_at rows edit.path.steps) (rows_of_node tables edit.path value)) is.new
+    block (Merge value) e = ap (λ b. cond (b && not (at_node tables edit.path has_value)) (block_at rows edit.path.steps) (rows_of_node tables edit.path value)) new
     block (Create new) e = cc
     block (Replace new) e = cc
     block Delete e = cc
     block Remove e = cc
 
-own_under : (tables : Tables) (path : Path) (action : Action) → is_merge action ≡ true → AreUnder path.steps (own_block tables path action)
-own_under tables path Nothing e = cc
-own_under tables path (Merge value) e = node_under tables path value
-own_under tables path (Create new) e = cc
-own_under tables path (Replace new) e = cc
-own_under tables path Delete e = cc
-own_under tables path Remove e = cc
+-- and where what it brings stands there already
+pub merged_again : (tables : Tables) (rows : List Row) (edit : Edit) → is_merge edit.action ≡ true → edit.place ≡ Kept → block_at rows edit.path.steps ≡ own_block tables edit.path edit.action →
+    left_by tables rows edit ≡ with_block tables rows edit.path Kept (own_block tables edit.path edit.action)
+merged_again tables rows edit merges kept same =
+    (λ i. with_block tables rows edit.path (merge_place edit.action edit.place merges kept i) (new_block tables rows edit.path edit.action))
+    ∙ ap (with_block tables rows edit.path Kept) (block edit.action merges same)
+  where
+    either : (b : Bool) (some others : List Row) → some ≡ others → cond b some others ≡ others
+    either true some others e = e
+    either false some others e = refl
+
+    block : (action : Action) → is_merge action ≡ true → block_at rows edit.path.steps ≡ own_block tables edit.path action → new_block tables rows edit.path action ≡ own_block tables edit.path action
+    block Nothing e f = cc
+    block (Merge value) e f = either (exists rows edit.path.steps && not (at_node tables edit.path has_value)) (block_at rows edit.path.steps) (rows_of_node tables edit.path value) f
+    block (Create new) e f = cc
+    block (Replace new) e f = cc
+    block Delete e f = cc
+    block Remove e f = cc
+
+-- the rows of a new node
+pub new_rows : (tables : Tables) (rows : List Row) (edit : Edit) → IsNew tables rows edit → left_by tables rows edit ≡ with_block tables rows edit.path Kept (own_block tables edit.path edit.action)
+new_rows tables rows edit is = merged_rows tables rows edit is.merges is.kept is.new
+
+pub merge_under : (tables : Tables) (path : Path) (action : Action) → is_merge action ≡ true → AreUnder path.steps (own_block tables path action)
+merge_under tables path Nothing e = cc
+merge_under tables path (Merge value) e = node_under tables path value
+merge_under tables path (Create new) e = cc
+merge_under tables path (Replace new) e = cc
+merge_under tables path Delete e = cc
+merge_under tables path Remove e = cc
 
 own_stands : (tables : Tables) (path : Path) (action : Action) → is_merge action ≡ true → lacks tables (own_block tables path action) path.steps ≡ false
 own_stands tables path Nothing e = cc
@@ -179,7 +203,7 @@ made_alone tables goes_on rows new edit edits causes after small part from is be
     let path = edit.path in
     let block = own_block tables path edit.action in
     let start : Applied = record { rows = block; causes = causes } in
-    let under : AreUnder path.steps block = own_under tables path edit.action is.merges in
+    let under : AreUnder path.steps block = merge_under tables path edit.action is.merges in
     let end : Applied = fold (turn_at tables (length path.steps + 1) goes_on) start edits in
     let run_is : record { rows = small; causes = after } ≡ end = run ∙ ap (λ n. fold (turn_at tables n goes_on) start edits) from_is in
     let below_it : AreUnder path.steps end.rows = run_under tables (length path.steps + 1) goes_on path.steps start edits under below in
@@ -196,22 +220,27 @@ pub on_ok_by : {A E : Type 0} (result : Result A E) (P Q : Type 0) → (P → Q)
 on_ok_by (Ok value) P Q by p = by p
 on_ok_by (Err fault) P Q by p = tt
 
--- the merge of a new node is not refused
-merge_missed : (tables : Tables) (rows : List Row) (path : Path) (action : Action) → is_merge action ≡ true → lacks_at tables rows 1 path.steps ≡ false → missed_at tables 1 rows path action ≡ None
-merge_missed tables rows path Nothing e none = cc
-merge_missed tables rows path (Merge value) e none = ap (λ b. cause_where b (cause_at Absent path [])) none
-merge_missed tables rows path (Create new) e none = cc
-merge_missed tables rows path (Replace new) e none = cc
-merge_missed tables rows path Delete e none = cc
-merge_missed tables rows path Remove e none = cc
+-- a merge is not refused where what stands above is there
+merge_missed : (tables : Tables) (from : ℕ) (rows : List Row) (path : Path) (action : Action) → is_merge action ≡ true → lacks_at tables rows from path.steps ≡ false → missed_at tables from rows path action ≡ None
+merge_missed tables from rows path Nothing e none = cc
+merge_missed tables from rows path (Merge value) e none = ap (λ b. cause_where b (cause_at Absent path [])) none
+merge_missed tables from rows path (Create new) e none = cc
+merge_missed tables from rows path (Replace new) e none = cc
+merge_missed tables from rows path Delete e none = cc
+merge_missed tables from rows path Remove e none = cc
+
+pub not_refused_at : (tables : Tables) (from : ℕ) (rows : List Row) (edit : Edit) → is_merge edit.action ≡ true → edit.place ≡ Kept → lacks_at tables rows from edit.path.steps ≡ false →
+    refusal_at tables from rows edit ≡ None
+not_refused_at tables from rows edit merges kept none =
+    let missed = merge_missed tables from rows edit.path edit.action merges none in
+    let place = merge_place edit.action edit.place merges kept in
+    λ i. first_cause (missed i
+    ∷ cause_where (option_map_or (λ anchor. not (has_entry anchor (entries_beside rows edit.path.steps))) (anchor_of (place i)) false) (cause_at MissingInstance edit.path (anchor_names tables edit.path)) ∷ [])
 
 not_refused : (tables : Tables) (rows : List Row) (edit : Edit) → IsNew tables rows edit → refusal_at tables 1 rows edit ≡ None
 not_refused tables rows edit is =
     let none : lacks_at tables rows 1 edit.path.steps ≡ false = sym (lacks_top tables rows edit.path.steps) ∙ is.none in
-    let missed = merge_missed tables rows edit.path edit.action is.merges none in
-    let place = merge_place edit.action edit.place is.merges is.kept in
-    λ i. first_cause (missed i
-    ∷ cause_where (option_map_or (λ anchor. not (has_entry anchor (entries_beside rows edit.path.steps))) (anchor_of (place i)) false) (cause_at MissingInstance edit.path (anchor_names tables edit.path)) ∷ [])
+    not_refused_at tables 1 rows edit is.merges is.kept none
 
 -- it is one turn more
 pub stretched : (tables : Tables) (goes_on : Bool) (rows : List Row) (causes : List Cause) (edit : Edit) (edits : List Edit) → IsNew tables rows edit → (goes_on || is_empty causes) ≡ true →

@@ -1,5 +1,6 @@
 pub mod AloneLemmas
 pub mod ApartLemmas
+pub mod BehindLemmas
 pub mod BelowBlocks
 pub mod BelowLacks
 pub mod BelowPaths

@@ -1,4 +1,5 @@
 pub mod Alone
+pub mod Behind
 pub mod Denied
 pub mod Single
 pub mod Turns

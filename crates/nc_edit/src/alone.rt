@@ -14,12 +14,13 @@ ghost use Rattle.nc_edit.specs.inner.Turns as turns;
 
 use crate::asked::has_case;
 use crate::asks::Free;
+use crate::behind::push_behind;
 use crate::causes::{anchor_names, cause_at};
 use crate::edits::{goes, turn};
 use crate::missed::{lacks_anchor, missed_from, stands_for_itself};
 use nc_branches::is_by_user;
 use nc_made::{make, own_block};
-use nc_names::{CauseKind, Many, Memory, Path, Place, Row, Step};
+use nc_names::{CauseKind, Many, Memory, Path, Place, Row, Step, tail};
 use nc_protocol::{Action, Cause, Edit};
 use nc_schema::Schema;
 use nc_tree::{Config, node_of};
@@ -35,7 +36,8 @@ fn is_itself(schema: &Schema, path: &Path) -> bool
     }
 }
 
-fn is_free(schema: &Schema, step: &Step) -> bool
+/// Whether a step is to no entry that the user orders, and to no node of a case of a choice.
+pub(crate) fn is_free(schema: &Schema, step: &Step) -> bool
     ensures { result ≡ alone.is_free schema.now step.now }
 {
     !is_by_user(schema, step.node) && !has_case(schema, step.node)
@@ -110,7 +112,8 @@ fn count_below(schema: &Schema, steps: &[Step], edits: &[Edit]) -> usize
     count
 }
 
-fn is_merge(action: &Action) -> bool
+/// Whether it is a merge.
+pub(crate) fn is_merge(action: &Action) -> bool
     ensures { result ≡ alone.is_merge action.now }
 {
     match action {
@@ -120,7 +123,8 @@ fn is_merge(action: &Action) -> bool
     }
 }
 
-fn is_kept(place: &Place) -> bool
+/// Whether the place is that which a node has.
+pub(crate) fn is_kept(place: &Place) -> bool
     ensures { result ≡ true → place.now ≡ Kept }
 {
     match place {
@@ -221,7 +225,8 @@ fn run_from(
     Ok(())
 }
 
-// A merge of a new node and the edits below it: these are made in its rows alone, which are put in once.
+// A merge of a new node and the edits below it: these are made in its rows alone, which are put in once. The
+// first of them may be made without a look, by their rows behind all others.
 fn make_alone(
     alloc: Global,
     schema: &Schema,
@@ -233,6 +238,7 @@ fn make_alone(
 ) -> Result<(), Memory>
     requires new { alone.IsNew schema.now config.now edit.now }
     requires below { alone.AreBelow edit.now.path.steps edits.now }
+    requires goes { (goes_on || applied.is_empty causes.now) ≡ true }
     ensures ok { OnOk result (record { rows = config.new; causes = causes.new }
         ≡ fold (alone.turn_at schema.now 1 goes_on) (record {
           rows = meant.left_by schema.now config.old edit.now;
@@ -240,10 +246,12 @@ fn make_alone(
         }) edits.now) }
     ensures err { OnErr result (config.new ≡ config.old) }
 {
-    let block = own_block(alloc, schema, &edit.path, &edit.action)?;
+    let mut block = own_block(alloc, schema, &edit.path, &edit.action)?;
+    let count = push_behind(alloc, schema, &mut block, &edit.path, edits)?;
     let mut small = Config::from_rows(block)?;
     let from = edit.path.steps.as_slice().len() + 1;
-    run_from(alloc, schema, &mut small, causes, edits, from, goes_on)?;
+    let rest = tail(edits, count);
+    run_from(alloc, schema, &mut small, causes, rest, from, goes_on)?;
     let part = small.part(&edit.path)?;
     config.set_part(schema, &edit.path, &Place::Kept, &part)
 }

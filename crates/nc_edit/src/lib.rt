@@ -10,6 +10,7 @@
 mod alone;
 mod asked;
 mod asks;
+mod behind;
 mod causes;
 mod edits;
 mod missed;

@@ -8,3 +8,4 @@ pub mod Firsts
 pub mod FreeLemmas
 pub mod AskedLemmas
 pub mod AloneLemmas
+pub mod ApartLemmas

@@ -6,3 +6,4 @@ pub mod Outlines
 pub mod Tuples
 pub mod Asked
 pub mod Alone
+pub mod Apart

@@ -6,11 +6,12 @@
 //! `first_structural` gives exactly the first of the violations that the definition
 //! `structural_violations` lists, whatever the schema and the rows are. It looks at one place after
 //! another and stops at the first violation; in each it looks at the children of the place's data
-//! node, and at the choices without data nodes, which are found once. Entries are compared by an
-//! ordered set of their values, and not one with each. `violation_in` gives the first of all violations.
+//! node, and at the choices without data nodes, which are found once. Entries are compared by their values
+//! in order, or by a set of them, and not one with each. `violation_in` gives the first of all violations.
 #![tactic(auto)]
 
 mod alone;
+mod apart;
 mod asked;
 mod choices;
 mod counts;

@@ -1,4 +1,5 @@
-//! `unique` (RFC 7950 7.8.3): the first entry whose values an entry before it has.
+//! `unique` (RFC 7950 7.8.3): the first entry whose values an entry before it has. It is looked for only where
+//! entries are not apart by one of the leafs.
 ghost use Rattle.std.specs.Prelude.{◌≡◌, List, map, IfOk};
 ghost use Rattle.std.specs.BTreeSet.{contains};
 ghost use Rattle.std.specs.List.{list_any};
@@ -8,6 +9,7 @@ ghost use Rattle.nc_validate.specs.inner.First.{first};
 ghost use Rattle.nc_validate.specs.inner.Tuples.{AddsTuple, AddsTuples, order, texts};
 
 use crate::alone::first_of_leaf;
+use crate::apart::are_apart;
 use crate::faults::violation;
 use crate::tuples::tuples_of;
 use nc_defaults::{Children, Spot};
@@ -64,6 +66,10 @@ pub(crate) fn first_repeated<'a>(
     ensures { IfOk result (λ it. it
         ≡ first (violations.unique_violations children.now (places_in config.now entries.now) leafs.now)) }
 {
+    let apart = are_apart(alloc, children, config, entries, leafs)?;
+    if apart {
+        return Ok(None);
+    }
     if leafs.len() == 1 {
         return first_of_leaf(alloc, children, config, entries, leafs[0]);
     }

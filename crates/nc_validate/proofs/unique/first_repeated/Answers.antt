@@ -5,10 +5,14 @@ use Rattle.std.specs.Result.{IfOk}
 use Rattle.nc_defaults.specs.Within.{place_here, places_in}
 use Rattle.nc_schema.specs.Places.{Place}
 use Rattle.nc_schema.specs.Violations.{agree_in, unique_violations}
+use Rattle.nc_schema.specs.declared.violation.Violation.{Violation}
 use Rattle.nc_validate.specs.inner.First.{first}
 use Rattle.nc_validate.specs.inner.Tuples.{order}
 use Rattle.nc_validate.proofs.UniqueLemmas.{agrees_is, only_leaf, seen_more, violation_at, walk_found, walk_on}
 use Rattle.nc_validate.proofs.unique.first_repeated.Goals as goal
+
+pub returns-then-apart : goal.returns-then-apart
+returns-then-apart c = ap (λ (found : List Violation). first found) (sym (c.in_ok-apart.ensures c.if-apart.true))
 
 pub returns-then-leafs-eq1 : goal.returns-then-leafs-eq1
 returns-then-leafs-eq1 c =

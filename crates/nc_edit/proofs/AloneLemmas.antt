@@ -215,6 +215,20 @@ made_alone tables goes_on rows new edit edits causes after small part from is be
     ∙ sym (run_alone tables rows path Kept [] (is.goes).0 (is.goes).1 (is.goes).2 is.free none goes_on start edits under (own_stands tables path edit.action is.merges) below)
     ∙ ap (λ some. fold (turn_at tables 1 goes_on) (record { rows = some; causes = causes }) edits) (sym (new_rows tables rows edit is))
 
+-- the same where its rows are put as they are
+pub made_listed : (tables : Tables) (goes_on : Bool) (rows new : List Row) (edit : Edit) (edits : List Edit) (causes after : List Cause) (small : List Row) (from : ℕ) → IsNew tables rows edit →
+    AreBelow edit.path.steps edits → from ≡ length edit.path.steps + 1 →
+    record { rows = small; causes = after } ≡ fold (turn_at tables from goes_on) (record { rows = own_block tables edit.path edit.action; causes = causes }) edits →
+    new ≡ with_block tables rows edit.path Kept small →
+    record { rows = new; causes = after } ≡ fold (turn_at tables 1 goes_on) (record { rows = left_by tables rows edit; causes = causes }) edits
+made_listed tables goes_on rows new edit edits causes after small from is below from_is run new_is =
+    let start : Applied = record { rows = own_block tables edit.path edit.action; causes = causes } in
+    let small_is : small ≡ (fold (turn_at tables from goes_on) start edits).rows = ap (λ (a : Applied). a.rows) run in
+    let under : AreUnder edit.path.steps small =
+    subst (AreUnder edit.path.steps) (sym small_is)
+    (run_under tables from goes_on edit.path.steps start edits (merge_under tables edit.path edit.action is.merges) below) in
+    made_alone tables goes_on rows new edit edits causes after small small from is below from_is run (sym (block_all small edit.path.steps under)) new_is
+
 -- what follows of a call that went well
 pub on_ok_by : {A E : Type 0} (result : Result A E) (P Q : Type 0) → (P → Q) → OnOk result P → OnOk result Q
 on_ok_by (Ok value) P Q by p = by p

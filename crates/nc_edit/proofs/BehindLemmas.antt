@@ -1,7 +1,7 @@
 -- Rows that come behind all others are put after them.
 use Rattle.std.proofs.Common.{◌≡◌, ◌≢◌, ◌==◌, ◌&&◌, ◌||◌, ◌++◌, ◌+◌, ◌<◌, ◌≤◌, inl, inr, ℕ, zero, suc, Bool, true, false, cond, not, List, [], ◌∷◌, Option, Some, None, refl, sym, ap, subst, ◌∙◌, take, drop, get_or, length, arith}
 use Rattle.std.proofs.lemmas.Bool.{eq-eqb, lt-ltb, ne_eqb}
-use Rattle.std.proofs.lemmas.List.{append_assoc, append-nil, drop_all, take-append-drop}
+use Rattle.std.proofs.lemmas.List.{append_assoc, append-nil, drop_all, take-append-drop, take_all}
 use Rattle.std.proofs.lemmas.List.Elements.{All-cons, All-head, All-nil, All-tail}
 use Rattle.std.proofs.lemmas.List.Sums.{fold-append}
 use Rattle.std.specs.List.{All, filter, last_or}
@@ -347,6 +347,10 @@ one_behind tables path old rows now more least depth keys edits i edit step keys
           edits i edit within is (made goes_on causes on)
           (turn_made tables steps edit rows step merged goes free now (left_behind tables steps edit rows step merged goes free least next earlier ∙ sym all) goes_on causes on),
     )
+
+-- as many edits as there are, are all
+pub take_whole : (n : ℕ) (edits : List Edit) → n ≡ length edits → take n edits ≡ edits
+take_whole n edits all = take_all n edits (omega (arith, all))
 
 -- the first edits, and then the others
 pub run_rest : (f : Applied → Edit → Applied) (start middle end : Applied) (edits : List Edit) (n : ℕ) → middle ≡ fold f start (take n edits) → end ≡ fold f middle (drop n edits) →

@@ -1,6 +1,7 @@
 //! Edits below a new entry or container with presence: they are made in the rows of that node alone, and
 //! these are put in once.
-ghost use Rattle.std.specs.Prelude.{◌≡◌, ◌||◌, ◌≤◌, ◌<◌, ℕ, [], true, length, take, fold, IfOk, OnOk, OnErr};
+ghost use Rattle.std.specs.Prelude.{◌≡◌, ◌↔◌, ◌||◌, ◌≤◌, ◌<◌, ℕ, [], true, length, take, fold, IfOk, IsTrue};
+ghost use Rattle.std.specs.Prelude.{OnOk, OnErr};
 ghost use Rattle.std.specs.List.{All};
 ghost use Rattle.nc_names.specs.Same as same;
 ghost use Rattle.nc_schema.specs.Blocks as blocks;
@@ -225,6 +226,12 @@ fn run_from(
     Ok(())
 }
 
+fn is_all(count: usize, edits: &[Edit]) -> bool
+    ensures { IsTrue result ↔ (count ≡ length edits.now) }
+{
+    count == edits.len()
+}
+
 // A merge of a new node and the edits below it: these are made in its rows alone, which are put in once. The
 // first of them may be made without a look, by their rows behind all others.
 fn make_alone(
@@ -248,6 +255,9 @@ fn make_alone(
 {
     let mut block = own_block(alloc, schema, &edit.path, &edit.action)?;
     let count = push_behind(alloc, schema, &mut block, &edit.path, edits)?;
+    if is_all(count, edits) {
+        return config.set_block(schema, &edit.path, &Place::Kept, block);
+    }
     let mut small = Config::from_rows(block)?;
     let from = edit.path.steps.as_slice().len() + 1;
     let rest = tail(edits, count);

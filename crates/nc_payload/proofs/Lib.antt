@@ -6,5 +6,6 @@ pub mod Recursion
 pub mod GatherLemmas
 pub mod HeldLemmas
 pub mod MarkLemmas
+pub mod NotedLemmas
 pub mod PutLemmas
 pub mod TurnLemmas

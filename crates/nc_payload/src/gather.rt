@@ -1,19 +1,22 @@
 //! The rows that merges leave, in whatever order these come: each row goes to its place.
-ghost use Rattle.std.specs.Prelude.{◌≡◌, ◌∷◌, [], ◌⊎◌, true, Some, IfOk, List, fold};
+ghost use Rattle.std.specs.Prelude.{◌≡◌, ◌∷◌, [], ◌⊎◌, true, false, Some, IfOk, IfSome, List, fold};
 ghost use Rattle.std.specs.Map.{values_of};
 ghost use Rattle.nc_names.specs.declared.path.Row.{Row};
 ghost use Rattle.nc_names.specs.declared.path.Place.TheVariants.{Kept};
 ghost use Rattle.nc_schema.specs.Blocks.{at_node};
 ghost use Rattle.nc_schema.specs.Kinds as kinds;
+ghost use Rattle.nc_schema.specs.Standing as standing;
 ghost use Rattle.nc_schema.specs.Standing.{cases_of, is_less};
 ghost use Rattle.nc_schema.specs.Tables.{Tables};
 ghost use Rattle.nc_protocol.specs.Edited.{left_by};
 ghost use Rattle.nc_protocol.specs.declared.edit.Action.TheVariants.{Merge};
+ghost use Rattle.nc_payload.specs.declared.gather.Gathered.{Gathered};
 ghost use Rattle.nc_payload.specs.declared.marks.Turns.{Turns};
 ghost use Rattle.nc_payload.specs.inner.Marks.{in_marks};
 ghost use Rattle.nc_payload.specs.inner.Gathered as meant;
-ghost use Rattle.nc_payload.specs.inner.Gathered.{AreBelow, AreChosen, Climbs, Gathers, Holds, IsFree};
-ghost use Rattle.nc_payload.specs.inner.Gathered.{Receives, TakesBlock, TakesPlace, TakesRow, TakesRows};
+ghost use Rattle.nc_payload.specs.inner.Gathered.{AreBelow, AreChosen, Climbs, Gathers, Holds, IsNoted};
+ghost use Rattle.nc_payload.specs.inner.Gathered.{IsOpen, IsReady, IsStood, Notes, Receives, TakesBlock};
+ghost use Rattle.nc_payload.specs.inner.Gathered.{TakesRow, TakesRows};
 
 use crate::marks::{Mark, Plan, Turns, is_by_user, marks_of, turn_of};
 use nc_names::{Copies, Many, Memory, Path, Place, Row, Step, Text, same_rows, same_steps};
@@ -89,6 +92,13 @@ fn next_turn(plan: &Plan<'_>, next: u64, steps: &Many<Step>, number: u32) -> Opt
         return None;
     }
     turn.checked_add(1)
+}
+
+// Whether a node without a row may be merged whenever it comes.
+fn has_no_turn(schema: &Schema, number: u32) -> bool
+    ensures { result ≡ true → standing.is_by_user schema.now number ≡ false }
+{
+    !is_by_user(schema, number)
 }
 
 fn are_below(path: &Path, rows: &[Row]) -> bool
@@ -169,20 +179,11 @@ impl Gathered {
         same_steps(above.as_slice(), self.base.as_slice()) || self.seen.contains(above)
     }
 
-    // Whether a node may be merged now.
-    fn is_free(
-        &self,
-        plan: &Plan<'_>,
-        steps: &Many<Step>,
-        above: &Many<Step>,
-        number: u32,
-    ) -> Result<bool, Memory>
+    // Whether a node may be merged into what is above it.
+    fn is_open(&self, plan: &Plan<'_>, above: &Many<Step>, number: u32) -> Result<bool, Memory>
         ensures { IfOk result (λ it. it ≡ true →
-            IsFree plan.now.schema.now plan.now.turns self.now steps.now above.now number) }
+            IsOpen plan.now.schema.now plan.now.turns self.now above.now number) }
     {
-        if self.seen.contains(steps) {
-            return Ok(false);
-        }
         if !self.is_parent(above) {
             return Ok(false);
         }
@@ -192,22 +193,42 @@ impl Gathered {
         has_chosen(plan, above, number)
     }
 
-    // Takes a node without a row.
-    fn take_place(&mut self, plan: &Plan<'_>, steps: &Many<Step>) -> Result<bool, Memory>
-        ensures { IfOk result (λ it. it ≡ true →
-            TakesPlace plan.now.schema.now plan.now.turns self.old steps.now self.new) }
+    // The number of a node that may be merged now, or was.
+    fn ready(&self, plan: &Plan<'_>, steps: &Many<Step>) -> Result<Option<u32>, Memory>
+        ensures { IfOk result (λ it. IfSome it (λ number.
+            IsReady plan.now.schema.now plan.now.turns self.now steps.now number)) }
     {
         let mut above = steps.copy()?;
         let Some(step) = above.pop() else {
+            return Ok(None);
+        };
+        if !self.is_open(plan, &above, step.node)? {
+            return Ok(None);
+        }
+        Ok(Some(step.node))
+    }
+
+    // Whether a node is new; from now on it counts as merged.
+    fn note(&mut self, steps: &Many<Step>) -> Result<bool, Memory>
+        ensures noted { IfOk result (λ it. it ≡ true → Notes self.old steps.now self.new) }
+        ensures stood { IfOk result (λ it. it ≡ false → IsStood self.old steps.now self.new) }
+    {
+        let added = self.seen.insert(steps.copy()?)?;
+        Ok(added)
+    }
+
+    // Puts a row of a node that was noted.
+    fn put_row(&mut self, plan: &Plan<'_>, row: &Row, number: u32) -> Result<bool, Memory>
+        ensures { IfOk result (λ it. it ≡ true → (before : Gathered) →
+            IsNoted plan.now.schema.now plan.now.turns before row.now.path.steps number self.old →
+            TakesRow plan.now.schema.now plan.now.turns before row.now self.new) }
+    {
+        let steps = &row.path.steps;
+        let Some(next) = next_turn(plan, self.next, steps, number) else {
             return Ok(false);
         };
-        if is_by_user(plan.schema, step.node) {
-            return Ok(false);
-        }
-        if !self.is_free(plan, steps, &above, step.node)? {
-            return Ok(false);
-        }
-        self.seen.insert(steps.copy()?)?;
+        self.rows.insert(marks_of(plan, steps)?, row.copy()?)?;
+        self.next = next;
         Ok(true)
     }
 
@@ -216,21 +237,14 @@ impl Gathered {
         ensures { IfOk result (λ it. it ≡ true →
             TakesRow plan.now.schema.now plan.now.turns self.old row.now self.new) }
     {
-        let steps = &row.path.steps;
-        let mut above = steps.copy()?;
-        let Some(step) = above.pop() else {
+        let ready = self.ready(plan, &row.path.steps)?;
+        let Some(number) = ready else {
             return Ok(false);
         };
-        if !self.is_free(plan, steps, &above, step.node)? {
+        if !self.note(&row.path.steps)? {
             return Ok(false);
         }
-        let Some(next) = next_turn(plan, self.next, steps, step.node) else {
-            return Ok(false);
-        };
-        self.rows.insert(marks_of(plan, steps)?, row.copy()?)?;
-        self.seen.insert(steps.copy()?)?;
-        self.next = next;
-        Ok(true)
+        self.put_row(plan, row, number)
     }
 
     fn take_rows(&mut self, plan: &Plan<'_>, block: &[Row]) -> Result<bool, Memory>
@@ -245,18 +259,20 @@ impl Gathered {
         Ok(true)
     }
 
-    // Takes the rows of a node that was not merged yet.
+    // Takes the rows of a node that was noted.
     fn take_block(
         &mut self,
         plan: &Plan<'_>,
         path: &Path,
         block: &Many<Row>,
+        number: u32,
     ) -> Result<bool, Memory>
-        ensures { IfOk result (λ it. it ≡ true →
-            TakesBlock plan.now.schema.now plan.now.turns self.old path.now block.now self.new) }
+        ensures { IfOk result (λ it. it ≡ true → (before : Gathered) →
+            IsNoted plan.now.schema.now plan.now.turns before path.now.steps number self.old →
+            TakesBlock plan.now.schema.now plan.now.turns before path.now block.now self.new) }
     {
         let Some((first, rest)) = block.as_slice().split_first() else {
-            return self.take_place(plan, &path.steps);
+            return Ok(has_no_turn(plan.schema, number));
         };
         if !same_steps(first.path.steps.as_slice(), path.steps.as_slice()) {
             return Ok(false);
@@ -267,7 +283,7 @@ impl Gathered {
         if !climb(plan, first, rest)? {
             return Ok(false);
         }
-        if !self.take_row(plan, first)? {
+        if !self.put_row(plan, first, number)? {
             return Ok(false);
         }
         self.take_rows(plan, rest)
@@ -303,8 +319,12 @@ impl Gathered {
             (record { path = path.now; action = Merge value.now; place = Kept }) self.new) }
     {
         let block = rows_of_node(plan.alloc, plan.schema, path, value)?;
-        if !self.seen.contains(&path.steps) {
-            return self.take_block(plan, path, &block);
+        let ready = self.ready(plan, &path.steps)?;
+        let Some(number) = ready else {
+            return Ok(false);
+        };
+        if self.note(&path.steps)? {
+            return self.take_block(plan, path, &block, number);
         }
         self.stands(plan, path, &block)
     }

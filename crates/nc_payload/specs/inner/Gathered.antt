@@ -1,5 +1,5 @@
 -- Rows that are gathered in any order: they are kept in the order of their marks, and one more goes to its place.
-use Rattle.std.specs.Prelude.{◌≡◌, ◌⊎◌, ◌<◌, ◌≤◌, ℕ, Bool, true, false, not, List, [], ◌∷◌, ◌++◌, map, fold}
+use Rattle.std.specs.Prelude.{◌≡◌, ◌⊎◌, ◌<◌, ◌≤◌, ◌||◌, ℕ, Bool, true, false, not, List, [], ◌∷◌, ◌++◌, map, fold}
 use Rattle.std.specs.Prelude.{Option, Some, None}
 use Rattle.std.specs.List.{All, filter}
 use Rattle.std.specs.List.Sorted.{IsStrictlySortedBy}
@@ -8,7 +8,7 @@ use Rattle.std.specs.BTreeSet.{contains}
 use Rattle.std.specs.Ordering.{is_lt, nat_cmp, ordering_then}
 use Rattle.std.specs.declared.cmp.Ordering.{Ordering}
 use Rattle.std.specs.declared.cmp.Ordering.TheVariants.{Less}
-use Rattle.nc_names.specs.Same.{is_at_or_below}
+use Rattle.nc_names.specs.Same.{is_at_or_below, is_same_path}
 use Rattle.nc_names.specs.declared.path.Path.{Path}
 use Rattle.nc_names.specs.declared.path.Place.TheVariants.{Kept}
 use Rattle.nc_names.specs.declared.path.Row.{Row}
@@ -96,6 +96,35 @@ pub record Holds (tables : Tables) (turns : Turns) (so_far : Gathered) (rows : L
   pub ordered : IsStrictlySortedBy in_marks (map (row_marks tables turns) rows)
   pub each : All (λ row. has_seen so_far row.path.steps ≡ true) rows
   pub known : (steps : List Step) → has_seen so_far steps ≡ true → IsHeld tables turns so_far rows steps
+
+-- what a node is in is the base or was merged, and is no leaf; the node's cases are those of their choices
+pub record IsOpen (tables : Tables) (turns : Turns) (so_far : Gathered) (above : List Step) (number : ℕ) : Type 0 where
+  pub parent : (above ≡ so_far.base) ⊎ (has_seen so_far above ≡ true)
+  pub inner : at_node tables (record { steps = above }) has_value ≡ false
+  pub chosen : AreChosen turns above (cases_of tables number)
+
+-- a node of that number may be merged now, or was
+pub record IsReady (tables : Tables) (turns : Turns) (so_far : Gathered) (steps : List Step) (number : ℕ) : Type 0 where
+  pub above : List Step
+  pub keys : List (List ℕ)
+  pub is : steps ≡ above ++ record { node = number; keys = keys } ∷ []
+  pub there : IsOpen tables turns so_far above number
+
+-- a node that was not merged yet counts as merged afterwards, and nothing else is new
+pub record Notes (before : Gathered) (steps : List Step) (after : Gathered) : Type 0 where
+  pub new : has_seen before steps ≡ false
+  pub added : (key : List Step) → has_seen after key ≡ (has_seen before key || is_same_path steps key)
+  pub base : after.base ≡ before.base
+  pub rows : after.rows ≡ before.rows
+  pub next : after.next ≡ before.next
+
+-- a node that was merged before, where nothing is new
+abbrev pub IsStood : Gathered → List Step → Gathered → Type 0
+IsStood before steps after = (has_seen before steps ≡ true) × (after ≡ before)
+
+-- a node that may be merged counts as merged, before its rows are there
+abbrev pub IsNoted : Tables → Turns → Gathered → List Step → ℕ → Gathered → Type 0
+IsNoted tables turns before steps number after = IsReady tables turns before steps number × Notes before steps after
 
 -- a node was not merged yet, what it is in is the base or was, and is no leaf; its cases are those of their choices
 pub record IsFree (tables : Tables) (turns : Turns) (so_far : Gathered) (steps above : List Step)

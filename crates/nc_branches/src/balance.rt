@@ -9,7 +9,7 @@ use nc_names::{Copies, Memory};
 use std::alloc::Global;
 
 /// A node among its siblings, of a copy of the node.
-fn between(alloc: Global, left: Tree, twig: &Twig, right: Tree) -> Result<Tree, Memory>
+pub(crate) fn between(alloc: Global, left: Tree, twig: &Twig, right: Tree) -> Result<Tree, Memory>
     ensures { IfOk result (λ it. it.rows ≡ left.rows ++ rows_of twig.now ++ right.rows) }
 {
     let twig = twig.copy()?;
@@ -26,7 +26,12 @@ fn of_copies(alloc: Global, left: &Tree, twig: &Twig, right: &Tree) -> Result<Tr
 }
 
 /// The same of a copy of the node and of its left side.
-fn with_right(alloc: Global, left: &Tree, twig: &Twig, right: Tree) -> Result<Tree, Memory>
+pub(crate) fn with_right(
+    alloc: Global,
+    left: &Tree,
+    twig: &Twig,
+    right: Tree,
+) -> Result<Tree, Memory>
     ensures { IfOk result (λ it. it.rows ≡ left.now.rows ++ rows_of twig.now ++ right.rows) }
 {
     let left = left.copy()?;
@@ -34,11 +39,30 @@ fn with_right(alloc: Global, left: &Tree, twig: &Twig, right: Tree) -> Result<Tr
 }
 
 /// The same of a copy of the node and of its right side.
-fn with_left(alloc: Global, left: Tree, twig: &Twig, right: &Tree) -> Result<Tree, Memory>
+pub(crate) fn with_left(
+    alloc: Global,
+    left: Tree,
+    twig: &Twig,
+    right: &Tree,
+) -> Result<Tree, Memory>
     ensures { IfOk result (λ it. it.rows ≡ left.rows ++ rows_of twig.now ++ right.now.rows) }
 {
     let right = right.copy()?;
     between(alloc, left, twig, right)
+}
+
+/// The same of copies of both sides.
+pub(crate) fn with_twig(
+    alloc: Global,
+    left: &Tree,
+    twig: Twig,
+    right: &Tree,
+) -> Result<Tree, Memory>
+    ensures { IfOk result (λ it. it.rows ≡ left.now.rows ++ rows_of twig ++ right.now.rows) }
+{
+    let left = left.copy()?;
+    let right = right.copy()?;
+    Tree::of(alloc, left, twig, right)
 }
 
 /// A node among its siblings, where the left side may be two levels too high.

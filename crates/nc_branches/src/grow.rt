@@ -4,7 +4,7 @@ ghost use Rattle.nc_names.specs.Same as same;
 ghost use Rattle.nc_branches.specs.inner.Shoots.{rows_of};
 ghost use Rattle.nc_branches.specs.inner.Order.{AreUnder};
 
-use crate::balance::balanced;
+use crate::balance::{balanced, with_twig};
 use crate::tree::{Tree, Twig};
 use nc_names::{Copies, Many, Memory, Path, Row, Shared, Step};
 use std::alloc::Global;
@@ -159,7 +159,8 @@ impl Tree {
         };
         if fork.right.is_empty() {
             if let Some(twig) = fork.twig.with_last(alloc, row.copy()?)? {
-                return Tree::of(alloc, fork.left.copy()?, twig, fork.right.copy()?);
+                drop(row);
+                return with_twig(alloc, &fork.left, twig, &fork.right);
             }
         }
         let right = fork.right.with_last(alloc, row, depth)?;

@@ -5,7 +5,7 @@ ghost use Rattle.nc_branches.specs.Tallies.{IsTallied};
 ghost use Rattle.nc_branches.specs.inner.Known.{Adds, Knows, KnowsMore};
 ghost use Rattle.nc_branches.specs.inner.Shoots.{own_rows, rows_of};
 
-use crate::balance::balanced;
+use crate::balance::{balanced, with_twig};
 use crate::grow::raised;
 use crate::locate::is_entry;
 use crate::tree::{Tree, Twig};
@@ -54,7 +54,7 @@ impl Tree {
         }
         if way == Some(Ordering::Equal) {
             if let Some(twig) = fork.twig.noted(alloc, row, label)? {
-                return Tree::of(alloc, fork.left.copy()?, twig, fork.right.copy()?);
+                return with_twig(alloc, &fork.left, twig, &fork.right);
             }
         }
         let right = fork.right.noted(alloc, row, label, depth)?;

@@ -1,28 +1,25 @@
 //! Rows put in the place of those at and below a path, where it is known which entries have a row: the orders
 //! of lists that the user orders are not listed.
-ghost use Rattle.std.specs.Prelude.{◌≡◌, ◌+◌, [], IfOk, IfSome, Some, false, true};
+ghost use Rattle.std.specs.Prelude.{◌≡◌, [], IfOk, IfSome, Some, true};
 ghost use Rattle.std.specs.Option.{option_map_or};
-ghost use Rattle.nc_schema.specs.Standing as meant;
 ghost use Rattle.nc_branches.specs.Branches.{without_block};
 ghost use Rattle.nc_branches.specs.Orders.{orders_of};
 ghost use Rattle.nc_branches.specs.Sides.{among};
 ghost use Rattle.nc_branches.specs.Tallies.{IsTallied, KeepsTally};
-ghost use Rattle.nc_branches.specs.inner.Layings as layings;
-ghost use Rattle.nc_branches.specs.inner.Layings.{IsKept, IsLast, KnowsBlock};
+ghost use Rattle.nc_branches.specs.inner.Layings.{IsBerth, IsKept, KnowsBlock};
 ghost use Rattle.nc_branches.specs.inner.Order.{AreUnder};
 ghost use Rattle.nc_branches.specs.inner.Shoots.{rows_of};
-ghost use Rattle.nc_branches.specs.inner.Turning.{AreTurned, entry_at};
+ghost use Rattle.nc_branches.specs.inner.Turning.{AreTurned};
 
 use crate::aim::{Aim, Lay};
+use crate::berth::{Berth, keeps, labels_of, step_at};
 use crate::front::Front;
-use crate::grow::copied;
 use crate::labels::Turn;
-use crate::locate::{head, is_entry};
 use crate::outcome::Outcome;
 use crate::put::node_of;
 use crate::siblings::is_by_user;
 use crate::tree::{Tree, Twig};
-use nc_names::{Copies, Many, Memory, Path, Place, Step, Text, same_keys};
+use nc_names::{Copies, Many, Memory, Path, Place, Step};
 use nc_schema::Schema;
 use std::alloc::Global;
 
@@ -31,82 +28,6 @@ use std::alloc::Global;
 pub struct Laid {
     pub tree: Tree,
     pub known: Tree,
-}
-
-/// Whether an entry that stands is to keep its place.
-fn keeps(place: &Place, keys: &Many<Text>) -> bool
-    ensures { result ≡ layings.keeps place.now keys.now }
-{
-    match place {
-        Place::Kept => true,
-        Place::First | Place::Last => false,
-        Place::Before(anchor) | Place::After(anchor) => same_keys(anchor, keys),
-    }
-}
-
-/// Where an entry goes that does not stand.
-fn turn_of(place: &Place, keys: &Many<Text>) -> Turn
-    ensures { result ≡ layings.turn_of place.now keys.now }
-{
-    match place {
-        Place::Kept | Place::Last => Turn::Last,
-        Place::First => Turn::First,
-        Place::Before(anchor) => {
-            if same_keys(anchor, keys) {
-                return Turn::Last;
-            }
-            Turn::Before
-        }
-        Place::After(anchor) => {
-            if same_keys(anchor, keys) {
-                return Turn::Last;
-            }
-            Turn::After
-        }
-    }
-}
-
-/// The keys of the entry beside which one goes.
-fn anchor_of(alloc: Global, place: &Place) -> Result<Many<Text>, Memory>
-    ensures { IfOk result (λ it. it ≡ layings.anchor_of place.now) }
-{
-    match place {
-        Place::Before(anchor) | Place::After(anchor) => anchor.copy(),
-        Place::Kept | Place::First | Place::Last => Ok(Many::new(alloc)),
-    }
-}
-
-/// The path of an entry of a list below some steps.
-fn path_beside(
-    alloc: Global,
-    above: &[Step],
-    node: u32,
-    keys: Many<Text>,
-) -> Result<Many<Step>, Memory>
-    ensures { IfOk result (λ it. it ≡ entry_at above.now node keys) }
-{
-    let mut path = copied(alloc, above)?;
-    path.push(Step { node, keys })?;
-    Ok(path)
-}
-
-/// The step at a depth, where it is the last one.
-fn step_at(steps: &[Step], depth: usize) -> Option<&Step>
-    ensures { IfSome result (λ last. IsLast steps.now depth last.now) }
-{
-    if steps.len() <= depth || steps.len() - depth != 1 {
-        return None;
-    }
-    steps.get(depth)
-}
-
-/// The labels of the steps of a path.
-fn labels_of(alloc: Global, known: &Tree, steps: &[Step]) -> Result<Many<u64>, Memory> {
-    let mut labels = Many::new(alloc);
-    for at in 0..steps.len() {
-        labels.push(known.label_of(steps, at))?;
-    }
-    Ok(labels)
 }
 
 impl Twig {
@@ -288,7 +209,6 @@ impl Tree {
     }
 
     /// A node, or none, in the place of what stands at a path.
-    #[tactic(auto, using(crate::proofs::Laying::laid_kept, crate::proofs::Tallying::after_tally))]
     fn lay_kept(
         &self,
         alloc: Global,
@@ -306,12 +226,43 @@ impl Tree {
             (option_map_or rows_of node []) self.now.rows)) }
         ensures known { IfOk result (λ it. IfSome it (λ laid. IsTallied laid.known.rows laid.tree.rows)) }
     {
+        let labels = match labels_of(alloc, known, steps) {
+            Ok(labels) => labels,
+            Err(memory) => {
+                drop(node);
+                return Err(memory);
+            }
+        };
+        let laid = self.lay_there(alloc, schema, known, steps, place, node, labels.as_slice());
+        drop(labels);
+        laid
+    }
+
+    /// The same, with the labels of the steps.
+    #[tactic(auto, using(crate::proofs::Laying::laid_kept, crate::proofs::Tallying::after_tally))]
+    fn lay_there(
+        &self,
+        alloc: Global,
+        schema: &Schema,
+        known: &Tree,
+        steps: &[Step],
+        place: &Place,
+        node: Option<Twig>,
+        labels: &[u64],
+    ) -> Result<Option<Laid>, Memory>
+        requires tallied { IsTallied known.now.rows self.now.rows }
+        requires under { AreUnder steps.now (option_map_or rows_of node []) }
+        requires kept { IsKept schema.now place.now steps.now }
+        ensures tree { IfOk result (λ it. IfSome it (λ laid. laid.tree.rows
+            ≡ among schema.now (orders_of schema.now self.now.rows place.now [] steps.now) steps.now
+            (option_map_or rows_of node []) self.now.rows)) }
+        ensures known { IfOk result (λ it. IfSome it (λ laid. IsTallied laid.known.rows laid.tree.rows)) }
+    {
         let label = known.label_of(steps, steps.len().saturating_sub(1));
         let node = labelled(alloc, node, label)?;
         let Some(now) = known.known_beside(alloc, steps, &node)? else {
             return Ok(None);
         };
-        let labels = labels_of(alloc, known, steps)?;
         let lay = Lay {
             whole: self,
             laid: self,
@@ -319,7 +270,7 @@ impl Tree {
             place,
             turn: Turn::Kept,
             beside: steps,
-            labels: labels.as_slice(),
+            labels,
         };
         match lay_by(alloc, schema, &lay, steps, node)? {
             None => Ok(None),
@@ -328,7 +279,6 @@ impl Tree {
     }
 
     /// An entry, or none, where it goes among the others.
-    #[tactic(auto, using(crate::proofs::Laying::laid_moved, crate::proofs::Tallying::after_tally, crate::proofs::Tallying::tallied_rest))]
     fn lay_moved(
         &self,
         alloc: Global,
@@ -345,64 +295,64 @@ impl Tree {
             (option_map_or rows_of node []) self.now.rows)) }
         ensures known { IfOk result (λ it. IfSome it (λ laid. IsTallied laid.known.rows laid.tree.rows)) }
     {
-        let depth = steps.len().saturating_sub(1);
-        let Some(last) = step_at(steps, depth) else {
-            return Ok(None);
-        };
-        if !self.is_new(known, steps, place, &last.keys) {
-            return Ok(None);
-        }
-        let rest = self.without_known(alloc, known, steps)?;
-        let turn = turn_of(place, &last.keys);
-        let beside = path_beside(
-            alloc,
-            head(steps, depth),
-            last.node,
-            anchor_of(alloc, place)?,
-        )?;
-        let anchor = known.label_of(beside.as_slice(), depth);
-        let label = rest.new_label(known, steps, turn, anchor);
-        if label == 0 {
-            return Ok(None);
-        }
-        let node = labelled(alloc, node, label)?;
-        let Some(now) = known.known_beside(alloc, steps, &node)? else {
-            return Ok(None);
-        };
-        let mut labels = labels_of(alloc, known, steps)?;
-        labels.pop();
-        labels.push(anchor)?;
-        let lay = Lay {
-            whole: self,
-            laid: &rest,
-            known,
-            place,
-            turn,
-            beside: beside.as_slice(),
-            labels: labels.as_slice(),
-        };
-        match lay_by(alloc, schema, &lay, steps, node)? {
-            None => Ok(None),
-            Some(tree) => Ok(Some(Laid { tree, known: now })),
+        match self.berth(alloc, known, steps, place) {
+            Ok(Some(berth)) => {
+                let laid = self.lay_at(alloc, schema, known, steps, place, node, &berth);
+                drop(berth);
+                laid
+            }
+            Ok(None) => {
+                drop(node);
+                Ok(None)
+            }
+            Err(memory) => {
+                drop(node);
+                Err(memory)
+            }
         }
     }
 
-    /// Whether an entry that is to keep its place has no row.
-    #[tactic(auto, using(crate::proofs::Locating::row_none, crate::proofs::Tallies::none_known))]
-    fn is_new(&self, known: &Tree, steps: &[Step], place: &Place, keys: &Many<Text>) -> bool
-        requires { IsTallied known.now.rows self.now.rows }
-        ensures { result ≡ true → layings.keeps place.now keys.now ≡ true →
-            meant.has_row self.now.rows steps.now ≡ false }
+    /// The same, where it is known where it goes.
+    #[tactic(auto, using(crate::proofs::Tallying::after_tally, crate::proofs::Tallying::tallied_rest))]
+    fn lay_at(
+        &self,
+        alloc: Global,
+        schema: &Schema,
+        known: &Tree,
+        steps: &[Step],
+        place: &Place,
+        node: Option<Twig>,
+        berth: &Berth,
+    ) -> Result<Option<Laid>, Memory>
+        requires tallied { IsTallied known.now.rows self.now.rows }
+        requires under { AreUnder steps.now (option_map_or rows_of node []) }
+        requires rest { berth.now.rest.rows ≡ without_block self.now.rows steps.now }
+        requires berth { IsBerth self.now.rows place.now steps.now berth.now.turn berth.now.beside }
+        ensures tree { IfOk result (λ it. IfSome it (λ laid. laid.tree.rows
+            ≡ among schema.now (orders_of schema.now self.now.rows place.now [] steps.now) steps.now
+            (option_map_or rows_of node []) self.now.rows)) }
+        ensures known { IfOk result (λ it. IfSome it (λ laid. IsTallied laid.known.rows laid.tree.rows)) }
     {
-        if !keeps(place, keys) {
-            return true;
+        if berth.label == 0 {
+            drop(node);
+            return Ok(None);
         }
-        if !is_entry(steps) {
-            return false;
-        }
-        match known.get(steps) {
-            Some(_) => false,
-            None => true,
+        let node = labelled(alloc, node, berth.label)?;
+        let Some(tally) = known.known_beside(alloc, steps, &node)? else {
+            return Ok(None);
+        };
+        let lay = Lay {
+            whole: self,
+            laid: &berth.rest,
+            known,
+            place,
+            turn: berth.turn,
+            beside: berth.beside.as_slice(),
+            labels: berth.labels.as_slice(),
+        };
+        match lay_by(alloc, schema, &lay, steps, node)? {
+            None => Ok(None),
+            Some(tree) => Ok(Some(Laid { tree, known: tally })),
         }
     }
 }

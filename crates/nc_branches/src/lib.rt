@@ -15,6 +15,7 @@
 mod aim;
 mod balance;
 mod beneath;
+mod berth;
 mod cases;
 mod children;
 mod free;

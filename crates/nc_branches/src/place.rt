@@ -6,6 +6,7 @@ ghost use Rattle.nc_branches.specs.inner.Shoots.{rows_of};
 ghost use Rattle.nc_branches.specs.inner.Order.{AreUnder};
 ghost use Rattle.nc_names.specs.Same.{is_same_path};
 
+use crate::balance::{with_left, with_right, with_twig};
 use crate::look::Where;
 use crate::tree::{Tree, Twig};
 use nc_names::{Copies, Memory, Row, Shared, same_steps};
@@ -111,27 +112,27 @@ impl Tree {
         match fork.find(steps) {
             Where::OnTheLeft => {
                 let left = fork.left.replaced(alloc, row)?;
-                Tree::of(alloc, left, fork.twig.copy()?, fork.right.copy()?)
+                with_left(alloc, left, &fork.twig, &fork.right)
             }
             Where::Here => {
                 let here = fork.twig.replaced(alloc, row)?;
-                Tree::of(alloc, fork.left.copy()?, here, fork.right.copy()?)
+                with_twig(alloc, &fork.left, here, &fork.right)
             }
             Where::OnTheRight => {
                 let right = fork.right.replaced(alloc, row)?;
-                Tree::of(alloc, fork.left.copy()?, fork.twig.copy()?, right)
+                with_right(alloc, &fork.left, &fork.twig, right)
             }
             Where::Anywhere => {
                 if fork.left.get(steps).is_some() {
                     let left = fork.left.replaced(alloc, row)?;
-                    return Tree::of(alloc, left, fork.twig.copy()?, fork.right.copy()?);
+                    return with_left(alloc, left, &fork.twig, &fork.right);
                 }
                 if fork.twig.get(steps).is_some() {
                     let here = fork.twig.replaced(alloc, row)?;
-                    return Tree::of(alloc, fork.left.copy()?, here, fork.right.copy()?);
+                    return with_twig(alloc, &fork.left, here, &fork.right);
                 }
                 let right = fork.right.replaced(alloc, row)?;
-                Tree::of(alloc, fork.left.copy()?, fork.twig.copy()?, right)
+                with_right(alloc, &fork.left, &fork.twig, right)
             }
         }
     }

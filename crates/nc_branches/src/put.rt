@@ -286,10 +286,21 @@ impl Tree {
         let fronts = fronts_of(alloc, orders, steps)?;
         let aim = Aim::new(schema, &fronts, steps, node);
         let free = self.is_free(&aim, 0);
-        match self.put(alloc, &aim, 0, None, Turn::Kept, free)? {
-            Outcome::Unknown => Ok(None),
-            Outcome::Kept => Ok(Some(self.copy()?)),
-            Outcome::Made(tree) => Ok(Some(tree)),
+        let outcome = self.put(alloc, &aim, 0, None, Turn::Kept, free);
+        drop(aim);
+        drop(fronts);
+        match outcome {
+            Ok(Outcome::Unknown) => Ok(None),
+            Ok(Outcome::Kept) => self.kept(),
+            Ok(Outcome::Made(tree)) => Ok(Some(tree)),
+            Err(memory) => Err(memory),
         }
+    }
+
+    /// The same rows.
+    fn kept(&self) -> Result<Option<Tree>, Memory>
+        ensures { IfOk result (λ it. IfSome it (λ tree. tree.rows ≡ self.now.rows)) }
+    {
+        Ok(Some(self.copy()?))
     }
 }

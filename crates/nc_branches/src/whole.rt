@@ -4,6 +4,7 @@ ghost use Rattle.nc_branches.specs.inner.Shoots.{rows_of_all};
 ghost use Rattle.nc_branches.specs.inner.Order.{AreUnder};
 ghost use Rattle.nc_branches.specs.inner.Cuts.{IsCutOff};
 
+use crate::balance::between;
 use crate::grow::head_row;
 use crate::tree::{Tree, Twig};
 use nc_names::{Copies, Many, Memory, Row, Shared, Step};
@@ -23,7 +24,7 @@ fn siblings(alloc: Global, twigs: &[Twig]) -> Result<Tree, Memory>
     };
     let left = siblings(alloc, left)?;
     let right = siblings(alloc, right)?;
-    Tree::of(alloc, left, twig.copy()?, right)
+    between(alloc, left, twig, right)
 }
 
 /// How many rows from the first on stand below a node.
@@ -67,6 +68,16 @@ fn cut_off<'a>(
     Ok((Twig::bud(first.copy()?), inner, rest))
 }
 
+/// The node with rows below it. The one without them is let go by a call.
+fn filled(node: Twig, below: Tree) -> Result<Twig, Memory>
+    requires { AreUnder node.row.path.steps below.rows }
+    ensures { IfOk result (λ it. it ≡ record { row = node.row; stands = node.stands; below = below }) }
+{
+    let twig = node.with_below(below);
+    drop(node);
+    twig
+}
+
 /// Rows in their order, those of nodes so many steps below the top.
 #[tactic(auto, using(crate::proofs::WholeRows::all_done))]
 fn level(alloc: Global, rows: &[Shared<Row>], depth: usize, room: u64) -> Result<Tree, Memory>
@@ -79,8 +90,14 @@ fn level(alloc: Global, rows: &[Shared<Row>], depth: usize, room: u64) -> Result
     let mut rest = rows;
     while let Some((first, more)) = rest.split_first() {
         let (node, inner, left) = cut_off(alloc, first, more, rest, depth)?;
-        let below = level(alloc, inner, node.len_of_path(), room - 1)?;
-        twigs.push(node.with_below(below)?)?;
+        let below = match level(alloc, inner, node.len_of_path(), room - 1) {
+            Ok(below) => below,
+            Err(memory) => {
+                drop(node);
+                return Err(memory);
+            }
+        };
+        twigs.push(filled(node, below)?)?;
         rest = left;
     }
     siblings(alloc, twigs.as_slice())

@@ -1,14 +1,15 @@
 -- Where a place puts an entry (RFC 7950 7.7.9, 7.8.6), and which entries are known after an edit.
-use Rattle.std.specs.Prelude.{◌≡◌, ◌++◌, ◌+◌, ℕ, Bool, true, false, if◌then◌else◌, List, [], Some, length, slice_get}
+use Rattle.std.specs.Prelude.{◌≡◌, ◌++◌, ◌+◌, ℕ, Bool, true, false, if◌then◌else◌, List, [], Some, length, slice_get, take}
 use Rattle.nc_names.specs.Same.{is_same_keys}
 use Rattle.nc_names.specs.declared.path.Place.{Place}
 use Rattle.nc_names.specs.declared.path.Place.TheVariants.{Kept, First, Last, Before, After}
 use Rattle.nc_names.specs.declared.path.Row.{Row}
 use Rattle.nc_names.specs.declared.path.Step.{Step}
-use Rattle.nc_schema.specs.Standing.{is_by_user}
+use Rattle.nc_schema.specs.Standing.{has_row, is_by_user}
 use Rattle.nc_schema.specs.Tables.{Tables}
 use Rattle.nc_branches.specs.Tallies.{IsTallied}
 use Rattle.nc_branches.specs.inner.Known.{Knows}
+use Rattle.nc_branches.specs.inner.Turning.{entry_at}
 use Rattle.nc_branches.specs.declared.labels.Turn.{Turn}
 use Rattle.nc_branches.specs.declared.labels.Turn.TheVariants.{First as TurnFirst, Last as TurnLast, Before as TurnBefore, After as TurnAfter}
 
@@ -47,6 +48,17 @@ pub record IsKept (tables : Tables) (place : Place) (steps : List Step) : Type 0
   pub step : Step
   pub last : IsLast steps depth step
   pub keeps_is : is_by_user tables step.node ≡ true → keeps place step.keys ≡ true
+
+-- where an entry goes that is moved: it stands nowhere, or is not to keep its place; on which side of another, or at
+-- which end; and the path of that other
+pub record IsBerth (rows : List Row) (place : Place) (steps : List Step) (turn : Turn) (beside : List Step)
+    : Type 0 where
+  pub depth : ℕ
+  pub step : Step
+  pub last : IsLast steps depth step
+  pub goes : keeps place step.keys ≡ true → has_row rows steps ≡ false
+  pub turn_is : turn ≡ turn_of place step.keys
+  pub beside_is : beside ≡ entry_at (take depth steps) step.node (anchor_of place)
 
 -- what is known, and the entries of other rows none of which has two
 pub record KnowsBlock (known block now : List Row) : Type 0 where

@@ -21,7 +21,10 @@ pub fn checked(alloc: Global, refusal: Option<Cause>, verdict: Verdict) -> Resul
     ensures { IfOk result (λ it. it ≡ meant.checked refusal verdict) }
 {
     match refusal {
-        Some(cause) => refused(alloc, cause),
+        Some(cause) => {
+            drop(verdict);
+            refused(alloc, cause)
+        }
         None => Ok(verdict),
     }
 }

@@ -94,7 +94,10 @@ pub fn done_unless(alloc: Global, refusal: Option<Cause>, change: Change) -> Res
     ensures { IfOk result (λ it. it ≡ course.done_unless refusal change) }
 {
     match refusal {
-        Some(cause) => refused_course(alloc, cause),
+        Some(cause) => {
+            drop(change);
+            refused_course(alloc, cause)
+        }
         None => Ok(done(change)),
     }
 }

@@ -6,7 +6,6 @@ use Rattle.std.proofs.lemmas.List.Elements.{Contains-append_left}
 use Rattle.nc_names.specs.declared.cause.CauseKind.TheVariants.{DiskFault}
 use Rattle.nc_names.specs.declared.memory.Memory.{Memory}
 use Rattle.nc_names.specs.declared.path.Row.{Row}
-use Rattle.nc_model.specs.declared.entry.Entry.{Entry}
 use Rattle.nc_model.specs.declared.event.Event.{Event}
 use Rattle.nc_model.specs.declared.event.Outcome.{Outcome}
 use Rattle.nc_model.specs.State.{State, candidate_in_force}
@@ -19,7 +18,6 @@ use Rattle.nc_tree.specs.declared.keeper.Doubt.{Doubt}
 use Rattle.nc_tree.specs.declared.keeper.Doubt.TheVariants.{Nothing, Earlier, This}
 use Rattle.nc_tree.specs.declared.keeper.Kept.TheVariants.{Kept as IsKept, Failed}
 use Rattle.nc_machine.specs.Lasting.{DoubtAfter, Lasting, Withstands, WithstandsEvent, base_after}
-use Rattle.nc_machine.specs.Serving.{failed_of}
 use Rattle.nc_machine.specs.inner.Turns.{answered_by, failed_in}
 
 -- the laws of a keeper
@@ -141,9 +139,3 @@ pub over_read : {K : Type 0} (base : K → List Row) (words : Lasting K) (read s
     WithstandsEvent base words s event before now failed
 over_read base words read s event before now failed is over =
     subst (λ (x : State). WithstandsEvent base words x event before now failed) is over
-
-pub over_wanted : {K : Type 0} (base : K → List Row) (words : Lasting K) (read s : State) (event : Event) (before now : K)
-    (result : Result Entry Memory) → IsErr result → read ≡ s → WithstandsEvent base words read event before now None →
-    WithstandsEvent base words s event before now (failed_of result)
-over_wanted base words read s event before now (Ok e) err is over = absurd (cc)
-over_wanted base words read s event before now (Err memory) err is over = over_read base words read s event before now None is over

@@ -16,6 +16,14 @@ use nc_protocol::{Reply, Request, Verdict};
 // With more causes than that a session's access is looked up in an index.
 const FEW_CAUSES: usize = 8;
 
+/// What an answer makes ahead of its change: the policy of what that makes running, and the outcome. Each is
+/// large, and is let go by a call where memory ends.
+#[derive(Drop)]
+struct Ahead {
+    policy: Option<Policy>,
+    outcome: Outcome,
+}
+
 fn has_many_causes(verdict: &Verdict) -> bool {
     match verdict {
         Verdict::Refused { causes } => causes.len() > FEW_CAUSES,
@@ -57,6 +65,27 @@ impl Server {
     {
         let reply = self.reply_to(session, request, &verdict)?;
         Ok(Outcome::Answered { verdict, reply })
+    }
+
+    // What an answer makes ahead of its change.
+    fn made_ahead(
+        &self,
+        session: u32,
+        request: &Request,
+        verdict: Verdict,
+        change: &Change,
+    ) -> Result<Ahead, Memory>
+        ensures outcome { IfOk result (λ it. it.outcome ≡ answered_by self.now session request.now verdict) }
+        ensures policy { IfOk result (λ it. it.policy ≡ policy_after self.now.schema change.now) }
+    {
+        let outcome = self.answered(session, request, verdict)?;
+        match self.policy_after(change) {
+            Ok(policy) => Ok(Ahead { policy, outcome }),
+            Err(memory) => {
+                drop(outcome);
+                Err(memory)
+            }
+        }
     }
 
     // Changes what is to be changed: nothing, for want of memory.
@@ -101,9 +130,20 @@ impl Server {
         ensures state { IfOk result (λ it. self.new ≡ course.made self.old session change) }
         ensures memory { OnErr result (self.new ≡ self.old) }
     {
-        let outcome = self.answered(session, request, verdict)?;
-        let policy = self.policy_after(&change)?;
-        self.change(session, change, policy)?;
-        Ok(outcome)
+        let ahead = match self.made_ahead(session, request, verdict, &change) {
+            Ok(ahead) => ahead,
+            Err(memory) => {
+                drop(change);
+                return Err(memory);
+            }
+        };
+        let Ahead { policy, outcome } = ahead;
+        match self.change(session, change, policy) {
+            Ok(()) => Ok(outcome),
+            Err(memory) => {
+                drop(outcome);
+                Err(memory)
+            }
+        }
     }
 }

@@ -98,7 +98,13 @@ pub(crate) fn requested<K: Keeper>(
 {
     server.read_clock(at);
     let faults_before = server.faults();
-    let outcome = outcome(server, keeper, session, &request)?;
+    let outcome = match outcome(server, keeper, session, &request) {
+        Ok(outcome) => outcome,
+        Err(memory) => {
+            drop(request);
+            return Err(memory);
+        }
+    };
     let faults_after = server.faults();
     Ok(Entry {
         number,

@@ -40,6 +40,7 @@ impl<K: Keeper, C: Clock> Desk for Solo<K, C> {
     fn submit(&mut self, event: Event) -> Result<Entry, DeskFault> {
         let count = self.machine.count();
         if count == MOST_REQUESTS {
+            drop(event);
             return Err(DeskFault::Spent { ticket: count });
         }
         let at = self.clock.now();

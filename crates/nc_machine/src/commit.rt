@@ -38,15 +38,27 @@ fn prepare(server: &Server, session: u32, request: &Request) -> Result<Prepared,
     }) }
 {
     let alloc = server.alloc();
-    let policy = Policy::of(alloc, server.schema(), server.in_force())?;
     let fault = refused(alloc, Cause::plain(alloc, CauseKind::DiskFault))?;
-    let failed = server.answered(session, request, fault)?;
-    let done = server.answered(session, request, Verdict::Done)?;
-    Ok(Prepared {
-        policy,
-        done,
-        failed,
-    })
+    let missed = server.answered(session, request, fault)?;
+    let kept = match server.answered(session, request, Verdict::Done) {
+        Ok(kept) => kept,
+        Err(memory) => {
+            drop(missed);
+            return Err(memory);
+        }
+    };
+    match Policy::of(alloc, server.schema(), server.in_force()) {
+        Ok(policy) => Ok(Prepared {
+            policy,
+            done: kept,
+            failed: missed,
+        }),
+        Err(memory) => {
+            drop(kept);
+            drop(missed);
+            Err(memory)
+        }
+    }
 }
 
 /// A commit that nothing but the disk can make fail. Both replies, the policy of what is to be running, and

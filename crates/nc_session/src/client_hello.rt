@@ -96,8 +96,8 @@ fn base_by(greeting: &Elem) -> Result<Base, HelloFault>
     chosen(capabilities.parts.as_slice())
 }
 
-/// What the client's first message chooses, or why it is no hello that the server takes.
-pub(crate) fn base_of(reading: &Result<Tree, BadMessage>) -> Result<Base, HelloFault>
+// What the client's first message chooses, or why it is no hello that the server takes.
+fn base_of(reading: &Result<Tree, BadMessage>) -> Result<Base, HelloFault>
     ensures { result ≡ hello.base_of reading.now }
 {
     match reading {
@@ -110,4 +110,14 @@ pub(crate) fn base_of(reading: &Result<Tree, BadMessage>) -> Result<Base, HelloF
         }
         Err(_) => Err(HelloFault::NotRead),
     }
+}
+
+/// The same of a message that was read for this alone. It is let go by a call: taken apart, at each way on from
+/// here, it made a proof long.
+pub(crate) fn base_chosen(reading: Result<Tree, BadMessage>) -> Result<Base, HelloFault>
+    ensures { result ≡ hello.base_of reading }
+{
+    let base = base_of(&reading);
+    drop(reading);
+    base
 }

@@ -68,6 +68,7 @@ fn request_of_tree(
     ensures proper { IfOk result (λ it. IfOk it IsProper) }
 {
     if base == Base::Base10 && !is_rpc(&tree) {
+        drop(tree);
         return Ok(Err(BadMessage {
             at: 0,
             why: Why::NotWellFormed,

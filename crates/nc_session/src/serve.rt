@@ -129,7 +129,7 @@ fn serve_started<Q: Desk, S: Source, K: Sink>(
         return Met { standing, end };
     }
     let mut core = SessionCore::begin(alloc);
-    converse(
+    let met = converse(
         desk,
         session,
         &mut core,
@@ -137,7 +137,9 @@ fn serve_started<Q: Desk, S: Source, K: Sink>(
         &mut out,
         source,
         sink,
-    )
+    );
+    drop(core);
+    met
 }
 
 fn is_live(outcome: &Outcome) -> bool

@@ -6,6 +6,7 @@ ghost use Rattle.nc_protocol.specs.Words.{session_id_word};
 ghost use Rattle.nc_names.specs.Appending.{Appends};
 ghost use Rattle.nc_session.specs.ServerHello as hellos;
 ghost use Rattle.nc_session.specs.Words.{capabilities_word};
+ghost use Rattle.nc_message.specs.Written.{written};
 ghost use Rattle.nc_message.specs.declared.tree.Part.TheVariants.{Child};
 
 use crate::words;
@@ -154,6 +155,24 @@ fn hello_tree(alloc: Global, modules: &[Module], session: u32) -> Result<Tree, M
     Ok(Tree { root })
 }
 
+// The hello as it is written. Its tree is let go by a call.
+fn hello_bytes(alloc: Global, modules: &[Module], session: u32) -> Result<Bytes, Memory>
+    ensures { IfOk result (λ it. it ≡ written (hellos.hello_tree modules.now session)) }
+{
+    let tree = hello_tree(alloc, modules, session)?;
+    let mut text = Bytes::new(alloc);
+    match write(&tree, &mut text) {
+        Ok(()) => {
+            drop(tree);
+            Ok(text)
+        }
+        Err(memory) => {
+            drop(tree);
+            Err(memory)
+        }
+    }
+}
+
 /// Appends the server's hello to a session, with its mark: the versions of the protocol, the capabilities
 /// that are built, and one for each module of the schema (RFC 6241 8.1; RFC 6242 4.1). `Memory` changes
 /// nothing.
@@ -161,8 +180,6 @@ pub fn hello(alloc: Global, schema: &Schema, session: u32, out: &mut Bytes) -> R
     ensures ok { OnOk result (out.new ≡ out.old ++ hellos.hello_text schema.now.modules session) }
     ensures err { OnErr result (out.new ≡ out.old) }
 {
-    let tree = hello_tree(alloc, schema.modules(), session)?;
-    let mut text = Bytes::new(alloc);
-    write(&tree, &mut text)?;
+    let text = hello_bytes(alloc, schema.modules(), session)?;
     write_eom(text.as_slice(), out)
 }

@@ -13,7 +13,7 @@ ghost use Rattle.nc_session.specs.inner.Steps.{Meets, HasMet, GivesMore, IsStrea
 ghost use Rattle.nc_session.specs.inner.Turns.{IsServing, Writes};
 ghost use Rattle.nc_session.specs.inner.Unseen.{Unseen, Gives};
 
-use crate::client_hello::base_of;
+use crate::client_hello::base_chosen;
 use crate::inbox::Inbox;
 use crate::reply::{push_reply, send_reply};
 use crate::requests::{read, read_request};
@@ -197,7 +197,7 @@ impl SessionCore {
             self.inbox.put_back(message);
             return Err(Memory);
         };
-        match base_of(&reading) {
+        match base_chosen(reading) {
             Ok(Base::Base10) => {
                 self.phase = Phase::Serving { base: Base::Base10 };
                 Ok(())

@@ -18,7 +18,7 @@ returns-in-Ok-Base10 c = λ base bytes gives.
     let P : List ℕ → Type 0 = λ b. IsReading b c.in-Ok.reading in (
       Base10,
       heard (Unseen c.args.self.now.inbox Marks) _ Base10 bytes c.args.message gives
-          (record { reading = c.in-Ok.reading; is_reading = subst P c.as_slice.ensures c.in-Ok.ensures; answer_is = sym c.base_of.ensures ∙ c.in-Ok-Base10.is ∙ ap Ok c.in-Ok-Base10.field-0-is })
+          (record { reading = c.in-Ok.reading; is_reading = subst P c.as_slice.ensures c.in-Ok.ensures; answer_is = sym c.base_chosen.ensures ∙ c.in-Ok-Base10.is ∙ ap Ok c.in-Ok-Base10.field-0-is })
           refl (λ first b u. inner_unread Marks first b c.self.view_is u),
       serving_no_greeting Base10,
     )
@@ -28,7 +28,7 @@ returns-in-Ok-Base11 c = λ base bytes gives.
     let P : List ℕ → Type 0 = λ b. IsReading b c.in-Ok.reading in (
       Base11,
       heard (Unseen c.args.self.now.inbox Marks) _ Base11 bytes c.args.message gives
-          (record { reading = c.in-Ok.reading; is_reading = subst P c.as_slice.ensures c.in-Ok.ensures; answer_is = sym c.base_of.ensures ∙ c.in-Ok-Base11.is ∙ ap Ok c.in-Ok-Base11.field-0-is })
+          (record { reading = c.in-Ok.reading; is_reading = subst P c.as_slice.ensures c.in-Ok.ensures; answer_is = sym c.base_chosen.ensures ∙ c.in-Ok-Base11.is ∙ ap Ok c.in-Ok-Base11.field-0-is })
           refl (λ first b u. c.switch.ensures first b (inner_unread Marks first b c.self.view_is u)),
       serving_no_greeting Base11,
     )
@@ -39,7 +39,7 @@ returns c = λ base bytes gives.
     let core : Core = record { inbox = c.self.inside.inbox; phase = Over (BadHello c.in-Err.why) } in (
       base,
       spurned (Unseen c.args.self.now.inbox Marks) core base bytes c.args.message c.in-Err.why gives
-          (record { reading = c.in-Ok.reading; is_reading = subst P c.as_slice.ensures c.in-Ok.ensures; answer_is = sym c.base_of.ensures ∙ c.in-Err.is })
+          (record { reading = c.in-Ok.reading; is_reading = subst P c.as_slice.ensures c.in-Ok.ensures; answer_is = sym c.base_chosen.ensures ∙ c.in-Err.is })
           refl,
       over_no_greeting (BadHello c.in-Err.why),
     )

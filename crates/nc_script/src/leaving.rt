@@ -54,12 +54,20 @@ fn answered(closes: bool, verdict: &Verdict) -> Left
     }
 }
 
-/// How a session ended of which an End was entered for that reason.
-pub(crate) fn ended_as(end: SessionEnd, outcome: Outcome) -> SessionEnd
-    ensures { EndsAs end outcome result }
+fn ended_by(end: SessionEnd, outcome: &Outcome) -> SessionEnd
+    ensures { EndsAs end outcome.now result }
 {
     match outcome {
         Outcome::NotLive => SessionEnd::Killed,
         _ => end,
     }
+}
+
+/// How a session ended of which an End was entered for that reason. What came of the End is let go.
+pub(crate) fn ended_as(end: SessionEnd, outcome: Outcome) -> SessionEnd
+    ensures { EndsAs end outcome result }
+{
+    let ended = ended_by(end, &outcome);
+    drop(outcome);
+    ended
 }

@@ -172,7 +172,10 @@ impl Talks {
     {
         self.clock = self.clock.max(at);
         match tick(machine, self.clock) {
-            Ok(_entry) => Ok(()),
+            Ok(entry) => {
+                drop(entry);
+                Ok(())
+            }
             Err(fault) => Err(fault),
         }
     }

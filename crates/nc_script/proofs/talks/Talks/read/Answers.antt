@@ -8,7 +8,7 @@ tick-requires g c = omega (arith, c.max-self.ensures, c.requires.low, c.requires
 
 pub returns-in-Ok : goal.returns-in-Ok
 returns-in-Ok g c = λ schema board stand.
-    WasDone tt (read_done schema c.args.self.now _ board c.args.at c.args.machine.now c.tick.new.machine c.in-Ok._entry stand refl refl
+    WasDone tt (read_done schema c.args.self.now _ board c.args.at c.args.machine.now c.tick.new.machine c.in-Ok.entry stand refl refl
     c.max-self.ensures refl c.requires.at c.in-Ok.ensures)
 
 pub returns-in-Err : goal.returns-in-Err

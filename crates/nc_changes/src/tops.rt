@@ -37,28 +37,50 @@ fn are_apart_at(alloc: Global, config: &Config, path: &Path, most: u64) -> Resul
     Ok(apart)
 }
 
+// Whether it is seen that no two rows of the first node at the top have one path. They go then.
+fn is_top_apart(alloc: Global, rest: &mut Config, most: u64) -> Result<bool, Memory>
+    ensures { IfOk result (λ it. it ≡ true → AreApart rest.new → AreApart rest.old) }
+{
+    let Some(row) = rest.row(0) else {
+        return Ok(false);
+    };
+    let Some(path) = top_of(alloc, row)? else {
+        return Ok(false);
+    };
+    let apart = are_apart_at(alloc, rest, &path, most)?;
+    if !apart {
+        return Ok(false);
+    }
+    rest.remove(&path)?;
+    Ok(true)
+}
+
+// The same of all nodes at the top, where there are a few.
+fn are_tops_apart(alloc: Global, rest: &mut Config, most: u64) -> Result<bool, Memory>
+    ensures { IfOk result (λ it. it ≡ true → AreApart rest.old) }
+{
+    for _top in 0..MOST {
+        let Some(_) = rest.row(0) else {
+            return Ok(true);
+        };
+        let apart = is_top_apart(alloc, rest, most)?;
+        if !apart {
+            return Ok(false);
+        }
+    }
+    Ok(false)
+}
+
 /// Whether it is seen that no two rows of a configuration have one path. Each node at the top is asked by
 /// itself, where there are a few: of one below which the user orders nothing it is known, and the rows of
 /// another are looked at where they are a quarter of all at most.
 pub(crate) fn are_seen_apart(alloc: Global, config: &Config) -> Result<bool, Memory>
     ensures { IfOk result (λ it. it ≡ true → AreApart config.now) }
 {
-    let most = config.len() / 4;
     let mut rest = config.copy()?;
-    for _top in 0..MOST {
-        let Some(row) = rest.row(0) else {
-            return Ok(true);
-        };
-        let Some(path) = top_of(alloc, row)? else {
-            return Ok(false);
-        };
-        let apart = are_apart_at(alloc, &rest, &path, most)?;
-        if !apart {
-            return Ok(false);
-        }
-        rest.remove(&path)?;
-    }
-    Ok(false)
+    let seen = are_tops_apart(alloc, &mut rest, config.len() / 4);
+    drop(rest);
+    seen
 }
 
 /// The same by a look at all rows.

@@ -1,18 +1,10 @@
-use Rattle.std.proofs.Common.{◌∙◌, ap, subst, sym}
-use Rattle.std.specs.Option.{option_copied}
+use Rattle.std.proofs.Common.{List, subst, ◌≡◌, true}
+use Rattle.std.specs.Prelude.{IfOk}
+use Rattle.nc_names.specs.declared.path.Row.{Row}
 use Rattle.nc_changes.specs.Apart.{AreApart}
-use Rattle.nc_changes.proofs.TopLemmas.{joined_apart, none_apart}
 use Rattle.nc_changes.proofs.tops.are_seen_apart.Goals as goal
 
-pub loop-top-init : goal.loop-top-init
-loop-top-init c = subst AreApart c.in_ok-rest.ensures
-
-pub returns-in_default : goal.returns-in_default
-returns-in_default c = λ is.
-    c.loop-top.invariant (none_apart c.loop-top.rest (sym c.row.ensures ∙ ap option_copied c.in_default.is))
-
-pub loop-top-preserved : goal.loop-top-preserved
-loop-top-preserved c = λ left.
-    c.loop-top.invariant
-    (joined_apart c.loop-top.rest c.in-Some-2.path.steps (c.in_ok-apart.ensures c.if-not-apart.false)
-    (subst AreApart c.in_ok-remove.ensures.rows left))
+pub returns : goal.returns
+returns c =
+    subst (λ (rows : List Row). IfOk c.are_tops_apart-seen.result (λ it. it ≡ true → AreApart rows)) c.in_ok-rest.ensures
+    c.are_tops_apart-seen.ensures

@@ -1,6 +1,7 @@
 //! The edits of an element, from its operation and the edits of what is in it.
-ghost use Rattle.std.specs.Prelude.{◌≡◌, ◌∷◌, Some, IfOk};
+ghost use Rattle.std.specs.Prelude.{◌≡◌, ◌∷◌, [], Some, IfOk};
 ghost use Rattle.nc_protocol.specs.Payload as meant;
+ghost use Rattle.nc_protocol.specs.declared.edit.Action.TheVariants.{Create, Replace};
 ghost use Rattle.nc_payload.specs.inner.Reads.{edit_at, merge_at};
 
 use crate::gather::in_order;
@@ -88,24 +89,78 @@ fn edited_from(
 {
     match operation {
         EditOperation::Merge => with_action(alloc, merge.path, merge.action, place, below),
-        EditOperation::Nothing => with_action(alloc, merge.path, Action::Nothing, place, below),
-        EditOperation::Delete => with_action(
-            alloc,
-            merge.path,
-            Action::Delete,
-            place,
-            Many::new(alloc),
-        ),
-        EditOperation::Remove => with_action(
-            alloc,
-            merge.path,
-            Action::Remove,
-            place,
-            Many::new(alloc),
-        ),
-        EditOperation::Create => {
-            let path = merge.path.copy()?;
-            let rows = subtree(alloc, schema, merge, below)?;
+        EditOperation::Nothing => {
+            with_action(alloc, path_of(merge), Action::Nothing, place, below)
+        }
+        EditOperation::Delete => alone(alloc, merge, Action::Delete, place, below),
+        EditOperation::Remove => alone(alloc, merge, Action::Remove, place, below),
+        EditOperation::Create => created(alloc, schema, merge, place, below),
+        EditOperation::Replace => replaced(alloc, schema, merge, place, below),
+    }
+}
+
+fn path_of(edit: Edit) -> Path
+    ensures { result ≡ edit.path }
+{
+    edit.path
+}
+
+/// One edit with an action that leaves none below it.
+fn alone(
+    alloc: Global,
+    merge: Edit,
+    action: Action,
+    place: Place,
+    below: Many<Edit>,
+) -> Result<Many<Edit>, Memory>
+    ensures { IfOk result (λ it. it ≡ edit_at merge.path action place ∷ []) }
+{
+    drop(below);
+    with_action(alloc, path_of(merge), action, place, Many::new(alloc))
+}
+
+/// The node of a merge, with the rows that it leaves with those below it, from nothing.
+#[derive(Drop)]
+struct Whole {
+    path: Path,
+    rows: Many<Row>,
+}
+
+fn made_whole(
+    alloc: Global,
+    schema: &Schema,
+    merge: Edit,
+    below: Many<Edit>,
+) -> Result<Whole, Memory>
+    ensures path { IfOk result (λ it. it.path ≡ merge.path) }
+    ensures rows { IfOk result (λ it. it.rows ≡ meant.rows_merged schema.now (merge ∷ below)) }
+{
+    let path = match merge.path.copy() {
+        Ok(path) => path,
+        Err(memory) => {
+            drop(merge);
+            drop(below);
+            return Err(memory);
+        }
+    };
+    let rows = subtree(alloc, schema, merge, below)?;
+    Ok(Whole { path, rows })
+}
+
+/// The node is made with all that merges leave at and below it.
+fn created(
+    alloc: Global,
+    schema: &Schema,
+    merge: Edit,
+    place: Place,
+    below: Many<Edit>,
+) -> Result<Many<Edit>, Memory>
+    ensures { IfOk result (λ it. it ≡ edit_at merge.path
+        (Create (meant.rows_merged schema.now (merge ∷ below))) place ∷ []) }
+{
+    match made_whole(alloc, schema, merge, below) {
+        Ok(whole) => {
+            let Whole { path, rows } = whole;
             with_action(
                 alloc,
                 path,
@@ -114,9 +169,27 @@ fn edited_from(
                 Many::new(alloc),
             )
         }
-        EditOperation::Replace => {
-            let path = merge.path.copy()?;
-            let rows = subtree(alloc, schema, merge, below)?;
+        Err(memory) => {
+            drop(place);
+            Err(memory)
+        }
+    }
+}
+
+/// The same, in the place of what stands there.
+fn replaced(
+    alloc: Global,
+    schema: &Schema,
+    merge: Edit,
+    place: Place,
+    below: Many<Edit>,
+) -> Result<Many<Edit>, Memory>
+    ensures { IfOk result (λ it. it ≡ edit_at merge.path
+        (Replace (meant.rows_merged schema.now (merge ∷ below))) place ∷ []) }
+{
+    match made_whole(alloc, schema, merge, below) {
+        Ok(whole) => {
+            let Whole { path, rows } = whole;
             with_action(
                 alloc,
                 path,
@@ -124,6 +197,10 @@ fn edited_from(
                 place,
                 Many::new(alloc),
             )
+        }
+        Err(memory) => {
+            drop(place);
+            Err(memory)
         }
     }
 }

@@ -1,7 +1,9 @@
 -- Single steps of reading what bytes stand for.
-use Rattle.std.specs.Prelude.{◌==◌, ◌&&◌, encode_utf8}
+use Rattle.std.specs.Prelude.{◌==◌, ◌&&◌, ◌||◌, not, encode_utf8}
+use Rattle.std.specs.List.{list_all}
 use Rattle.std.proofs.Common.{◌≡◌, ℕ, zero, suc, Bool, true, false, cond, List, [], ◌∷◌, ◌++◌, drop, Option, None, Some, option_and_then, refl, sym, ap, ◌∙◌, append_assoc}
 use Rattle.nc_message.specs.Texts.{resolved, onto, plain, reference, line_feed}
+use Rattle.nc_message_read.specs.inner.Plain.{is_itself}
 
 pub skip_is : (r v : Bool) (k : ℕ) (cs : List ℕ) → resolved r v k cs ≡ resolved r v 0 (drop k cs)
 skip_is r v zero cs = refl
@@ -48,3 +50,27 @@ plain_step r v c byte cs left out new test cr is rest joined =
     let same : new ≡ out ++ plain v c ∷ [] = joined ∙ ap (λ x. out ++ x ∷ []) is in
     ap (onto out) one ∙ onto_twice out (plain v c ∷ []) (resolved r v 0 cs) ∙ ap (λ l. onto l (resolved r v 0 cs)) (sym same)
     ∙ ap (λ l. onto new (resolved r v 0 l)) (sym rest)
+
+-- bytes that stand for themselves
+both_true : (a b : Bool) → (a && b) ≡ true → (a ≡ true) × (b ≡ true)
+both_true true b is = (refl, is)
+both_true false b is = absurd (let clash : false ≡ true = is in cc)
+
+not_true : (b : Bool) → not b ≡ true → b ≡ false
+not_true true is = absurd (let clash : false ≡ true = is in cc)
+not_true false is = refl
+
+itself : (a b c : Bool) → (not a && not b && not c) ≡ true → (a ≡ false) × (b ≡ false) × (c ≡ false)
+itself true b c is = absurd (let clash : false ≡ true = is in cc)
+itself false true c is = absurd (let clash : false ≡ true = is in cc)
+itself false false c is = (refl, refl, not_true c is)
+
+pub themselves : (r v : Bool) (cs : List ℕ) → list_all (is_itself r v) cs ≡ true → resolved r v 0 cs ≡ Some cs
+themselves r v [] all = refl
+themselves r v (c ∷ cs) all =
+    let parts = both_true (is_itself r v c) (list_all (is_itself r v) cs) all in
+    let is = itself (r && c == 38) (c == 13) (v && (c == 9 || c == 10)) parts.0 in
+    ap (λ b. cond b (option_and_then (λ x. onto (encode_utf8 x.0) (resolved r v x.1 cs)) (reference cs)) (cond (c == 13) (onto (plain v 10 ∷ []) (resolved r v (line_feed cs) cs)) (onto (plain v c ∷ []) (resolved r v 0 cs)))) is.0
+    ∙ ap (λ b. cond b (onto (plain v 10 ∷ []) (resolved r v (line_feed cs) cs)) (onto (plain v c ∷ []) (resolved r v 0 cs))) is.1
+    ∙ ap (λ b. onto (cond b 32 c ∷ []) (resolved r v 0 cs)) is.2
+    ∙ ap (onto (c ∷ [])) (themselves r v cs parts.1)

@@ -2,6 +2,7 @@ pub mod Fits
 pub mod Marks
 pub mod Numbers
 pub mod Opened
+pub mod Plain
 pub mod Reads
 pub mod Sets
 pub mod State

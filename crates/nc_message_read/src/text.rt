@@ -1,9 +1,10 @@
 //! What the bytes of text, of a quoted value and of a CDATA section stand for (XML 1.0, 2.4, 2.7,
 //! 2.11, 3.3.3, 4.6).
-ghost use Rattle.std.specs.Prelude.{◌≡◌, ◌==◌, ◌≤◌, true, false, Bool, ◌&&◌, List, [], ◌∷◌, ◌++◌, length, drop, None, Some, IfOk, IfSome, OnOk, MatchOption, encode_utf8, string_bytes};
+ghost use Rattle.std.specs.Prelude.{◌≡◌, ◌==◌, ◌≤◌, true, false, Bool, ◌&&◌, ◌||◌, List, [], ◌∷◌, ◌++◌, length, drop, None, Some, IfOk, IfSome, OnOk, MatchOption, encode_utf8, string_bytes};
 ghost use Rattle.std.specs.List.{list_all};
 ghost use Rattle.std.specs.Str.{is_utf8, chars as chars_in};
 ghost use Rattle.nc_message.specs.Texts as texts;
+ghost use Rattle.nc_message_read.specs.inner.Plain as plain_texts;
 
 use crate::numbers::numbered;
 use crate::reader::{chars_of, count_before};
@@ -159,8 +160,48 @@ fn push_first<'a>(
     Ok(Some(more))
 }
 
-/// What bytes stand for.
+// Whether a byte is white space that stands for a space where it is in a value.
+fn is_blank(in_value: bool, byte: u8) -> bool
+    ensures { result ≡ (in_value && (byte == 9 || byte == 10)) }
+{
+    in_value && (byte == b'\t' || byte == b'\n')
+}
+
+// Whether a byte stands for itself.
+fn is_itself(refers: bool, in_value: bool, byte: u8) -> bool
+    ensures { result ≡ plain_texts.is_itself refers in_value byte }
+{
+    !begins_reference(refers, byte) && byte != b'\r' && !is_blank(in_value, byte)
+}
+
+// Whether each byte stands for itself.
+fn are_themselves(refers: bool, in_value: bool, raw: &[u8]) -> bool
+    ensures { result ≡ list_all (plain_texts.is_itself refers in_value) raw.now }
+{
+    raw.iter().all(|byte| is_itself(refers, in_value, *byte))
+}
+
+/// What bytes stand for. Most texts have neither a reference nor a line's end to be replaced, and are copied
+/// at once.
 fn resolve(alloc: Global, refers: bool, in_value: bool, raw: &[u8]) -> Result<Option<Bytes>, Memory>
+    ensures { IfOk result (λ found. MatchOption found
+        (texts.resolved refers in_value 0 raw.now ≡ None)
+        (λ bytes. texts.resolved refers in_value 0 raw.now ≡ Some bytes)) }
+{
+    if are_themselves(refers, in_value, raw) {
+        let bytes = Bytes::from_slice(alloc, raw)?;
+        return Ok(Some(bytes));
+    }
+    resolve_each(alloc, refers, in_value, raw)
+}
+
+// What bytes stand for, one after another.
+fn resolve_each(
+    alloc: Global,
+    refers: bool,
+    in_value: bool,
+    raw: &[u8],
+) -> Result<Option<Bytes>, Memory>
     ensures { IfOk result (λ found. MatchOption found
         (texts.resolved refers in_value 0 raw.now ≡ None)
         (λ bytes. texts.resolved refers in_value 0 raw.now ≡ Some bytes)) }

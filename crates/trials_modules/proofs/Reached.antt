@@ -191,10 +191,12 @@ module _ (texts : List Statement) (more : ℕ) (ends : End more 0 (roots 0 texts
           = slice_get-map (λ (t : Statement). let it : Entry = record { statement = t; text = entry.text; outer = Some n } in it) (below entry.statement) place
           ∙ ap (option_map (λ (t : Statement). let it : Entry = record { statement = t; text = entry.text; outer = Some n } in it))
           (ap (λ (z : Located). slice_get (below z.statement) place) (sym l_is) ∙ e) in
-          let k = child_of n entry place made there at_child in
-          (k.0, located_at entries are_behind k.0 made k.1
-          ∙ (λ j. Some (record { statement = s; place = record { text = (sym l_is j).place.text; blocks = option_map_or (λ (z : Located). (inside z).blocks) (is j) [] } }))
-          ∙ f)
+          let k = child_of n entry place made there at_child in (
+            k.0,
+            located_at entries are_behind k.0 made k.1
+                ∙ (λ j. Some (record { statement = s; place = record { text = (sym l_is j).place.text; blocks = option_map_or (λ (z : Located). (inside z).blocks) (is j) [] } }))
+                ∙ f,
+          )
 
       by_entry : (o : Option Entry) → slice_get entries n ≡ o → HasNumber (numbered texts more) c
       by_entry None e = absurd (let none = located_none entries n e in cc)

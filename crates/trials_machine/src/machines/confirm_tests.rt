@@ -156,4 +156,5 @@ fn a_commit_waits_to_be_confirmed_until_its_time_or_its_session_is_over(rt: Host
     each_is_told(&rt, alloc, &mut machine, LATE);
     each_is_told(&rt, alloc, &mut machine, FOLLOWED);
     each_is_told(&rt, alloc, &mut machine, ENDED);
+    drop(machine);
 }

@@ -132,4 +132,5 @@ fn a_lock_is_in_the_way_of_others_until_its_session_is_over(rt: HostRuntime) {
     let mut machine = begin(&rt, alloc, Many::new(alloc));
     each_is_told(&rt, alloc, &mut machine, HELD);
     each_is_told(&rt, alloc, &mut machine, KILLED);
+    drop(machine);
 }

@@ -270,6 +270,7 @@ fn a_partial_lock_is_in_the_way_of_other_sessions(rt: HostRuntime) {
     each_is_told(&rt, alloc, &mut machine, IN_USE);
     each_is_told(&rt, alloc, &mut machine, CANCELLED);
     each_is_told(&rt, alloc, &mut machine, GONE);
+    drop(machine);
 }
 
 const MORE: Happens = Happens::Asks(
@@ -297,4 +298,5 @@ fn a_session_has_at_most_64_partial_locks(rt: HostRuntime) {
     );
     is_told(&rt, alloc, &mut machine, freed, 2, "ok");
     is_told(&rt, alloc, &mut machine, MORE, 2, "lock 65");
+    drop(machine);
 }

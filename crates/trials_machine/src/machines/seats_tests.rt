@@ -27,6 +27,7 @@ fn sixty_four_sessions_are_live_at_once(rt: HostRuntime) {
     let mut machine = begin(&rt, alloc, Many::new(alloc));
     starts(&rt, alloc, &mut machine, 64);
     each_is_entered(&rt, alloc, &mut machine, FULL);
+    drop(machine);
 }
 
 const OVER: &[(Happens, u64, &str)] = &[
@@ -59,4 +60,5 @@ fn a_session_that_is_over_is_not_answered(rt: HostRuntime) {
     let alloc = rt.alloc();
     let mut machine = begin(&rt, alloc, Many::new(alloc));
     each_is_entered(&rt, alloc, &mut machine, OVER);
+    drop(machine);
 }

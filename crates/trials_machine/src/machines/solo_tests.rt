@@ -50,4 +50,5 @@ fn a_call_is_a_reading_and_an_entry(rt: HostRuntime) {
     ticks(&rt, alloc, &mut desk);
     ends(&rt, alloc, &mut desk);
     has_answered(&rt, &desk.clock, 3);
+    drop(desk);
 }
